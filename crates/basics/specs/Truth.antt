@@ -1,0 +1,60 @@
+-- Bool: the cases of a test, and the laws of `&&`, `||` and `cond`.
+use mathlib.Core.Path.{_≡_, refl, sym, _∙_}
+use mathlib.Core.Bool.{Bool, true, false, not, cond, _&&_, _||_, true≢false, false≢true}
+use mathlib.Core.Logic.{_⊎_, inl, inr, ⊎-elim}
+use Prim.Native.Nat.{ℕ, _≤_, _<_}
+use lib.Dec.{ltb}
+use borrow.Author.Tests.{ltb-true, ltb-false}
+
+-- ---- cases
+
+pub bool-cases : (b : Bool) → (b ≡ true) ⊎ (b ≡ false)
+bool-cases true = inl refl
+bool-cases false = inr refl
+
+pub lt-cases : (a b : ℕ) → (a < b) ⊎ (b ≤ a)
+lt-cases a b =
+    ⊎-elim (λ (p : ltb a b ≡ true). inl (ltb-true a b p)) (λ (p : ltb a b ≡ false). inr (ltb-false a b p)) (bool-cases (ltb a b))
+
+pub not-both : {b : Bool} → b ≡ true → b ≡ false → ⊥
+not-both p q = true≢false (sym p ∙ q)
+
+-- Two tests that imply each other are equal.
+pub bool-ext : (a b : Bool) → (a ≡ true → b ≡ true) → (b ≡ true → a ≡ true) → a ≡ b
+bool-ext true b to back = sym (to refl)
+bool-ext false true to back = back refl
+bool-ext false false to back = refl
+
+-- ---- and, or
+
+pub and-intro : (a b : Bool) → a ≡ true → b ≡ true → (a && b) ≡ true
+and-intro a b p q = rw (p, q)
+
+pub and-left : (a b : Bool) → (a && b) ≡ true → a ≡ true
+and-left true b h = refl
+and-left false b h = h
+
+pub and-right : (a b : Bool) → (a && b) ≡ true → b ≡ true
+and-right true b h = h
+and-right false b h = absurd (false≢true h)
+
+pub or-left : (a b : Bool) → a ≡ true → (a || b) ≡ true
+or-left a b p = rw p
+
+pub or-right : (a b : Bool) → b ≡ true → (a || b) ≡ true
+or-right true b p = refl
+or-right false b p = p
+
+pub or-cases : (a b : Bool) → (a || b) ≡ true → (a ≡ true) ⊎ (b ≡ true)
+or-cases true b h = inl refl
+or-cases false b h = inr h
+
+-- ---- a choice whose first answer is known
+
+pub cond-true : (a b : Bool) → cond a true b ≡ (a || b)
+cond-true true b = refl
+cond-true false b = refl
+
+pub cond-false : (a b : Bool) → cond a false b ≡ (not a && b)
+cond-false true b = refl
+cond-false false b = refl

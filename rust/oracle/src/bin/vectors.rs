@@ -1,0 +1,107 @@
+//! `vectors FILE`: writes the fixed list of sheets with the original's answers.
+//!
+//! First the worked example and the trial queries, then the smallest generated sheets that
+//! together show each feature with each outcome a few times, then some large ones.
+
+use oracle::{analyze, NotAtHand, Outcome};
+use sheets::answer::{Answer, Placed};
+use sheets::vectors::Vector;
+use sheets::{census, examples, generate, vectors, Sheet};
+use std::collections::BTreeMap;
+use std::process::ExitCode;
+
+const SEEDS: u64 = 40_000;
+const SMALL: usize = 2_200;
+/// How many sheets are to show a feature with an outcome.
+const TIMES: usize = 2;
+const TITLE: &str = "Sheets with the original's answers. Made by \
+    `cargo run --release -p oracle --bin vectors -- vectors/sheets.txt` in rust/.";
+
+fn main() -> ExitCode {
+    let arguments: Vec<String> = std::env::args().skip(1).collect();
+    let [file] = &arguments[..] else {
+        eprintln!("usage: vectors FILE");
+        return ExitCode::FAILURE;
+    };
+    let written = oracle::on_deep_stack(list)
+        .map_err(|e| e.to_string())
+        .and_then(|list| {
+            std::fs::write(file, vectors::write(TITLE, &list)).map_err(|e| format!("{file}: {e}"))
+        });
+    match written {
+        Ok(()) => ExitCode::SUCCESS,
+        Err(error) => {
+            eprintln!("vectors: {error}");
+            ExitCode::FAILURE
+        }
+    }
+}
+
+fn list() -> Result<Vec<Vector>, NotAtHand> {
+    let mut list = Vec::new();
+    for example in examples::trials() {
+        let sheet = example.snippet.sheet();
+        list.extend(vector(example.label.to_string(), &sheet)?);
+    }
+    let mut small = Vec::new();
+    let mut large = Vec::new();
+    for seed in 1..=SEEDS {
+        let sheet = generate::sheet(seed);
+        match sheet.text().len() {
+            0..=SMALL => small.push((seed, sheet)),
+            9_000.. if large.len() < 6 => large.push((seed, sheet)),
+            _ => {}
+        }
+    }
+    small.sort_by_cached_key(|(_, sheet)| sheet.text().len());
+    let mut seen: BTreeMap<(String, String), usize> = BTreeMap::new();
+    for (seed, sheet) in &small {
+        let Some(vector) = vector(format!("seed {seed}"), sheet)? else {
+            continue;
+        };
+        let outcome = outcome(&vector.answer);
+        let mut wanted = false;
+        let features = census::features_of(sheet);
+        for feature in &features {
+            let key = (feature.clone(), outcome.clone());
+            wanted |= seen.get(&key).copied().unwrap_or(0) < TIMES;
+        }
+        if wanted {
+            for feature in features {
+                *seen.entry((feature, outcome.clone())).or_default() += 1;
+            }
+            list.push(vector);
+        }
+    }
+    for (seed, sheet) in &large {
+        list.extend(vector(format!("seed {seed}"), sheet)?);
+    }
+    Ok(list)
+}
+
+fn vector(label: String, sheet: &Sheet) -> Result<Option<Vector>, NotAtHand> {
+    Ok(match analyze(sheet)?.outcome {
+        Outcome::TooLong => None,
+        Outcome::Answered(answer) => Some(Vector {
+            label,
+            sheet: sheet.text(),
+            answer: answer.text(),
+        }),
+    })
+}
+
+/// The outcome by which sheets are told apart here.
+fn outcome(answer: &str) -> String {
+    match Answer::read(answer) {
+        Some(Answer::Refusal { number, .. }) => format!("refused with {number}"),
+        Some(Answer::Queries(queries)) => {
+            let some = |placed| queries.iter().any(|q| q.placed == placed);
+            format!(
+                "unplaced {} never analysed {}",
+                some(Placed::No),
+                some(Placed::NeverAnalysed)
+            )
+        }
+        None => panic!("the original's answer is malformed:\n{answer}"),
+    }
+}

@@ -1,0 +1,1 @@
+// Stand-in for utils/depth.rs. Nothing that the analysis runs reads it.

@@ -1,0 +1,19 @@
+//! Query sheets: rows, text, trees, and what tests need of them.
+
+pub mod answer;
+pub mod census;
+pub mod check;
+pub mod damage;
+pub mod edges;
+pub mod examples;
+pub mod generate;
+pub mod layout;
+pub mod positions;
+pub mod read;
+pub mod rng;
+pub mod sheet;
+pub mod shrink;
+pub mod tree;
+pub mod vectors;
+
+pub use sheet::{limits, Form, Kind, Sheet};
