@@ -96,6 +96,9 @@ bit-not (suc d) w (suc k) h l =
     bit-suc (2 ^ suc d - 1 - w) k ∙ ap (λ (v : ℕ). bit v k) e
     ∙ bit-not d (w / 2) k (omega arith) (omega arith) ∙ ap not (sym (bit-suc w k))
 
+pub bit-and-not : (a b k : ℕ) → b < 2 ^ 64 → k < 64 → bit (bitAnd a (2 ^ 64 - 1 - b)) k ≡ (bit a k && not (bit b k))
+bit-and-not a b k h l = bit-and a (2 ^ 64 - 1 - b) k ∙ ap (λ (v : Bool). bit a k && v) (bit-not 64 b k h l)
+
 -- ---- one bit set, or cleared, by a mask
 
 bit-pow : (t k : ℕ) → bit (2 ^ t) k ≡ eqb k t

@@ -45,6 +45,10 @@ pub record Removed (ws : List ℕ) (x : ℕ) (r : List ℕ) : Type 0 where
 pub record Union (a b r : List ℕ) : Type 0 where
   pub has : (n : ℕ) → member r n ≡ (member a n || member b n)
 
+-- The set r has the members of a that b has not.
+pub record Difference (a b r : List ℕ) : Type 0 where
+  pub has : (n : ℕ) → member r n ≡ (member a n && not (member b n))
+
 -- The number r is the lowest member from a up, or the end of the words where there is none: so always where a is the end or more.
 pub record Next (ws : List ℕ) (end a r : ℕ) : Type 0 where
   pub whole : 64 * length ws ≡ end

@@ -1,6 +1,6 @@
 -- From words to sets: what a change of words does to the members. The proofs of the methods use these laws, and no caller does.
-use mathlib.Core.Path.{_≡_, sym, ap, ap₂, _∙_}
-use mathlib.Core.Bool.{Bool, true, false, cond, _||_}
+use mathlib.Core.Path.{_≡_, refl, sym, ap, ap₂, _∙_}
+use mathlib.Core.Bool.{Bool, true, false, not, cond, _&&_, _||_}
 use mathlib.Core.List.{List}
 use mathlib.Core.Logic.{_⊎_, inl, inr, ⊎-elim}
 use Prim.Native.Nat.{ℕ, _+_, _-_, _*_, _/_, _%_, _^_, _≤_, _<_}
@@ -13,9 +13,9 @@ use borrow.Author.Count.{below-more}
 use borrow.Author.Tests.{eqb-true, eqb-false, eq-eqb, ne-eqb}
 use Rattle.basics.specs.Truth.{bool-cases, lt-cases, bool-ext, cond-true, cond-false}
 use Rattle.basics.specs.Lists.{all}
-use Rattle.names.specs.Sets.{bit, wordOf, member, members, Empty, Inserted, Removed, Union}
+use Rattle.names.specs.Sets.{bit, wordOf, member, members, Empty, Inserted, Removed, Union, Difference}
 use Rattle.names.specs.Laws.{member-out, member-below, all-members, members-all}
-use Rattle.names.specs.Bits.{bit-or, bit-of-zero, mask, bit-set, bit-clear, or-within, within-or}
+use Rattle.names.specs.Bits.{bit-or, bit-and-not, bit-of-zero, mask, bit-set, bit-clear, or-within, within-or}
 
 -- ---- one bit of one word: insert and remove
 
@@ -53,7 +53,7 @@ module _ (ws : List ℕ) (x : ℕ) (h : x / 64 < length ws) where
       member-change ws x (bitAnd (wordOf ws x) (2 ^ 64 - 1 - 2 ^ (x % 64))) false h (λ k l. bit-clear (wordOf ws x) (x % 64) k (omega arith) l) in
       rw (mask (x % 64) (omega arith)) (record { has = λ n. change n ∙ cond-false (eqb n x) (member ws n) })
 
--- ---- word by word: empty, union and is_subset
+-- ---- word by word: empty, union, difference and is_subset
 
 pub zeros-empty : (c : ℕ) → Empty (replicate c 0)
 unfolding member
@@ -71,20 +71,34 @@ words-next f r i h before =
     below-more (λ j. getD (set r i (f i)) j 0 ≡ f j) i
     (λ j l. getD-set-other r i j (f i) 0 (λ e. omega arith) ∙ before j l) (getD-set-same r i (f i) 0 h)
 
--- `|` of the words at i.
+-- Where each bit of r is g of the bits of a and b, so is each member.
+bitwise : (g : Bool → Bool → Bool) → g false false ≡ false → (c : ℕ) (a b r : List ℕ) → length a ≡ c → length b ≡ c → length r ≡ c
+    → ((i : ℕ) → i < c → (k : ℕ) → k < 64 → bit (getD r i 0) k ≡ g (bit (getD a i 0) k) (bit (getD b i 0) k))
+    → (n : ℕ) → member r n ≡ g (member a n) (member b n)
+unfolding member
+bitwise g none c a b r la lb lr bits n =
+    ⊎-elim (λ (h : n < 64 * c). bits (n / 64) (omega arith) (n % 64) (omega arith))
+    (λ (h : 64 * c ≤ n). rw (member-out r n (omega arith), member-out a n (omega arith), member-out b n (omega arith)) (sym none))
+    (lt-cases n (64 * c))
+
+-- `|` and `& !` of the words at i.
 abbrev pub orWord : List ℕ → List ℕ → ℕ → ℕ
 orWord a b i = bitOr (getD a i 0) (getD b i 0)
 
-pub union-words : (c : ℕ) (a b r : List ℕ) → length a ≡ c → length b ≡ c → length r ≡ c
-    → ((i : ℕ) → i < c → getD r i 0 ≡ orWord a b i) → Union a b r
-unfolding member
-union-words c a b r la lb lr or = record { has = λ n. ⊎-elim (inside n) (outside n) (lt-cases n (64 * c)) }
-  where
-    inside : (n : ℕ) → n < 64 * c → member r n ≡ (member a n || member b n)
-    inside n h = ap (λ (w : ℕ). bit w (n % 64)) (or (n / 64) (omega arith)) ∙ bit-or (wordOf a n) (wordOf b n) (n % 64)
+abbrev pub andNotWord : List ℕ → List ℕ → ℕ → ℕ
+andNotWord a b i = bitAnd (getD a i 0) (2 ^ 64 - 1 - getD b i 0)
 
-    outside : (n : ℕ) → 64 * c ≤ n → member r n ≡ (member a n || member b n)
-    outside n h = rw (member-out r n (omega arith), member-out a n (omega arith), member-out b n (omega arith))
+module _ (c : ℕ) (a b r : List ℕ) (la : length a ≡ c) (lb : length b ≡ c) (lr : length r ≡ c) where
+  pub union-words : ((i : ℕ) → i < c → getD r i 0 ≡ orWord a b i) → Union a b r
+  union-words or = record {
+    has = bitwise (λ x y. x || y) refl c a b r la lb lr (λ i h k l. ap (λ (w : ℕ). bit w k) (or i h) ∙ bit-or (getD a i 0) (getD b i 0) k);
+  }
+
+  pub difference-words : ((i : ℕ) → i < c → getD b i 0 < 2 ^ 64) → ((i : ℕ) → i < c → getD r i 0 ≡ andNotWord a b i) → Difference a b r
+  difference-words fits and-not = record {
+    has = bitwise (λ x y. x && not y) refl c a b r la lb lr
+        (λ i h k l. ap (λ (w : ℕ). bit w k) (and-not i h) ∙ bit-and-not (getD a i 0) (getD b i 0) k (fits i h) l);
+  }
 
 member-at : (ws : List ℕ) (i k : ℕ) → k < 64 → member ws (64 * i + k) ≡ bit (getD ws i 0) k
 unfolding member

@@ -4,7 +4,7 @@
 ghost use mathlib.Core.Path.{_≡_};
 ghost use Prim.Native.Nat.{_<_};
 ghost use Rattle.basics.specs.Lists.{all};
-ghost use Rattle.names.specs.Sets.{member, members, Empty, Inserted, Removed, Union, Next};
+ghost use Rattle.names.specs.Sets.{member, members, Empty, Inserted, Removed, Union, Difference, Next};
 
 // How many words a set has. The code says it here alone, and the proofs in proofs/Size.antt.
 pub const WORDS: usize = 2;
@@ -55,6 +55,17 @@ impl Names {
             both.words[i] = self.words[i] | other.words[i];
         }
         both
+    }
+
+    // The members that are none of `other`'s.
+    pub fn difference(self, other: Names) -> Names
+        ensures { λ r. ⌜ Difference (self .words) (other .words) (r .words) ⌝ }
+    {
+        let mut rest = self;
+        for i in 0..WORDS {
+            rest.words[i] = self.words[i] & !other.words[i];
+        }
+        rest
     }
 
     // Is every member one of `other`'s?
