@@ -9,10 +9,12 @@ mod rows;
 use crate::sheet::{limits, Sheet};
 use std::fmt;
 
-/// A refusal: the question's number, and the first sheet line at fault (0 for number 2).
+/// A refusal by one of questions 2 to 6.
 #[derive(Clone, Copy, Debug, PartialEq, Eq, PartialOrd, Ord)]
 pub struct Fault {
+    /// The question's number, which is the refusal's too.
     pub number: u16,
+    /// The first sheet line at fault, counted from 1; 0 for number 2.
     pub line: usize,
 }
 

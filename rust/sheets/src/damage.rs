@@ -11,6 +11,7 @@ use page::Page;
 
 /// One kind of fault.
 pub struct Way {
+    /// What is done; no two ways are alike.
     pub label: &'static str,
     /// How often it is taken, beside the others.
     weight: usize,

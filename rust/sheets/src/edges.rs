@@ -13,8 +13,11 @@ use crate::tree::{Expr, Literal, Node, Query, Snippet, Statement};
 /// A text at an edge, and what questions 2 to 6 say of it.
 #[derive(Clone, Debug)]
 pub struct Edge {
+    /// What the edge is; no two are alike.
     pub label: String,
+    /// The sheet's bytes, valid or not.
     pub text: Vec<u8>,
+    /// Passing, or the refusal.
     pub expected: Result<(), Fault>,
 }
 
@@ -48,6 +51,19 @@ impl Edge {
             expected: Err(Fault { number, line }),
         }
     }
+}
+
+/// The limits once more, written from the specification, so that a slip elsewhere shows.
+mod limits {
+    pub(super) const BYTES: usize = 32_768;
+    pub(super) const NAMES: usize = 127;
+    pub(super) const NAME_BYTES: usize = 32;
+    pub(super) const BUILTINS: usize = 64;
+    pub(super) const ARITY: u16 = 255;
+    pub(super) const EXPRESSIONS: usize = 512;
+    pub(super) const STATEMENTS: usize = 128;
+    pub(super) const QUERIES: usize = 32;
+    pub(super) const NESTING: usize = 8;
 }
 
 /// The lines of the five headings: the first is line 1, and each other stands below the rows

@@ -179,15 +179,26 @@ fn chains() {
     refused(&sheet, |s| s.exprs[5].first = 4, At::Expr(4));
     // A member of unknown kind is at fault, and its `next` still names.
     refused(&sheet, |s| s.exprs[3].kind = 99, At::Expr(4));
-    // Row 5 is named by the larger row 6 only. So it is no member.
+    // Row 5 is named by the larger row 6 only, so it is no member, and its `next` names nothing.
     refused(
         &sheet,
         |s| {
             s.exprs[3].next = 0;
             s.exprs[5].first = 5;
-            s.exprs[4].next = 7;
+            s.exprs[4].next = 3;
         },
         At::Expr(5),
+    );
+    // Row 4 leads back to row 3, which leads to row 5, and that to row 7.
+    refused(
+        &sheet,
+        |s| {
+            s.exprs[2].next = 5;
+            s.exprs[4].next = 7;
+            s.exprs[5].first = 4;
+            s.exprs[3].next = 3;
+        },
+        At::Expr(4),
     );
     // The parts of an `every` and a comprehension's term are in no chain.
     let sheet = of(vec![
@@ -269,13 +280,39 @@ fn nested_queries() {
     let exchange = |s: &mut Sheet| (s.exprs[0].third, s.exprs[1].third) = (3, 2);
     refused(&in_term, exchange, At::Expr(2));
 
-    // Below a statement that no query names the enclosing query is not known.
-    let two = of(vec![
-        every(compr(number(), vec![]), vec![]),
+    // Below a statement that no query names the enclosing query is not known. Queries 2 and 3
+    // may stand in any order there, but query 1 is nowhere larger.
+    let unnamed = of(vec![
+        plain(compr(number(), vec![plain(compr(number(), vec![]))])),
         plain(number()),
     ]);
-    refused(&two, |s| s.queries[0] = 2, At::Statement(1));
-    refused(&two, |s| s.statements[0].query = 1, At::Statement(1));
+    refused(&unnamed, |s| s.queries[0] = 3, At::Statement(1));
+    let no_larger = |s: &mut Sheet| {
+        s.queries[0] = 3;
+        s.exprs[0].third = 1;
+    };
+    refused(&unnamed, no_larger, At::Expr(1));
+    // The query around the inner comprehension is known all the same.
+    let exchanged = |s: &mut Sheet| {
+        s.queries = vec![3, 0, 2];
+        (s.exprs[0].third, s.exprs[1].third) = (3, 2);
+    };
+    refused(&unnamed, exchanged, At::Expr(2));
+    // So it is where that query is named twice: rows 1 and 4 both name query 3.
+    let twice = of(vec![
+        plain(compr(compr(number(), vec![]), vec![])),
+        plain(number()),
+    ]);
+    let twice_named = |s: &mut Sheet| {
+        (s.exprs[0].third, s.exprs[1].third) = (3, 2);
+        let number = s.exprs[3];
+        s.exprs[3] = s.exprs[1];
+        (s.exprs[3].first, s.exprs[3].third) = (5, 3);
+        s.exprs.push(number);
+    };
+    refused(&twice, twice_named, At::Expr(2));
+    let of_every = of(vec![every(number(), vec![]), plain(number())]);
+    refused(&of_every, |s| s.statements[0].query = 1, At::Statement(1));
 }
 
 #[test]

@@ -5,6 +5,8 @@ mod small_trees;
 
 use sheets::check::check_text;
 use sheets::damage::{damage, ways};
+use sheets::edges::edges;
+use sheets::layout::Numbering;
 use sheets::rng::Rng;
 use sheets::Sheet;
 use small_trees::Trees;
@@ -33,6 +35,25 @@ fn read(text: &[u8]) -> Sheet {
     Sheet::read(text).expect("the form")
 }
 
+/// The number of the refusal, after comparing the check with the descent.
+fn answer(damaged: &[u8]) -> Option<u16> {
+    match check_text(damaged) {
+        Ok(sheet) => {
+            assert!(descent::valid(&sheet), "{}", sheet.text());
+            assert_eq!(sheet.text().as_bytes(), damaged);
+            None
+        }
+        Err(fault) => {
+            assert!(fault.line <= 1 + line_ends(damaged), "{fault}");
+            if fault.number == 6 {
+                let sheet = read(damaged);
+                assert!(!descent::valid(&sheet), "{fault}\n{}", sheet.text());
+            }
+            Some(fault.number)
+        }
+    }
+}
+
 #[test]
 fn damaged_sheets_get_every_answer() {
     let mut rng = Rng::new(2);
@@ -40,22 +61,7 @@ fn damaged_sheets_get_every_answer() {
     let runs = 50_000;
     for text in texts(500).iter().cycle().take(runs) {
         let damaged = damage(text.as_bytes(), &mut rng);
-        let answer = match check_text(&damaged) {
-            Ok(sheet) => {
-                assert!(descent::valid(&sheet), "{}", sheet.text());
-                assert_eq!(sheet.text().into_bytes(), damaged);
-                None
-            }
-            Err(fault) => {
-                assert!(fault.line <= 1 + line_ends(&damaged), "{fault}");
-                if fault.number == 6 {
-                    let sheet = read(&damaged);
-                    assert!(!descent::valid(&sheet), "{fault}\n{}", sheet.text());
-                }
-                Some(fault.number)
-            }
-        };
-        *answers.entry(answer).or_default() += 1;
+        *answers.entry(answer(&damaged)).or_default() += 1;
     }
     for (answer, count) in &answers {
         let share = *count as f64 * 100.0 / runs as f64;
@@ -68,6 +74,25 @@ fn damaged_sheets_get_every_answer() {
     let every = [None, Some(2), Some(3), Some(4), Some(5), Some(6)];
     assert_eq!(seen, BTreeSet::from(every));
     assert!(answers[&Some(6)] > runs / 2, "most fail the last question");
+}
+
+#[test]
+fn damaged_edges_and_shuffled_rows() {
+    let mut rng = Rng::new(5);
+    // Nesting at its limit, long chains and deep expressions.
+    for edge in edges().into_iter().filter(|edge| edge.expected.is_ok()) {
+        for _ in 0..20 {
+            answer(&damage(&edge.text, &mut rng));
+        }
+    }
+    let mut trees = Trees::new(6);
+    for seed in 0..3_000 {
+        let shuffled = Numbering::Shuffled(Rng::new(seed));
+        let text = trees.snippet().numbered(shuffled).text();
+        for _ in 0..3 {
+            answer(&damage(text.as_bytes(), &mut rng));
+        }
+    }
 }
 
 #[test]

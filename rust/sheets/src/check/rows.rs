@@ -121,15 +121,13 @@ impl Check<'_> {
             }
         }
         let members = self.chain_members();
-        for row in 1..=sheet.exprs.len() {
-            let next = expr_next(sheet, row);
-            if next == 0 {
-                continue;
-            }
-            if members[row] && next <= sheet.exprs.len() {
-                namings.expr(next, Row::Expr(row));
-            } else {
-                self.faults.push(Row::Expr(row));
+        for (index, expr) in sheet.exprs.iter().enumerate() {
+            let by = Row::Expr(index + 1);
+            let next = expr.next as usize;
+            if next != 0 && members[index] && next <= sheet.exprs.len() {
+                namings.expr(next, by);
+            } else if next != 0 {
+                self.faults.push(by);
             }
         }
         for (index, statement) in sheet.statements.iter().enumerate() {
@@ -150,22 +148,22 @@ impl Check<'_> {
         }
     }
 
-    /// For each expression row (0 unused), whether it is in a chain. Only a smaller row or a
-    /// statement makes a row a member, so one pass upwards settles it.
+    /// For each expression, row `r` at index `r - 1`, whether it is in a chain. Only a smaller
+    /// row or a statement makes a row a member, so one pass upwards settles it.
     fn chain_members(&self) -> Vec<bool> {
-        let mut members = vec![false; self.sheet.exprs.len() + 1];
+        let mut members = vec![false; self.sheet.exprs.len()];
         for reference in &self.references {
             let forwards = match reference.by {
                 Row::Expr(row) => row < reference.to,
                 _ => true,
             };
             if reference.refers.starts_chain() && forwards {
-                members[reference.to] = true;
+                members[reference.to - 1] = true;
             }
         }
-        for row in 1..members.len() {
-            if let (true, Some(next)) = (members[row], later_next(self.sheet, row)) {
-                members[next] = true;
+        for row in 1..=members.len() {
+            if let (true, Some(next)) = (members[row - 1], later_next(self.sheet, row)) {
+                members[next - 1] = true;
             }
         }
         members
@@ -191,7 +189,7 @@ impl Check<'_> {
                 Refers::Vars => chain(sheet, reference.to).rows.into_iter().all(is_var),
                 Refers::Pairs => {
                     let chain = chain(sheet, reference.to);
-                    !chain.ends || chain.rows.len() % 2 == 0
+                    !chain.ends || chain.rows.len().is_multiple_of(2)
                 }
                 _ => true,
             };
@@ -208,6 +206,7 @@ impl Check<'_> {
                 continue;
             }
             let enclosing = namings.enclosing(reference.by);
+            // Row 1 is larger than no query's, also where the enclosing one is not known.
             let too_small = reference.to == 1 || enclosing.is_some_and(|q| reference.to <= q);
             let level = namings.level(reference.to);
             if too_small || level.is_some_and(|level| level > limits::NESTING) {

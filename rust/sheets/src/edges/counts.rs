@@ -1,52 +1,34 @@
 //! Names, built-ins, expressions, statements, queries and nesting about their limits.
 
-use super::{array, array_compr, headings, names, number, plain, sheet, var, Edge};
-use crate::sheet::{limits, BuiltinRow, Sheet};
+use super::{array, array_compr, headings, limits, names, number, plain, sheet, var};
+use super::{Edge, Headings};
+use crate::sheet::{BuiltinRow, Sheet};
 use crate::tree::{Expr, Literal, Node, Query, Statement};
 
 pub(super) fn add(edges: &mut Vec<Edge>) {
-    for count in about(limits::NAMES) {
-        edges.push(count_edge(
-            "names",
-            count,
-            limits::NAMES,
-            with_names(count),
-            1,
-        ));
-    }
-    for count in about(limits::BUILTINS) {
-        let sheet = with_builtins(count);
-        let heading = headings(&sheet).arity;
-        edges.push(count_edge(
-            "built-ins",
-            count,
-            limits::BUILTINS,
-            sheet,
-            heading,
-        ));
-    }
-    for count in about(limits::EXPRESSIONS) {
-        let sheet = with_exprs(count);
-        let heading = headings(&sheet).kind;
-        let most = limits::EXPRESSIONS;
-        edges.push(count_edge("expressions", count, most, sheet, heading));
-    }
-    for count in about(limits::STATEMENTS) {
-        let sheet = sheet(statements(count));
-        let heading = headings(&sheet).form;
-        let most = limits::STATEMENTS;
-        edges.push(count_edge("statements", count, most, sheet, heading));
-    }
-    for count in about(limits::QUERIES) {
-        let sheet = with_queries(count);
-        let heading = headings(&sheet).statement;
-        edges.push(count_edge(
-            "queries",
-            count,
-            limits::QUERIES,
-            sheet,
-            heading,
-        ));
+    type Make = fn(usize) -> Sheet;
+    type Heading = fn(&Headings) -> usize;
+    let counts: [(&str, usize, Make, Heading); 5] = [
+        ("names", limits::NAMES, with_names, |at| at.name),
+        ("built-ins", limits::BUILTINS, with_builtins, |at| at.arity),
+        ("expressions", limits::EXPRESSIONS, with_exprs, |at| at.kind),
+        ("statements", limits::STATEMENTS, with_statements, |at| {
+            at.form
+        }),
+        ("queries", limits::QUERIES, with_queries, |at| at.statement),
+    ];
+    for (what, most, make, heading) in counts {
+        for count in about(most) {
+            let sheet = make(count);
+            let label = format!("{count} {what}");
+            edges.push(if count <= most {
+                Edge::passes(label, sheet.text())
+            } else {
+                // The first row over the limit.
+                let line = heading(&headings(&sheet)) + most + 1;
+                Edge::refused(label, sheet.text(), 5, line)
+            });
+        }
     }
     name_bytes(edges);
     arities(edges);
@@ -57,16 +39,6 @@ pub(super) fn add(edges: &mut Vec<Edge>) {
 /// One below, at and one above.
 fn about(limit: usize) -> [usize; 3] {
     [limit - 1, limit, limit + 1]
-}
-
-/// The first row over the limit is refused by question 5.
-fn count_edge(what: &str, count: usize, most: usize, sheet: Sheet, heading: usize) -> Edge {
-    let label = format!("{count} {what}");
-    if count <= most {
-        Edge::passes(label, sheet.text())
-    } else {
-        Edge::refused(label, sheet.text(), 5, heading + most + 1)
-    }
 }
 
 fn with_names(count: usize) -> Sheet {
@@ -94,6 +66,10 @@ fn with_builtins(count: usize) -> Sheet {
 fn with_exprs(count: usize) -> Sheet {
     let items = (1..count).map(|_| number()).collect();
     sheet(vec![plain(array(items))])
+}
+
+fn with_statements(count: usize) -> Sheet {
+    sheet(statements(count))
 }
 
 fn statements(count: usize) -> Vec<Statement> {

@@ -1,9 +1,9 @@
 //! The smallest sheets, and the deepest and longest expressions.
 
-use super::{array, array_compr, headings, names, number, plain, sheet, var, Edge};
+use super::{array, array_compr, headings, limits, names, number, plain, sheet, var, Edge};
 use crate::layout::Numbering;
 use crate::rng::Rng;
-use crate::sheet::{limits, Kind, Sheet};
+use crate::sheet::{Kind, Sheet};
 use crate::tree::{Expr, Literal, Node, Query, Snippet, Statement};
 
 pub(super) fn add(edges: &mut Vec<Edge>) {

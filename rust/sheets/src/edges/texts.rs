@@ -1,7 +1,7 @@
 //! Bytes: the length, the form of lines and values, the names, and the order of questions.
 
-use super::{headings, names, number, plain, sheet, var, Edge};
-use crate::sheet::{limits, BuiltinRow, ExprRow, Sheet, StatementRow, HEADINGS};
+use super::{headings, limits, names, number, plain, sheet, var, Edge};
+use crate::sheet::{BuiltinRow, ExprRow, Sheet, StatementRow, HEADINGS};
 use crate::tree::{Node, Statement};
 
 pub(super) fn add(edges: &mut Vec<Edge>) {
