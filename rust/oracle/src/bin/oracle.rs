@@ -1,6 +1,9 @@
 //! `oracle [SHEET]`: prints the original's answer to a sheet, read from the file or from standard
-//! input.
+//! input. A sheet that the original could not be asked about gets the refusal 2 to 6 of the tests'
+//! own check.
 
+use sheets::answer::Answer;
+use sheets::check::check_text;
 use std::io::Read;
 use std::process::ExitCode;
 
@@ -19,19 +22,28 @@ fn main() -> ExitCode {
 
 fn answer() -> Result<String, String> {
     let mut arguments = std::env::args().skip(1);
-    let text = match arguments.next() {
-        Some(path) => std::fs::read_to_string(&path).map_err(|e| format!("{path}: {e}"))?,
+    let mut text = Vec::new();
+    match arguments.next() {
+        Some(path) => text = std::fs::read(&path).map_err(|e| format!("{path}: {e}"))?,
         None => {
-            let mut text = String::new();
-            let read = std::io::stdin().read_to_string(&mut text);
+            let read = std::io::stdin().read_to_end(&mut text);
             read.map_err(|e| format!("standard input: {e}"))?;
-            text
         }
-    };
+    }
     if arguments.next().is_some() {
         return Err("usage: oracle [SHEET]".to_string());
     }
-    let sheet = sheets::Sheet::read(&text).map_err(|e| e.to_string())?;
+    let sheet = match check_text(&text) {
+        Ok(sheet) => sheet,
+        Err(fault) => {
+            let refusal = Answer::Refusal {
+                number: fault.number,
+                line: fault.line as u16,
+                col: 0,
+            };
+            return Ok(refusal.text());
+        }
+    };
     let run = oracle::analyze(&sheet).map_err(|e| e.to_string())?;
     match run.outcome {
         oracle::Outcome::Answered(answer) => Ok(answer.text()),
