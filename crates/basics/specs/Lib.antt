@@ -1,3 +1,5 @@
 pub mod Truth
 pub mod Lists
 pub mod Ranges
+pub mod Members
+pub mod Subsets

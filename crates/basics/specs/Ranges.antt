@@ -61,3 +61,14 @@ filter-skip f a b e l u fails = go (b - a) a (omega arith) (omega arith)
     go : (c x : ℕ) → a ≤ x → x + c ≡ b → filter f (range x e) ≡ filter f (range b e)
     go zero x h s = let q : x ≡ b = omega arith in ap (λ (y : ℕ). filter f (range y e)) q
     go (suc c) x h s = rw (range-cons x e (omega arith), fails x h (omega arith)) (go c (x + 1) (omega arith) (omega arith))
+
+pub elem-counted : (n a c : ℕ) → a ≤ n → n < a + c → elem n (counted a c) ≡ true
+unfolding range
+elem-counted n a c h l =
+    let e : (a + c) - a ≡ c = omega arith in
+    ap (λ (k : ℕ). elem n (counted a k)) (sym e) ∙ elem-range n a (a + c) h l
+
+-- A filter whose test no number below n passes leaves none of them.
+pub filter-none : (f : ℕ → Bool) (n : ℕ) → ((i : ℕ) → i < n → f i ≡ false) → filter f (range 0 n) ≡ []
+filter-none f n fails =
+    filter-skip f 0 n n (omega arith) (omega arith) (λ i l h. fails i h) ∙ ap (filter f) (range-nil n n (omega arith))

@@ -1,10 +1,10 @@
 -- Bool: the cases of a test, and the laws of `&&`, `||` and `cond`.
 use mathlib.Core.Path.{_≡_, refl, sym, _∙_}
-use mathlib.Core.Bool.{Bool, true, false, not, cond, _&&_, _||_, true≢false, false≢true}
+use mathlib.Core.Bool.{Bool, true, false, not, cond, _&&_, _||_, or-true, true≢false, false≢true}
 use mathlib.Core.Logic.{_⊎_, inl, inr, ⊎-elim}
 use Prim.Native.Nat.{ℕ, _≤_, _<_}
-use lib.Dec.{ltb}
-use borrow.Author.Tests.{ltb-true, ltb-false}
+use lib.Dec.{ltb, eqb}
+use borrow.Author.Tests.{ltb-true, ltb-false, eqb-true, eqb-false}
 
 -- ---- cases
 
@@ -15,6 +15,10 @@ bool-cases false = inr refl
 pub lt-cases : (a b : ℕ) → (a < b) ⊎ (b ≤ a)
 lt-cases a b =
     ⊎-elim (λ (p : ltb a b ≡ true). inl (ltb-true a b p)) (λ (p : ltb a b ≡ false). inr (ltb-false a b p)) (bool-cases (ltb a b))
+
+pub eq-cases : (a b : ℕ) → (a ≡ b) ⊎ (a ≡ b → ⊥)
+eq-cases a b =
+    ⊎-elim (λ (p : eqb a b ≡ true). inl (eqb-true a b p)) (λ (p : eqb a b ≡ false). inr (eqb-false a b p)) (bool-cases (eqb a b))
 
 pub not-both : {b : Bool} → b ≡ true → b ≡ false → ⊥
 not-both p q = true≢false (sym p ∙ q)
@@ -48,6 +52,10 @@ or-right false b p = p
 pub or-cases : (a b : Bool) → (a || b) ≡ true → (a ≡ true) ⊎ (b ≡ true)
 or-cases true b h = inl refl
 or-cases false b h = inr h
+
+pub or-left-comm : (a b c : Bool) → (a || (b || c)) ≡ (b || (a || c))
+or-left-comm true b c = sym (or-true b)
+or-left-comm false b c = refl
 
 -- ---- a choice whose first answer is known
 

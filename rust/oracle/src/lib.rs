@@ -6,6 +6,7 @@
 //! call answers [`NotAtHand`].
 
 use sheets::answer::Answer;
+use sheets::lists::{List, Scheduled};
 use sheets::Sheet;
 use std::fmt;
 
@@ -53,30 +54,12 @@ impl fmt::Display for NotAtHand {
 
 impl std::error::Error for NotAtHand {}
 
-/// A definition by numbers; name 0 is the empty name.
-#[derive(Clone, Debug, Default, PartialEq, Eq)]
-pub struct Definition {
-    pub statement: u16,
-    pub name: u16,
-    pub used: Vec<u16>,
-}
-
-/// What `schedule` made of a list of definitions.
-#[derive(Clone, Debug, PartialEq, Eq)]
-pub struct Scheduled {
-    pub placed: bool,
-    /// The order handed out: the written one where the list is not placed.
-    pub order: Vec<u16>,
-    /// By statement.
-    pub reached: Vec<bool>,
-}
-
 /// One analysis of one query. A query can be analysed more than once.
 #[derive(Clone, Debug, PartialEq, Eq)]
 pub struct Analysis {
     pub query: u16,
-    pub statements: u16,
-    pub definitions: Vec<Definition>,
+    /// What `schedule` got.
+    pub list: List,
     pub answer: sheets::answer::QueryAnswer,
 }
 
@@ -112,12 +95,12 @@ pub fn analyze(sheet: &Sheet) -> Result<Run, NotAtHand> {
 }
 
 /// Calls the original's generic `schedule` on a plain list of definitions.
-pub fn schedule(statements: u16, definitions: &[Definition]) -> Result<Scheduled, NotAtHand> {
+pub fn schedule(list: &List) -> Result<Scheduled, NotAtHand> {
     #[cfg(original)]
-    return Ok(run::schedule(statements, definitions));
+    return Ok(run::schedule(list));
     #[cfg(not(original))]
     {
-        let _ = (statements, definitions);
+        let _ = list;
         Err(NotAtHand)
     }
 }

@@ -6,8 +6,9 @@ use crate::lexer::SourceStr;
 use crate::probe;
 use crate::query::traversal::Scope;
 use crate::scheduler::{self, Analyzer, QuerySchedule, SortResult, StmtInfo};
-use crate::{Analysis, Definition, Outcome, Run, Scheduled, TRAVERSE_LIMIT};
+use crate::{Analysis, Outcome, Run, TRAVERSE_LIMIT};
 use sheets::answer::{Answer, Entry, Placed, QueryAnswer, Set};
+use sheets::lists::{Definition, List, Scheduled};
 use sheets::Sheet;
 use std::collections::BTreeMap;
 
@@ -115,17 +116,19 @@ impl NameRows {
                 .into_iter()
                 .find(|&q| rows.qidx(q) == a.qidx)
                 .expect("a query"),
-            statements: a.statements as u16,
-            definitions: a
-                .definitions
-                .iter()
-                .map(|d| Definition {
-                    statement: d.statement as u16,
-                    name: self.row(&d.name),
-                    used: d.used.iter().map(|u| self.row(u)).collect(),
-                })
-                .collect(),
+            list: List {
+                statements: a.statements as u16,
+                definitions: a.definitions.iter().map(|d| self.definition(d)).collect(),
+            },
             answer: self.answer(&a.schedule, &a.placed),
+        }
+    }
+
+    fn definition(&self, d: &probe::Recorded) -> Definition {
+        Definition {
+            statement: d.statement as u16,
+            name: self.row(&d.name),
+            used: d.used.iter().map(|u| self.row(u)).collect(),
         }
     }
 
@@ -174,21 +177,26 @@ fn marks(statements: usize, placed: &[u16]) -> Vec<bool> {
     marks
 }
 
-pub fn schedule(statements: u16, definitions: &[Definition]) -> Scheduled {
-    let mut infos: Vec<StmtInfo<u16>> = (0..statements)
+/// The list in the form that the original's `schedule` takes.
+pub fn infos(list: &List) -> Vec<StmtInfo<u16>> {
+    let mut infos: Vec<StmtInfo<u16>> = (0..list.statements)
         .map(|_| StmtInfo {
             definitions: Vec::new(),
         })
         .collect();
-    for d in definitions {
+    for d in &list.definitions {
         let info = &mut infos[usize::from(d.statement)];
         info.definitions.push(scheduler::Definition {
             var: d.name,
             used_vars: d.used.clone(),
         });
     }
+    infos
+}
+
+pub fn schedule(list: &List) -> Scheduled {
     probe::restart(0);
-    let Ok(SortResult::Order(order)) = scheduler::schedule(&mut infos, &0) else {
+    let Ok(SortResult::Order(order)) = scheduler::schedule(&mut infos(list), &0) else {
         panic!("the original's `schedule` handed out no order");
     };
     let placed = probe::last_placed();

@@ -1,8 +1,9 @@
 //! How generated sheets fall out at the original: shares that a test checks and a command prints.
 
-use crate::{analyze, Definition, NotAtHand, Outcome};
+use crate::{analyze, NotAtHand, Outcome};
 use sheets::answer::{Answer, Placed};
 use sheets::census;
+use sheets::lists::Definition;
 use std::collections::{BTreeMap, BTreeSet};
 use std::fmt;
 
@@ -75,9 +76,11 @@ impl Shares {
                 self.analysed_again += 1;
                 self.changed_again += usize::from(before.answer != analysis.answer);
             }
-            self.longest_list = self.longest_list.max(analysis.definitions.len());
-            self.longest_distinct = self.longest_distinct.max(distinct(&analysis.definitions));
-            for statement in 0..analysis.statements {
+            self.longest_list = self.longest_list.max(analysis.list.definitions.len());
+            self.longest_distinct = self
+                .longest_distinct
+                .max(distinct(&analysis.list.definitions));
+            for statement in 0..analysis.list.statements {
                 let has = analysis
                     .definitions
                     .iter()

@@ -4,8 +4,9 @@
 #[cfg(original)]
 mod with_the_original {
     use oracle::shares::Shares;
-    use oracle::{analyze, schedule, Definition, Outcome};
+    use oracle::{analyze, schedule, Outcome};
     use sheets::answer::{Answer, Placed};
+    use sheets::lists::Definition;
     use sheets::tree::{Expr, Literal, Node, Query, Snippet};
     use sheets::{examples, limits, vectors, Sheet};
 
@@ -45,25 +46,14 @@ mod with_the_original {
             used,
         };
         let recorded = [definition(1, vec![]), definition(0, vec![1])];
-        assert_eq!(run.analyses[0].definitions, recorded);
+        assert_eq!(run.analyses[0].list.definitions, recorded);
     }
 
     #[test]
     fn the_trial_lists_come_out_as_specified() {
-        for list in examples::list_trials() {
-            let definitions: Vec<Definition> = list
-                .definitions
-                .iter()
-                .map(|&(statement, name, used)| Definition {
-                    statement,
-                    name,
-                    used: used.to_vec(),
-                })
-                .collect();
-            let scheduled = schedule(list.statements, &definitions).expect("the original");
-            assert_eq!(scheduled.placed, list.placed, "{}", list.label);
-            assert_eq!(scheduled.order, list.order, "{}", list.label);
-            assert_eq!(scheduled.reached, list.reached, "{}", list.label);
+        for example in examples::list_trials() {
+            let scheduled = schedule(&example.list).expect("the original");
+            assert_eq!(scheduled, example.scheduled, "{}", example.label);
         }
     }
 
@@ -105,8 +95,7 @@ mod with_the_original {
         for seed in 1..=3_000 {
             let run = analyze(&sheets::generate::sheet(seed)).expect("the original");
             for analysis in run.analyses {
-                let scheduled = schedule(analysis.statements, &analysis.definitions);
-                let scheduled = scheduled.expect("the original");
+                let scheduled = schedule(&analysis.list).expect("the original");
                 assert_eq!(scheduled.order, analysis.answer.order, "seed {seed}");
                 assert_eq!(scheduled.reached, analysis.answer.reached, "seed {seed}");
                 let placed = analysis.answer.placed == Placed::Yes;
@@ -187,7 +176,7 @@ mod with_the_original {
 
 #[test]
 fn the_oracle_says_whether_it_has_the_original() {
-    let answer = oracle::schedule(0, &[]);
+    let answer = oracle::schedule(&sheets::lists::List::default());
     assert_eq!(answer.is_ok(), oracle::AT_HAND);
     if !oracle::AT_HAND {
         println!(

@@ -1,5 +1,6 @@
 //! The specification's worked example and trial queries.
 
+use crate::lists::{Definition, List, Scheduled};
 use crate::tree::{Builtin, Expr, Literal, Node, Query, Snippet, Statement};
 
 fn var(name: &str, line: u16, col: u16) -> Box<Expr> {
@@ -88,25 +89,34 @@ pub fn trials() -> Vec<Example> {
     ]
 }
 
-/// A trial query that is a list of definitions: statement, name and used names, the empty name
-/// being 0; then what is to come out.
+/// A trial query that is a list of definitions, with what is to come out.
 pub struct ListExample {
     pub label: &'static str,
-    pub statements: u16,
-    pub definitions: &'static [(u16, u16, &'static [u16])],
-    pub placed: bool,
-    pub order: &'static [u16],
-    pub reached: &'static [bool],
+    pub list: List,
+    pub scheduled: Scheduled,
 }
 
 pub fn list_trials() -> Vec<ListExample> {
-    let list = |label, statements, definitions, placed, order, reached| ListExample {
-        label,
-        statements,
-        definitions,
-        placed,
-        order,
-        reached,
+    // A definition is its statement, its name and the names used; the empty name is 0.
+    type Short = (u16, u16, &'static [u16]);
+    let list = |label, statements, short: &[Short], placed, order: &[u16], reached: &[bool]| {
+        let definition = |&(statement, name, used): &Short| Definition {
+            statement,
+            name,
+            used: used.to_vec(),
+        };
+        ListExample {
+            label,
+            list: List {
+                statements,
+                definitions: short.iter().map(definition).collect(),
+            },
+            scheduled: Scheduled {
+                placed,
+                order: order.to_vec(),
+                reached: reached.to_vec(),
+            },
+        }
     };
     vec![
         list("none", 0, &[], true, &[], &[]),

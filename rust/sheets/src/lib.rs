@@ -8,6 +8,7 @@ pub mod edges;
 pub mod examples;
 pub mod generate;
 pub mod layout;
+pub mod lists;
 pub mod positions;
 pub mod read;
 pub mod rng;

@@ -1,0 +1,14 @@
+pub mod Definitions
+pub mod PlainWalk
+pub mod Statements
+pub mod Resolving
+pub mod Sequence
+pub mod Turns
+pub mod Orders
+pub mod Labels
+pub mod OrderLaws
+pub mod OrderWalks
+pub mod OrderRounds
+pub mod Relisting
+pub mod Theorems
+pub mod Trials
