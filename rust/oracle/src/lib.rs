@@ -105,6 +105,36 @@ pub fn schedule(list: &List) -> Result<Scheduled, NotAtHand> {
     }
 }
 
+/// A list in the form that the original's `schedule` takes, so that the call alone can be timed.
+pub struct Prepared {
+    #[cfg(original)]
+    infos: Vec<scheduler::StmtInfo<u16>>,
+}
+
+impl Prepared {
+    pub fn new(list: &List) -> Result<Prepared, NotAtHand> {
+        #[cfg(original)]
+        return Ok(Prepared {
+            infos: run::infos(list),
+        });
+        #[cfg(not(original))]
+        {
+            let _ = list;
+            Err(NotAtHand)
+        }
+    }
+
+    /// Calls `schedule`; the added lines record nothing.
+    pub fn schedule(&mut self) -> usize {
+        #[cfg(original)]
+        {
+            run::schedule_only(&mut self.infos)
+        }
+        #[cfg(not(original))]
+        0
+    }
+}
+
 /// Runs `work` on a thread whose stack holds the deepest sheets. The original recurses once for
 /// each level of an expression, and a sheet's expression may have 511.
 pub fn on_deep_stack<T: Send>(work: impl FnOnce() -> T + Send) -> T {

@@ -3,7 +3,7 @@
 
 use crate::lexer::SourceStr;
 use crate::scheduler::{QuerySchedule, StmtInfo};
-use std::cell::RefCell;
+use std::cell::{Cell, RefCell};
 
 /// A definition with its names as texts; the empty name is the empty text.
 #[derive(Clone, Debug, PartialEq, Eq)]
@@ -37,6 +37,8 @@ struct Log {
 
 thread_local! {
     static LOG: RefCell<Log> = RefCell::default();
+    /// Off while the original is timed: then only entries of `traverse` are counted.
+    static RECORDING: Cell<bool> = const { Cell::new(true) };
 }
 
 pub const TOO_LONG: &str = "traverse was entered too often";
@@ -52,6 +54,9 @@ pub fn enter_traverse() -> anyhow::Result<()> {
 }
 
 pub fn record_definitions(qidx: u32, infos: &[StmtInfo<SourceStr>]) {
+    if !RECORDING.get() {
+        return;
+    }
     let mut definitions = Vec::new();
     for (statement, info) in infos.iter().enumerate() {
         for definition in &info.definitions {
@@ -66,6 +71,9 @@ pub fn record_definitions(qidx: u32, infos: &[StmtInfo<SourceStr>]) {
 }
 
 pub fn record_placed(order: &[u16]) {
+    if !RECORDING.get() {
+        return;
+    }
     LOG.with_borrow_mut(|log| {
         log.placed = order.to_vec();
         // `schedule` may also be called by itself, on a plain list.
@@ -77,6 +85,9 @@ pub fn record_placed(order: &[u16]) {
 }
 
 pub fn record_analysis(qidx: u32, schedule: &QuerySchedule) {
+    if !RECORDING.get() {
+        return;
+    }
     LOG.with_borrow_mut(|log| {
         // Comprehensions in output expressions are analysed between `schedule` and here, so the
         // query's own entry is the last one with its index.
@@ -95,6 +106,10 @@ pub fn record_analysis(qidx: u32, schedule: &QuerySchedule) {
 
 fn texts(names: &[SourceStr]) -> Vec<String> {
     names.iter().map(|name| name.text().to_string()).collect()
+}
+
+pub fn set_recording(on: bool) {
+    RECORDING.set(on);
 }
 
 /// Forgets everything and allows `limit` entries of `traverse`.

@@ -82,6 +82,7 @@ impl Shares {
                 .max(distinct(&analysis.list.definitions));
             for statement in 0..analysis.list.statements {
                 let has = analysis
+                    .list
                     .definitions
                     .iter()
                     .any(|d| d.statement == statement);

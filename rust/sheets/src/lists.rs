@@ -63,7 +63,8 @@ impl List {
         for statement in 0..statements {
             // Mostly at least one, so that most lists have a chance to be placed.
             let low = usize::from(rng.percent(97));
-            for _ in 0..rng.between(low, *rng.pick(&[1, 1, 2, 3, 5])) {
+            let high = *rng.pick(&[1, 1, 2, 3, 5]);
+            for _ in 0..rng.between(low, high) {
                 definitions.push(Definition {
                     statement: statement as u16,
                     name: name(rng, names),
