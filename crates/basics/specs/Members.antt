@@ -8,8 +8,8 @@ use native.Mathlib.Omega.{arith}
 use lib.Dec.{eqb}
 use lib.ListN.{length, getD}
 use borrow.Author.Tests.{eqb-true, eq-eqb}
-use Rattle.basics.specs.Truth.{bool-cases, not-both, or-left, or-right, or-cases}
-use Rattle.basics.specs.Lists.{filter, elem}
+use Rattle.basics.specs.Truth.{bool-cases, not-both, and-left, and-right, or-left, or-right, or-cases}
+use Rattle.basics.specs.Lists.{all, filter, elem}
 
 -- ---- the test
 
@@ -55,6 +55,13 @@ module _ {A : Type 0} where
           ⊎-elim (λ (e : a ≡ b). (List·Memᴰ·head e, ap f e ∙ q)) (λ (t : List·Memᴰ a (filter f l)). (List·Memᴰ·tail (ih t .0), ih t .1))
           (List·Memᴰ·cases-cons (rw q at m))
       go (inr q) ih = let r = ih (rw q at m) in (List·Memᴰ·tail (r .0), r .1)
+
+  -- ---- a test that all pass, said of each
+
+  pub all-mem : {a : A} (f : A → Bool) (l : List A) → all f l ≡ true → List·Memᴰ a l → f a ≡ true
+  all-mem f [] h m = absurd (List·Memᴰ·not-nil m)
+  all-mem {a} f (b ∷ l) h m =
+      ⊎-elim (λ (e : a ≡ b). ap f e ∙ and-left _ _ h) (λ (t : List·Memᴰ a l). all-mem f l (and-right (f b) _ h) t) (List·Memᴰ·cases-cons m)
 
   -- ---- the elements and their places
 

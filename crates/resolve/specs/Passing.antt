@@ -1,0 +1,79 @@
+-- What holds at the test of the loop of `pass`: what is left of the chain, passed over from the set seen, gives what the whole pass gives.
+use mathlib.Core.Path.{_≡_, sym, ap, ap₂, _∙_, fun-ext}
+use mathlib.Core.Bool.{Bool, true, false, not, _||_, or-assoc, or-true, or-false}
+use mathlib.Core.List.{List, _∷_}
+use Prim.Native.Nat.{ℕ, suc, _+_, _-_, _≤_, _<_}
+use native.Mathlib.Omega.{arith}
+use lib.ListN.{getD}
+use Rattle.basics.specs.Lists.{all}
+use Rattle.names.specs.Sets.{member, members, Inserted}
+use Rattle.turns.specs.Definitions.{Definition}
+use Rattle.rows.specs.Rows.{rowCount, varAt, usedAt, definitionAt}
+use Rattle.rows.specs.Links.{lastOf, chainOf, Linked}
+use Rattle.rows.specs.ChainLaws.{last-leads, last-row, chain-row, chain-none}
+use Rattle.resolve.specs.Pass.{gain, gather, waits, Passes}
+
+pub record Passing (ws : List ℕ) (s : ℕ) (start : List ℕ) (at : ℕ) (seen : List ℕ) (waiting : Bool) : Type 0 where
+  pub high : at ≤ rowCount ws
+  pub last : lastOf ws s at ≡ at
+  pub gathers : gather (chainOf ws s at) (member seen) ≡ gather (chainOf ws s (rowCount ws)) (member start)
+  pub waited : (waiting || waits (chainOf ws s at) (member seen)) ≡ waits (chainOf ws s (rowCount ws)) (member start)
+
+module _ (ws links : List ℕ) (linked : Linked ws links) (s : ℕ) (start : List ℕ) where
+  -- Before the loop.
+  pub passing-first : s < 128 → Passing ws s start (getD links s 0) start false
+  passing-first h =
+      let leads = last-leads ws s (rowCount ws) in
+      rw (linked .head s h) (record {
+        high = leads .below;
+        last = leads .last;
+        gathers = ap (λ (c : List Definition). gather c (member start)) (sym (leads .chain));
+        waited = ap (λ (c : List Definition). waits c (member start)) (sym (leads .chain));
+      })
+
+  module _ {at : ℕ} {seen : List ℕ} {waiting : Bool} (p : Passing ws s start at seen waiting) where
+    -- After it.
+    pub passing-end : at ≡ 0 → Passes ws s start seen waiting
+    passing-end e =
+        let none = ap (chainOf ws s) e ∙ chain-none ws s in
+        record {
+          gathered = λ x. ap (λ (f : ℕ → Bool). f x) (ap (λ (c : List Definition). gather c (member seen)) (sym none) ∙ p .gathers);
+          waited = sym (or-false waiting) ∙ ap (λ (c : List Definition). waiting || waits c (member seen)) (sym none) ∙ p .waited;
+        }
+
+    -- In a turn, at row k.
+    module _ (some : at ≡ 0 → ⊥) where
+      here : lastOf ws s (suc (at - 1)) ≡ suc (at - 1)
+      here = let e : at ≡ suc (at - 1) = omega arith in rw e at (p .last)
+
+      leads-on : getD links (128 + (at - 1)) 0 ≡ lastOf ws s (at - 1)
+      leads-on = linked .next (at - 1) (omega arith) ∙ ap (λ (t : ℕ). lastOf ws t (at - 1)) (last-row ws s (at - 1) here)
+
+      pub passing-less : getD links (128 + (at - 1)) 0 < at
+      passing-less = omega (arith, leads-on, last-leads ws s (at - 1) .below)
+
+      first-row : chainOf ws s at ≡ definitionAt ws (at - 1) ∷ chainOf ws s (lastOf ws s (at - 1))
+      first-row = let e : at ≡ suc (at - 1) = omega arith in ap (chainOf ws s) e ∙ chain-row ws s (at - 1) here
+
+      -- After it, where the set and the flag are as the pass over the row's definition leaves them.
+      turn : {more : List ℕ} {waits-now : Bool} → member more ≡ gain (member seen) (definitionAt ws (at - 1))
+          → waits-now ≡ (waiting || not (all (member seen) (members (usedAt ws (at - 1)))))
+          → Passing ws s start (getD links (128 + (at - 1)) 0) more waits-now
+      turn {more} {waits-now} set flag =
+          let leads = last-leads ws s (at - 1) in
+          let rest = chainOf ws s (lastOf ws s (at - 1)) in
+          rw leads-on (record {
+            high = omega (arith, leads .below);
+            last = leads .last;
+            gathers = ap (gather rest) set ∙ ap (λ (c : List Definition). gather c (member seen)) (sym first-row) ∙ p .gathers;
+            waited = ap₂ (λ (w : Bool) (S : ℕ → Bool). w || waits rest S) flag set ∙ or-assoc waiting _ _
+                ∙ ap (λ (c : List Definition). waiting || waits c (member seen)) (sym first-row) ∙ p .waited;
+          })
+
+      pub passing-waits : all (member seen) (members (usedAt ws (at - 1))) ≡ false
+          → Passing ws s start (getD links (128 + (at - 1)) 0) seen true
+      passing-waits fails = turn (rw fails) (rw fails (sym (or-true waiting)))
+
+      pub passing-adds : all (member seen) (members (usedAt ws (at - 1))) ≡ true → {more : List ℕ} → Inserted seen (varAt ws (at - 1)) more
+          → Passing ws s start (getD links (128 + (at - 1)) 0) more waiting
+      passing-adds holds i = turn (rw holds (fun-ext (i .has))) (rw holds (sym (or-false waiting)))

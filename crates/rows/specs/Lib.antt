@@ -1,0 +1,9 @@
+pub mod Rows
+pub mod RowLaws
+pub mod Links
+pub mod LinkLaws
+pub mod ChainLaws
+pub mod ChainMembers
+pub mod Masks
+pub mod MaskLaws
+pub mod DefinesLaws
