@@ -1,4 +1,4 @@
--- From words to sets: what a change of words does to the members. The proofs of the methods use these laws, and no caller does.
+-- From words to sets: what a change of words does to the members. The proofs of the methods use these laws.
 use mathlib.Core.Path.{_≡_, refl, sym, ap, ap₂, _∙_}
 use mathlib.Core.Bool.{Bool, true, false, not, cond, _&&_, _||_}
 use mathlib.Core.List.{List}

@@ -32,7 +32,7 @@ module _ (ws links : List ℕ) (linked : Linked ws links) (s : ℕ) (start : Lis
       })
 
   module _ {at : ℕ} {seen : List ℕ} {waiting : Bool} (p : Passing ws s start at seen waiting) where
-    -- After it.
+    -- After the loop.
     pub passing-end : at ≡ 0 → Passes ws s start seen waiting
     passing-end e =
         let none = ap (chainOf ws s) e ∙ chain-none ws s in
@@ -41,7 +41,7 @@ module _ (ws links : List ℕ) (linked : Linked ws links) (s : ℕ) (start : Lis
           waited = sym (or-false waiting) ∙ ap (λ (c : List Definition). waiting || waits c (member seen)) (sym none) ∙ p .waited;
         }
 
-    -- In a turn, at row k.
+    -- In a turn: `at` is a row, counted from 1.
     module _ (some : at ≡ 0 → ⊥) where
       here : lastOf ws s (suc (at - 1)) ≡ suc (at - 1)
       here = let e : at ≡ suc (at - 1) = omega arith in rw e at (p .last)
@@ -55,7 +55,7 @@ module _ (ws links : List ℕ) (linked : Linked ws links) (s : ℕ) (start : Lis
       first-row : chainOf ws s at ≡ definitionAt ws (at - 1) ∷ chainOf ws s (lastOf ws s (at - 1))
       first-row = let e : at ≡ suc (at - 1) = omega arith in ap (chainOf ws s) e ∙ chain-row ws s (at - 1) here
 
-      -- After it, where the set and the flag are as the pass over the row's definition leaves them.
+      -- After the turn, if the set and the flag are as the pass over the row's definition leaves them.
       turn : {more : List ℕ} {waits-now : Bool} → member more ≡ gain (member seen) (definitionAt ws (at - 1))
           → waits-now ≡ (waiting || not (all (member seen) (members (usedAt ws (at - 1)))))
           → Passing ws s start (getD links (128 + (at - 1)) 0) more waits-now

@@ -39,7 +39,7 @@ module _ (ws : List ℕ) (s x : ℕ) where
       (λ (p : definesIn ws k s x ≡ true). let r = defines-row k p in (r .0, omega (arith, r .1), r .2))
       (or-cases _ _ h)
 
-  -- A statement's set has the names that its definitions define.
+  -- All rows together define what the list of definitions does.
   pub definesIn-all : definesIn ws (rowCount ws) s x ≡ defines (definitions ws) s x
   definesIn-all =
       bool-ext _ _ (λ (h : definesIn ws (rowCount ws) s x ≡ true). let r = defines-row (rowCount ws) h in
@@ -57,7 +57,7 @@ module _ (ws : List ℕ) (s x : ℕ) where
       (λ (p : definesIn ws k s x ≡ true). or-right (eqb (varAt ws k) x) _ (defines-defined k p)) (or-cases _ _ h)
 
   -- A name that no row defines, no statement does.
-  pub undefined : definedIn ws (rowCount ws) x ≡ false → defines (definitions ws) s x ≡ false
-  undefined none =
+  pub definedIn-none : definedIn ws (rowCount ws) x ≡ false → defines (definitions ws) s x ≡ false
+  definedIn-none none =
       ⊎-elim (λ (h : defines (definitions ws) s x ≡ true). absurd (not-both (defines-defined (rowCount ws) (definesIn-all ∙ h)) none))
       (λ (h : defines (definitions ws) s x ≡ false). h) (bool-cases (defines (definitions ws) s x))

@@ -8,9 +8,10 @@ ghost use Rattle.rows.specs.Rows.{rowCount, statementAt, varAt, usedAt};
 ghost use Rattle.rows.specs.Links.{Linked};
 ghost use Rattle.rows.specs.Masks.{Added, Masked};
 
-// The most statements and definitions that a list may have.
+// The most statements that a list may have.
 pub const STATEMENTS: usize = 128;
 
+// The most definitions.
 pub const DEFINITIONS: usize = 640;
 
 // The words of a row: statement, name, used names.
@@ -32,7 +33,7 @@ pub fn used_at(rows: &[u64], k: usize) -> Names
     }
 }
 
-// Links the rows of each statement.
+// Links the rows of each statement. A proof is not told the length of an array behind a `&mut`, so the contracts below say it.
 pub fn link(rows: &[u64], links: &mut [u16; CELLS])
     requires { ⌜ rowCount (now rows) ≤ 640 ⌝ }
     requires { ⌜ ((k : ℕ) → k < rowCount (now rows) → statementAt (now rows) k < 128) ⌝ }

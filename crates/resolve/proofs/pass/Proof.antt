@@ -1,9 +1,9 @@
-use borrow.Author.Needs.{needs}
 -- The loops' invariants: `Passing` at the definitions, `Listed` at the used names of one.
 use mathlib.Core.Path.{_≡_, refl, sym, _∙_}
 use Prim.Native.Nat.{_+_, _<_, _-_}
 use native.Mathlib.Omega.{arith}
 use lib.ListN.{getD}
+use borrow.Author.Needs.{needs}
 use borrow.Author.Tests.{not-true, not-false}
 use Rattle.names.specs.Sets.{member}
 use Rattle.names.specs.Listing.{Listed, listed-first, listed-next, listed-fails, listed-all}

@@ -1,8 +1,8 @@
-use borrow.Author.Needs.{needs}
 -- The loop's invariant: the set seen is what passes have gathered (`Trying`). A pass that finds something leaves fewer names missing.
 use mathlib.Core.Path.{_≡_, sym, _∙_}
 use native.Mathlib.Omega.{arith}
 use lib.ListN.{length}
+use borrow.Author.Needs.{needs}
 use borrow.Author.Tests.{not-true, not-false}
 use Rattle.walks.specs.Count.{missing}
 use Rattle.names.specs.Sets.{member}

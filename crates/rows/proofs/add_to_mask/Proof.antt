@@ -2,8 +2,8 @@
 use mathlib.Core.Path.{_≡_}
 use native.Mathlib.Omega.{arith}
 use lib.ListN.{length}
-use Rattle.rows.specs.MaskLaws.{mask-added}
 use borrow.Author.Needs.{needs}
+use Rattle.rows.specs.MaskLaws.{mask-added}
 use Rattle.rows.proofs.add_to_mask.Statement.{statement}
 use Rattle.rows.proofs.add_to_mask.Tie as tie
 

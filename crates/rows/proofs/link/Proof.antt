@@ -1,9 +1,9 @@
-use borrow.Author.Needs.{needs}
 -- The loop's invariant: the cells are those of the first k rows.
 use mathlib.Core.Path.{_≡_}
 use Prim.Native.Nat.{_≤_, _<_, _-_}
 use native.Mathlib.Omega.{arith}
 use lib.ListN.{length, length-set}
+use borrow.Author.Needs.{needs}
 use Rattle.rows.specs.Rows.{rowCount, statementAt}
 use Rattle.rows.specs.Links.{LinkedTo}
 use Rattle.rows.specs.LinkLaws.{linked-first, linked-next}

@@ -1,9 +1,9 @@
-use borrow.Author.Needs.{needs}
 -- The loop's invariant: the sets are those of the first k rows.
 use mathlib.Core.Path.{_≡_, _∙_}
 use Prim.Native.Nat.{_≤_, _<_, _-_}
 use native.Mathlib.Omega.{arith}
 use lib.ListN.{length}
+use borrow.Author.Needs.{needs}
 use Rattle.rows.specs.Rows.{rowCount, statementAt, varAt}
 use Rattle.rows.specs.Masks.{MaskedTo}
 use Rattle.rows.specs.MaskLaws.{masked-first, masked-next}
