@@ -73,3 +73,7 @@ accepted ws n room marks a =
       stated = λ k h. ltb-true (statementAt ws k) n (and-left _ _ (row k h));
       named = λ k h. let l = leb-true (varAt ws k) 127 (and-right (ltb (statementAt ws k) n) _ (row k h)) in omega arith;
     }
+
+-- So every statement is below 128.
+pub statements-few : {ws : List ℕ} {n room marks : ℕ} → Accepted ws n room marks → (k : ℕ) → k < rowCount ws → statementAt ws k < 128
+statements-few a k h = let s = a .stated k h in omega arith

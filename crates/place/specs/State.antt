@@ -1,0 +1,69 @@
+-- The scheduler's state: what is placed, in sets and in lent buffers.
+use mathlib.Core.Path.{_≡_}
+use mathlib.Core.Bool.{true, false, not, cond, _&&_}
+use mathlib.Core.List.{List}
+use Prim.Native.Nat.{ℕ, _≤_, _<_, min}
+use lib.ListN.{length, getD, take}
+use Rattle.basics.specs.Lists.{elem}
+use Rattle.names.specs.Sets.{member}
+use Rattle.walks.specs.Walk.{known, takeable}
+use Rattle.walks.specs.Count.{AddsUp}
+use Rattle.turns.specs.Definitions.{Definition, ofStatement}
+use Rattle.turns.specs.PlainWalk.{some, defines, ready}
+use Rattle.rows.specs.Rows.{rowCount, statementAt, varAt, definitions}
+use Rattle.rows.specs.Links.{Linked}
+use Rattle.rows.specs.Masks.{maskAt}
+use Rattle.place.specs.declared.State.{State}
+
+-- The rows are of n statements and 128 names, and `links` has the rows of each statement.
+pub record Sound (ws links : List ℕ) (n : ℕ) : Type 0 where
+  pub few : n ≤ 128
+  pub stated : (k : ℕ) → k < rowCount ws → statementAt ws k < n
+  pub named : (k : ℕ) → k < rowCount ws → varAt ws k < 128
+  pub linked : Linked ws links
+
+-- The same, and `masks` has for each name the set of the statements that define it.
+pub record Indexed (ws links masks : List ℕ) (n : ℕ) : Type 0 where
+  pub sound : Sound ws links n
+  pub sets : (x : ℕ) → x < 128 → (i : ℕ) → member (maskAt masks x) i ≡ defines (definitions ws) i x
+
+-- The number r is the lowest member of `own`, from a up, that is not idle, or 128.
+pub record NextTry (own idle : List ℕ) (a r : ℕ) : Type 0 where
+  pub low : min a 128 ≤ r
+  pub high : r ≤ 128
+  pub gap : (i : ℕ) → a ≤ i → i < r → (member own i && not (member idle i)) ≡ false
+  pub found : r < 128 → (member own r && not (member idle r)) ≡ true
+
+-- The order so far: the first entries of its buffer.
+abbrev pub orderOf : State → List ℕ → List ℕ
+orderOf s order = take (s .count) order
+
+-- The buffers hold an order of `count` statements below n, each once, and a mark for each of them. Past these they are zero.
+pub record Written (n count : ℕ) (order reached : List ℕ) : Type 0 where
+  pub room : n ≤ length order
+  pub marked : n ≤ length reached
+  pub filled : count ≤ length order
+  pub adds-up : AddsUp n (take count order)
+  pub marks : (i : ℕ) → i < n → getD reached i 0 ≡ cond (elem i (take count order)) 1 0
+  pub past : (i : ℕ) → count ≤ i → getD order i 0 ≡ 0
+  pub beyond : (i : ℕ) → n ≤ i → getD reached i 0 ≡ 0
+
+-- The sets of the state go with that order. `idle` has statements that a try would not place: all that are placed, and some that failed
+-- since the last placing.
+pub record Holds (defs : List Definition) (n : ℕ) (s : State) (order reached : List ℕ) : Type 0 where
+  pub written : Written n (s .count) order reached
+  pub knows : (x : ℕ) → member (s .known .words) x ≡ known (ready defs) (defines defs) (orderOf s order) x
+  pub taken : (i : ℕ) → member (s .placed .words) i ≡ elem i (orderOf s order)
+  pub rests : (i : ℕ) → member (s .placed .words) i ≡ true → member (s .idle .words) i ≡ true
+  pub idles : (i : ℕ) → member (s .idle .words) i ≡ true → takeable (ready defs) (defines defs) n (orderOf s order) i ≡ false
+
+-- Statement i, one of n, waits for a try: it has definitions, and is not placed.
+pub record Waiting (defs : List Definition) (n : ℕ) (s : State) (i : ℕ) : Type 0 where
+  pub below : i < n
+  pub has : some (ofStatement i defs) ≡ true
+  pub unplaced : member (s .placed .words) i ≡ false
+
+-- The state after a step whose order is o.
+pub record After (defs : List Definition) (n : ℕ) (o : List ℕ) (s : State) (order reached : List ℕ) : Type 0 where
+  pub holds : Holds defs n s order reached
+  pub now-is : orderOf s order ≡ o

@@ -1,0 +1,4 @@
+//! The proved library beside the original.
+
+pub mod schedules;
+pub mod walks;

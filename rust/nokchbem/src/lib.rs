@@ -1,0 +1,81 @@
+//! The proved library, called through its C interface.
+//!
+//! The exported functions demand nothing of their arguments beyond what a Rust slice is, so these
+//! wrappers are safe as they stand.
+
+use std::fmt;
+
+/// What an exported call refuses with: a number of the specification, and a position.
+#[derive(Clone, Copy, Debug, PartialEq, Eq)]
+pub struct Refusal {
+    pub number: u16,
+    pub line: u16,
+    pub col: u16,
+}
+
+impl Refusal {
+    /// Every exported call packs a refusal as number x 2^32 + line x 2^16 + col.
+    fn unpack(packed: u64) -> Refusal {
+        Refusal {
+            number: (packed >> 32) as u16,
+            line: (packed >> 16) as u16,
+            col: packed as u16,
+        }
+    }
+}
+
+impl fmt::Display for Refusal {
+    fn fmt(&self, f: &mut fmt::Formatter<'_>) -> fmt::Result {
+        write!(
+            f,
+            "refused with {} at line {}, column {}",
+            self.number, self.line, self.col
+        )
+    }
+}
+
+impl std::error::Error for Refusal {}
+
+extern "C" {
+    fn nokchbem_schedule(
+        definitions: *const u64,
+        definitions_len: usize,
+        statements: usize,
+        order: *mut u16,
+        order_len: usize,
+        reached: *mut u16,
+        reached_len: usize,
+    ) -> u64;
+}
+
+/// Puts statements into an order in which every name has a value when it is read.
+///
+/// `definitions` are rows of four words: statement, name (0 is the empty one), and the two words
+/// of the set of used names. `order` receives the statements in order and `reached` a mark for
+/// each, 1 or 0; both hold zeros after the first `statements` entries. Answers whether all
+/// statements were placed; where not, the order is the written one. A refusal (8) leaves zeros in
+/// both buffers.
+pub fn schedule(
+    definitions: &[u64],
+    statements: usize,
+    order: &mut [u16],
+    reached: &mut [u16],
+) -> Result<bool, Refusal> {
+    // SAFETY: each pointer and length are one slice's, and the two written ones are exclusive.
+    let result = unsafe {
+        nokchbem_schedule(
+            definitions.as_ptr(),
+            definitions.len(),
+            statements,
+            order.as_mut_ptr(),
+            order.len(),
+            reached.as_mut_ptr(),
+            reached.len(),
+        )
+    };
+    match result {
+        0 => Ok(false),
+        1 => Ok(true),
+        packed => Err(Refusal::unpack(packed)),
+    }
+}
