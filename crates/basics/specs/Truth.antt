@@ -1,6 +1,6 @@
--- Bool: the cases of a test, and the laws of `&&`, `||` and `cond`.
+-- Bool: the cases of a test, and the laws of `&&` and `||`.
 use mathlib.Core.Path.{_≡_, refl, sym, _∙_}
-use mathlib.Core.Bool.{Bool, true, false, not, cond, _&&_, _||_, or-true, true≢false, false≢true}
+use mathlib.Core.Bool.{Bool, true, false, _&&_, _||_, or-true, true≢false, false≢true}
 use mathlib.Core.Logic.{_⊎_, inl, inr, ⊎-elim}
 use Prim.Native.Nat.{ℕ, _≤_, _<_}
 use lib.Dec.{ltb, eqb}
@@ -56,13 +56,3 @@ or-cases false b h = inr h
 pub or-left-comm : (a b c : Bool) → (a || (b || c)) ≡ (b || (a || c))
 or-left-comm true b c = sym (or-true b)
 or-left-comm false b c = refl
-
--- ---- a choice whose first answer is known
-
-pub cond-true : (a b : Bool) → cond a true b ≡ (a || b)
-cond-true true b = refl
-cond-true false b = refl
-
-pub cond-false : (a b : Bool) → cond a false b ≡ (not a && b)
-cond-false true b = refl
-cond-false false b = refl

@@ -1,14 +1,14 @@
 -- The bits of one word: what each operation on words does to them, and that they tell words apart.
 use mathlib.Core.Path.{_≡_, refl, sym, ap, _∙_}
-use mathlib.Core.Bool.{Bool, true, false, not, cond, _&&_, _||_, and-comm, or-comm}
+use mathlib.Core.Bool.{Bool, true, false, not, cond, _&&_, _||_}
 use mathlib.Core.Logic.{_⊎_, inl, inr, ⊎-elim}
 use Prim.Native.Nat.{ℕ, zero, suc, _+_, _-_, _*_, _/_, _%_, _^_, _≤_, _<_}
 use native.Mathlib.Nat.{div-eq-of-lt, pow-suc, div-one, lt-of-lt-of-le}
 use native.Mathlib.Omega.{arith}
 use lib.Dec.{eqb, lit<, eqb·suc-zero, eqb·zero-suc, eqb·suc-suc}
-use lib.Pow.{pow-lt, pow-mono, shr-shr, shl-exact}
+use lib.Pow.{pow-mono, shr-shr, shl-exact}
 use lib.Bits.{bitAnd, bitOr, and-shr, and-mod, or-shr, or-mod, or-lt}
-use Rattle.basics.specs.Truth.{bool-ext, cond-true, cond-false, or-left, or-right, or-cases}
+use Rattle.basics.specs.Truth.{bool-ext, or-left, or-right, or-cases}
 use Rattle.names.specs.Sets.{bit}
 
 -- ---- the lowest digit
@@ -38,7 +38,7 @@ pub bit-suc : (w k : ℕ) → bit w (suc k) ≡ bit (w / 2) k
 bit-suc w k = let s : suc k ≡ 1 + k = omega arith in ap (bit w) s ∙ sym (bit-shr w 1 k)
 
 -- A word below 2 ^ d has no bit from d up.
-pub bit-high : (w d k : ℕ) → w < 2 ^ d → d ≤ k → bit w k ≡ false
+bit-high : (w d k : ℕ) → w < 2 ^ d → d ≤ k → bit w k ≡ false
 unfolding bit
 bit-high w d k h l = ap odd (div-eq-of-lt (lt-of-lt-of-le h (pow-mono l)))
 
@@ -99,9 +99,9 @@ bit-not (suc d) w (suc k) h l =
 pub bit-and-not : (a b k : ℕ) → b < 2 ^ 64 → k < 64 → bit (bitAnd a (2 ^ 64 - 1 - b)) k ≡ (bit a k && not (bit b k))
 bit-and-not a b k h l = bit-and a (2 ^ 64 - 1 - b) k ∙ ap (λ (v : Bool). bit a k && v) (bit-not 64 b k h l)
 
--- ---- one bit set, or cleared, by a mask
+-- ---- a word with one bit
 
-bit-pow : (t k : ℕ) → bit (2 ^ t) k ≡ eqb k t
+pub bit-pow : (t k : ℕ) → bit (2 ^ t) k ≡ eqb k t
 bit-pow zero zero = bit-first 1
 bit-pow zero (suc k) = bit-suc 1 k ∙ bit-of-zero k ∙ sym (eqb·suc-zero k)
 bit-pow (suc t) zero =
@@ -114,15 +114,6 @@ bit-pow (suc t) (suc k) =
 -- What `1 << t` is.
 pub mask : (t : ℕ) → t < 64 → (1 * 2 ^ t) % 2 ^ 64 ≡ 2 ^ t
 mask t h = shl-exact 1 t 64 (lit< tt) (omega arith) ∙ omega arith
-
-pub bit-set : (w t k : ℕ) → bit (bitOr w (2 ^ t)) k ≡ cond (eqb k t) true (bit w k)
-bit-set w t k = bit-or w (2 ^ t) k ∙ rw (bit-pow t k) (or-comm (bit w k) (eqb k t) ∙ sym (cond-true (eqb k t) (bit w k)))
-
-pub bit-clear : (w t k : ℕ) → t < 64 → k < 64 → bit (bitAnd w (2 ^ 64 - 1 - 2 ^ t)) k ≡ cond (eqb k t) false (bit w k)
-bit-clear w t k ht hk =
-    bit-and w (2 ^ 64 - 1 - 2 ^ t) k
-    ∙ ap (λ (b : Bool). bit w k && b) (bit-not 64 (2 ^ t) k (pow-lt ht) hk ∙ ap not (bit-pow t k))
-    ∙ and-comm (bit w k) (not (eqb k t)) ∙ sym (cond-false (eqb k t) (bit w k))
 
 -- ---- a word whose bits are all bits of another
 

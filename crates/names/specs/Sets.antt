@@ -33,6 +33,10 @@ Gap ws a e = (n : ℕ) → a ≤ n → n < e → member ws n ≡ false
 pub record Empty (r : List ℕ) : Type 0 where
   pub has : (n : ℕ) → member r n ≡ false
 
+-- The name x is the only member of the set r.
+pub record Only (x : ℕ) (r : List ℕ) : Type 0 where
+  pub has : (n : ℕ) → member r n ≡ eqb n x
+
 -- The set r is ws with the name x.
 pub record Inserted (ws : List ℕ) (x : ℕ) (r : List ℕ) : Type 0 where
   pub has : (n : ℕ) → member r n ≡ (eqb n x || member ws n)

@@ -1,6 +1,6 @@
 -- From words to sets: what a change of words does to the members. The proofs of the methods use these laws.
 use mathlib.Core.Path.{_≡_, refl, sym, ap, ap₂, _∙_}
-use mathlib.Core.Bool.{Bool, true, false, not, cond, _&&_, _||_}
+use mathlib.Core.Bool.{Bool, true, false, not, cond, _&&_, _||_, and-comm, or-comm}
 use mathlib.Core.List.{List}
 use mathlib.Core.Logic.{_⊎_, inl, inr, ⊎-elim}
 use Prim.Native.Nat.{ℕ, _+_, _-_, _*_, _/_, _%_, _^_, _≤_, _<_}
@@ -11,47 +11,11 @@ use lib.Seq.{getD-set-same, getD-set-other}
 use lib.Bits.{bitAnd, bitOr}
 use borrow.Author.Count.{below-more}
 use borrow.Author.Tests.{eqb-true, eqb-false, eq-eqb, ne-eqb}
-use Rattle.basics.specs.Truth.{bool-cases, lt-cases, bool-ext, cond-true, cond-false}
+use Rattle.basics.specs.Truth.{bool-cases, lt-cases, bool-ext}
 use Rattle.basics.specs.Lists.{all}
-use Rattle.names.specs.Sets.{bit, wordOf, member, members, Empty, Inserted, Removed, Union, Difference}
+use Rattle.names.specs.Sets.{bit, member, members, Empty, Only, Inserted, Removed, Union, Difference}
 use Rattle.names.specs.Laws.{member-out, member-below, all-members, members-all}
-use Rattle.names.specs.Bits.{bit-or, bit-and-not, bit-of-zero, mask, bit-set, bit-clear, or-within, within-or}
-
--- ---- one bit of one word: insert and remove
-
--- In one word, a name is told by its bit.
-same-bit : (n x : ℕ) → n / 64 ≡ x / 64 → eqb n x ≡ eqb (n % 64) (x % 64)
-same-bit n x q =
-    bool-ext _ _ (λ (p : eqb n x ≡ true). eq-eqb (n % 64) (x % 64) (omega (arith, eqb-true n x p)))
-    (λ (p : eqb (n % 64) (x % 64) ≡ true). eq-eqb n x (omega (arith, eqb-true (n % 64) (x % 64) p)))
-
--- Where the word of x changes in the bit of x alone, to v, the set changes at x alone, to v.
-member-change : (ws : List ℕ) (x w : ℕ) (v : Bool) → x / 64 < length ws
-    → ((k : ℕ) → k < 64 → bit w k ≡ cond (eqb k (x % 64)) v (bit (wordOf ws x) k))
-    → (n : ℕ) → member (set ws (x / 64) w) n ≡ cond (eqb n x) v (member ws n)
-unfolding member
-member-change ws x w v h change n = go (bool-cases (eqb (n / 64) (x / 64)))
-  where
-    go : (eqb (n / 64) (x / 64) ≡ true) ⊎ (eqb (n / 64) (x / 64) ≡ false)
-        → bit (wordOf (set ws (x / 64) w) n) (n % 64) ≡ cond (eqb n x) v (bit (wordOf ws n) (n % 64))
-    go (inl e) =
-        let q : n / 64 ≡ x / 64 = eqb-true (n / 64) (x / 64) e in
-        rw (same-bit n x q, q, getD-set-same ws (x / 64) w 0 h) (change (n % 64) (omega arith))
-    go (inr e) =
-        let q : n / 64 ≡ x / 64 → ⊥ = eqb-false (n / 64) (x / 64) e in
-        rw (getD-set-other ws (x / 64) (n / 64) w 0 q, ne-eqb n x (λ p. q (omega arith)))
-
-module _ (ws : List ℕ) (x : ℕ) (h : x / 64 < length ws) where
-  pub inserted : Inserted ws x (set ws (x / 64) (bitOr (wordOf ws x) ((1 * 2 ^ (x % 64)) % 2 ^ 64)))
-  inserted =
-      let change = member-change ws x (bitOr (wordOf ws x) (2 ^ (x % 64))) true h (λ k l. bit-set (wordOf ws x) (x % 64) k) in
-      rw (mask (x % 64) (omega arith)) (record { has = λ n. change n ∙ cond-true (eqb n x) (member ws n) })
-
-  pub removed : Removed ws x (set ws (x / 64) (bitAnd (wordOf ws x) (2 ^ 64 - 1 - (1 * 2 ^ (x % 64)) % 2 ^ 64)))
-  removed =
-      let change =
-      member-change ws x (bitAnd (wordOf ws x) (2 ^ 64 - 1 - 2 ^ (x % 64))) false h (λ k l. bit-clear (wordOf ws x) (x % 64) k (omega arith) l) in
-      rw (mask (x % 64) (omega arith)) (record { has = λ n. change n ∙ cond-false (eqb n x) (member ws n) })
+use Rattle.names.specs.Bits.{bit-or, bit-and-not, bit-of-zero, mask, bit-pow, or-within, within-or}
 
 -- ---- word by word: empty, union, difference and is_subset
 
@@ -100,7 +64,7 @@ module _ (c : ℕ) (a b r : List ℕ) (la : length a ≡ c) (lb : length b ≡ c
         (λ i h k l. ap (λ (w : ℕ). bit w k) (and-not i h) ∙ bit-and-not (getD a i 0) (getD b i 0) k (fits i h) l);
   }
 
-member-at : (ws : List ℕ) (i k : ℕ) → k < 64 → member ws (64 * i + k) ≡ bit (getD ws i 0) k
+pub member-at : (ws : List ℕ) (i k : ℕ) → k < 64 → member ws (64 * i + k) ≡ bit (getD ws i 0) k
 unfolding member
 member-at ws i k h =
     let q : (64 * i + k) / 64 ≡ i = omega arith in
@@ -121,3 +85,41 @@ module _ (a b : List ℕ) where
     where
       shared : all (member b) (members a) ≡ true → (k : ℕ) → k < 64 → bit (getD a i 0) k ≡ true → bit (getD b i 0) k ≡ true
       shared h k l m = sym (member-at b i k l) ∙ all-members (member b) a h (64 * i + k) (member-at a i k l ∙ m)
+
+-- ---- one name: insert, remove and contains
+
+-- In one word, a name is told by its bit.
+same-bit : (n x : ℕ) → n / 64 ≡ x / 64 → eqb n x ≡ eqb (n % 64) (x % 64)
+same-bit n x q =
+    bool-ext _ _ (λ (p : eqb n x ≡ true). eq-eqb (n % 64) (x % 64) (omega (arith, eqb-true n x p)))
+    (λ (p : eqb (n % 64) (x % 64) ≡ true). eq-eqb n x (omega (arith, eqb-true (n % 64) (x % 64) p)))
+
+-- The word i of the set that has x alone.
+abbrev pub onlyWord : ℕ → ℕ → ℕ
+onlyWord x i = cond (eqb i (x / 64)) ((1 * 2 ^ (x % 64)) % 2 ^ 64) 0
+
+pub only-words : (c x : ℕ) (r : List ℕ) → x < 64 * c → length r ≡ c → ((i : ℕ) → i < c → getD r i 0 ≡ onlyWord x i) → Only x r
+unfolding member
+only-words c x r h l words = record {
+  has = λ n. ⊎-elim (λ (b : n < 64 * c). ap (λ (w : ℕ). bit w (n % 64)) (words (n / 64) (omega arith)) ∙ inside n (bool-cases _))
+      (λ (b : 64 * c ≤ n). member-out r n (omega arith) ∙ sym (ne-eqb n x (λ e. omega arith))) (lt-cases n (64 * c));
+}
+  where
+    inside : (n : ℕ) → (eqb (n / 64) (x / 64) ≡ true) ⊎ (eqb (n / 64) (x / 64) ≡ false) → bit (onlyWord x (n / 64)) (n % 64) ≡ eqb n x
+    inside n (inl e) = rw (e, mask (x % 64) (omega arith), same-bit n x (eqb-true _ _ e)) (bit-pow (x % 64) (n % 64))
+    inside n (inr e) = rw (e, ne-eqb n x (λ p. eqb-false (n / 64) (x / 64) e (omega arith))) (bit-of-zero (n % 64))
+
+module _ {ws : List ℕ} {x : ℕ} {t r : List ℕ} (only : Only x t) where
+  pub inserted : Union ws t r → Inserted ws x r
+  inserted u = record { has = λ n. u .has n ∙ rw (only .has n) (or-comm (member ws n) (eqb n x)) }
+
+  pub removed : Difference ws t r → Removed ws x r
+  removed d = record { has = λ n. d .has n ∙ rw (only .has n) (and-comm (member ws n) (not (eqb n x))) }
+
+-- Where w is the word at `at` if that stands before word i, the choice is that word if it stands before word i + 1.
+pub word-at-next : (ws : List ℕ) (at i w : ℕ) → (at < i → w ≡ getD ws at 0) → at < i + 1 → cond (eqb i at) (getD ws i 0) w ≡ getD ws at 0
+word-at-next ws at i w before h = go (bool-cases (eqb i at))
+  where
+    go : (eqb i at ≡ true) ⊎ (eqb i at ≡ false) → cond (eqb i at) (getD ws i 0) w ≡ getD ws at 0
+    go (inl e) = rw e (ap (λ (j : ℕ). getD ws j 0) (eqb-true i at e))
+    go (inr e) = let ne = eqb-false i at e in rw e (before (omega arith))

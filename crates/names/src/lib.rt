@@ -1,10 +1,15 @@
 // Sets of names, a bit for each name. A name is a number below CAPACITY.
-// The contracts speak of members alone (specs/Sets.antt); no caller sees a bit.
+// The public contracts speak of members alone (specs/Sets.antt); no caller sees a bit.
+// Words are read and stored in loops over WORDS alone: unrolled, these have constant indexes and keep a set in registers,
+// where an index that a name gives would have it stored to memory and loaded back.
 
 ghost use mathlib.Core.Path.{_≡_};
-ghost use Prim.Native.Nat.{_<_};
+ghost use mathlib.Core.Bool.{cond};
+ghost use Prim.Native.Nat.{_-_, _<_};
+ghost use lib.ListN.{getD};
 ghost use Rattle.basics.specs.Lists.{all};
-ghost use Rattle.names.specs.Sets.{member, members, Empty, Inserted, Removed, Union, Difference, Next};
+ghost use Rattle.names.specs.Sets.{member, members, Empty, Only, Inserted, Removed, Union, Difference, Next};
+ghost use Rattle.names.specs.Lowest.{LowestBit};
 
 // How many words a set has. The code says it here alone, and the proofs in proofs/Size.antt.
 pub const WORDS: usize = 2;
@@ -24,27 +29,25 @@ impl Names {
         Names { words: [0; WORDS] }
     }
 
-    pub fn insert(mut self, name: usize) -> Names
+    pub fn insert(self, name: usize) -> Names
         requires { do ⌜ name < (← ⟦CAPACITY⟧) ⌝ }
         ensures { λ r. ⌜ Inserted (self .words) name (r .words) ⌝ }
     {
-        self.words[name / 64] |= 1 << (name % 64);
-        self
+        self.union(Names::only(name))
     }
 
-    pub fn remove(mut self, name: usize) -> Names
+    pub fn remove(self, name: usize) -> Names
         requires { do ⌜ name < (← ⟦CAPACITY⟧) ⌝ }
         ensures { λ r. ⌜ Removed (self .words) name (r .words) ⌝ }
     {
-        self.words[name / 64] &= !(1 << (name % 64));
-        self
+        self.difference(Names::only(name))
     }
 
     pub fn contains(self, name: usize) -> bool
         requires { do ⌜ name < (← ⟦CAPACITY⟧) ⌝ }
         ensures { λ r. ⌜ r ≡ member (self .words) name ⌝ }
     {
-        (self.words[name / 64] >> (name % 64)) & 1 == 1
+        (self.word_at(name / 64) >> (name % 64)) & 1 == 1
     }
 
     pub fn union(self, other: Names) -> Names
@@ -88,14 +91,61 @@ impl Names {
     pub fn next(self, from: usize) -> usize
         ensures { λ r. do ⌜ Next (self .words) (← ⟦CAPACITY⟧ .entry) from r ⌝ }
     {
-        let mut at = from;
-        while at < CAPACITY {
-            let rest = self.words[at / 64] >> (at % 64);
-            if rest != 0 {
-                return at + u64::trailing_zeros(rest) as usize;
+        for i in 0..WORDS {
+            let k = lowest(self.words[i], above(from, 64 * i));
+            if k < 64 {
+                return 64 * i + k;
             }
-            at = (at / 64 + 1) * 64;
         }
         CAPACITY
+    }
+
+    // The set that has `name` alone.
+    fn only(name: usize) -> Names
+        requires { do ⌜ name < (← ⟦CAPACITY⟧) ⌝ }
+        ensures { λ r. ⌜ Only name (r .words) ⌝ }
+    {
+        let mut one = Names { words: [0; WORDS] };
+        for i in 0..WORDS {
+            one.words[i] = pick(i == name / 64, 1 << (name % 64), 0);
+        }
+        one
+    }
+
+    // The word at `at`.
+    fn word_at(self, at: usize) -> u64
+        requires { do ⌜ at < (← ⟦WORDS⟧) ⌝ }
+        ensures { λ r. ⌜ r ≡ getD (self .words) at 0 ⌝ }
+    {
+        let mut word = 0;
+        for i in 0..WORDS {
+            word = pick(i == at, self.words[i], word);
+        }
+        word
+    }
+}
+
+// `a` where `first` holds, and `b` where not.
+fn pick(first: bool, a: u64, b: u64) -> u64
+    ensures { λ r. ⌜ r ≡ cond first a b ⌝ }
+{
+    if first { a } else { b }
+}
+
+// How far `a` is above `b`: 0 where it is not.
+fn above(a: usize, b: usize) -> usize
+    ensures { λ r. ⌜ r ≡ a - b ⌝ }
+{
+    if b < a { a - b } else { 0 }
+}
+
+// The lowest set bit of `word` from bit `from` up: 64 or more where there is none.
+fn lowest(word: u64, from: usize) -> usize
+    ensures { λ r. ⌜ LowestBit word from r ⌝ }
+{
+    if from < 64 {
+        from + u64::trailing_zeros(word >> from) as usize
+    } else {
+        64
     }
 }
