@@ -1,0 +1,91 @@
+-- The line that question 5 gives, by the first count out of bounds.
+use mathlib.Core.Path.{_≡_, _∙_}
+use mathlib.Core.List.{List, [], _∷_}
+use Prim.Native.Nat.{ℕ, _+_, _≤_, _<_}
+use native.Mathlib.Omega.{arith}
+use borrow.Author.Tests.{lt-ltb, le-ltb, eq-eqb, ne-eqb}
+use Rattle.text.specs.Limits as limits
+use Rattle.text.specs.Sections.{sections}
+use Rattle.text.specs.Counts.{lineOf, overLine, noQueryLine, countFault}
+
+module _ (a b c d e : ℕ) where
+  abbrev ks : List ℕ
+  ks = a ∷ b ∷ c ∷ d ∷ e ∷ []
+
+  -- The lines of the headings behind the first.
+  abbrev pub builtInsLine : ℕ
+  builtInsLine = 1 + a + 2
+
+  abbrev pub expressionsLine : ℕ
+  expressionsLine = builtInsLine + b + 2
+
+  abbrev pub statementsLine : ℕ
+  statementsLine = expressionsLine + c + 2
+
+  abbrev pub queriesLine : ℕ
+  queriesLine = statementsLine + d + 2
+
+  -- A section is over its limit, or none is.
+  some-over : (n : ℕ) → overLine 1 sections ks ≡ n + 1 → countFault ks ≡ n + 1
+  unfolding countFault
+  some-over n h = rw (h, ne-eqb (n + 1) 0 (λ z. omega arith))
+
+  none-over : overLine 1 sections ks ≡ 0 → countFault ks ≡ noQueryLine ks
+  unfolding countFault
+  none-over h = rw h
+
+  pub names-over : limits.names < a → countFault ks ≡ 1 + limits.names + 1
+  unfolding overLine sections
+  names-over h = some-over (1 + limits.names) (rw (lt-ltb limits.names a h))
+
+  module _ (p : a ≤ limits.names) where
+    pub builtIns-over : limits.builtIns < b → countFault ks ≡ builtInsLine + limits.builtIns + 1
+    unfolding overLine sections
+    builtIns-over h = some-over (builtInsLine + limits.builtIns) (rw (le-ltb limits.names a p, lt-ltb limits.builtIns b h))
+
+    module _ (q : b ≤ limits.builtIns) where
+      pub expressions-over : limits.expressions < c → countFault ks ≡ expressionsLine + limits.expressions + 1
+      unfolding overLine sections
+      expressions-over h =
+          some-over (expressionsLine + limits.expressions)
+          (rw (le-ltb limits.names a p, le-ltb limits.builtIns b q, lt-ltb limits.expressions c h))
+
+      module _ (r : c ≤ limits.expressions) where
+        pub statements-over : limits.statements < d → countFault ks ≡ statementsLine + limits.statements + 1
+        unfolding overLine sections
+        statements-over h =
+            some-over (statementsLine + limits.statements)
+            (rw (le-ltb limits.names a p, le-ltb limits.builtIns b q, le-ltb limits.expressions c r, lt-ltb limits.statements d h))
+
+        module _ (s : d ≤ limits.statements) where
+          pub queries-over : limits.queries < e → countFault ks ≡ queriesLine + limits.queries + 1
+          unfolding overLine sections
+          queries-over h =
+              some-over (queriesLine + limits.queries)
+              (rw (
+                le-ltb limits.names a p,
+                le-ltb limits.builtIns b q,
+                le-ltb limits.expressions c r,
+                le-ltb limits.statements d s,
+                lt-ltb limits.queries e h,
+              ))
+
+          module _ (t : e ≤ limits.queries) where
+            in-bounds : countFault ks ≡ noQueryLine ks
+            unfolding overLine sections
+            in-bounds =
+                none-over (rw (
+                  le-ltb limits.names a p,
+                  le-ltb limits.builtIns b q,
+                  le-ltb limits.expressions c r,
+                  le-ltb limits.statements d s,
+                  le-ltb limits.queries e t,
+                ))
+
+            pub no-query : e ≡ 0 → countFault ks ≡ queriesLine
+            unfolding noQueryLine lineOf
+            no-query z = in-bounds ∙ rw (eq-eqb e 0 z) (omega arith)
+
+            pub some-query : (e ≡ 0 → ⊥) → countFault ks ≡ 0
+            unfolding noQueryLine
+            some-query n = in-bounds ∙ rw (ne-eqb e 0 n)

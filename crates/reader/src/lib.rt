@@ -1,0 +1,77 @@
+// The sheet as a whole: question 3, and the tables.
+
+use sections::Progress;
+ghost use mathlib.Core.Path.{_≡_};
+ghost use mathlib.Core.List.{[]};
+ghost use Prim.Native.Nat.{_≤_};
+ghost use lib.ListN.{length};
+ghost use Rattle.text.specs.Form.{faultOf};
+ghost use Rattle.sections.specs.Sections.{Sound, remaining};
+ghost use Rattle.reader.specs.Reads.{SheetRead};
+
+// The first line that has not the form, or 0; then how many rows each section has.
+pub struct Read {
+    pub fault: usize,
+    pub names: usize,
+    pub built_ins: usize,
+    pub expressions: usize,
+    pub statements: usize,
+    pub queries: usize,
+}
+
+// The line at fault behind the last section, or 0 where nothing stands there.
+fn end_fault(s: &[u8], p: Progress) -> usize
+    requires { ⌜ Sound (now s) p ⌝ }
+    ensures { λ r. ⌜ r ≡ faultOf (remaining [] (now (s .entry)) p) ⌝ }
+{
+    if p.good {
+        if p.next == s.len() {
+            return 0;
+        }
+    }
+    p.line
+}
+
+// Reads a sheet into the tables.
+pub fn read_sheet(s: &[u8], table: &mut [u16]) -> Read
+    requires { ⌜ 8192 ≤ length (now table) ⌝ }
+    ensures { λ r. ⌜ SheetRead (now (s .entry)) (now (table .entry)) r (now (table .exit)) ⌝ }
+{
+    let start = Progress {
+        good: true,
+        next: 0,
+        line: 1,
+        rows: 0,
+    };
+    let names = sections::section_at(s, start, b"name", tables::NAME_AREA, table);
+    let built_ins = sections::section_at(
+        s,
+        names,
+        b"arity first second third",
+        tables::BUILT_IN_AREA,
+        table,
+    );
+    let expressions = sections::section_at(
+        s,
+        built_ins,
+        b"kind name line col first second third next",
+        tables::EXPRESSION_AREA,
+        table,
+    );
+    let statements = sections::section_at(
+        s,
+        expressions,
+        b"form first second third query with next",
+        tables::STATEMENT_AREA,
+        table,
+    );
+    let queries = sections::section_at(s, statements, b"statement", tables::QUERY_AREA, table);
+    Read {
+        fault: end_fault(s, queries),
+        names: names.rows,
+        built_ins: built_ins.rows,
+        expressions: expressions.rows,
+        statements: statements.rows,
+        queries: queries.rows,
+    }
+}

@@ -1,0 +1,113 @@
+-- What reading a section gives: from one state of reading to the next.
+use mathlib.Core.Path.{_≡_, sym, ap, _∙_}
+use mathlib.Core.Bool.{true, false, cond}
+use mathlib.Core.List.{List, [], _∷_}
+use Prim.Native.Nat.{ℕ, suc, _+_, _≤_, _<_}
+use native.Mathlib.Omega.{arith}
+use lib.ListN.{length, drop, length-drop}
+use lib.Seq.{drop-drop}
+use Rattle.basics.specs.Truth.{not-both}
+use Rattle.text.specs.Lines.{lines, after}
+use Rattle.text.specs.Sections.{Section}
+use Rattle.text.specs.Form.{block, Sheet, faulty, also, filled, sheet}
+use Rattle.text.specs.FormLaws.{hasLine, behind-heading, sheet-none, sheet-some}
+use Rattle.tables.specs.declared.Area.{Area}
+use Rattle.tables.specs.Tables.{putRows}
+use Rattle.sections.specs.declared.Rows.{Rows}
+use Rattle.sections.specs.declared.Progress.{Progress}
+use Rattle.sections.specs.Blocks.{RowsRead}
+
+-- The next place is in the sheet, and each line in front of it took a byte.
+pub record Sound (s : List ℕ) (p : Progress) : Type 0 where
+  pub inside : p .good ≡ true → p .next ≤ length s
+  pub lined : p .good ≡ true → p .line ≤ p .next + 1
+  pub some : 0 < p .line
+
+-- What the text says of sections that are still to come.
+unfoldable pub remaining : List Section → List ℕ → Progress → Sheet
+remaining ss s p = cond (p .good) (sheet ss (p .line) (lines (drop (p .next) s))) (faulty (p .line))
+
+-- A section with heading h and rows for the area a is read from p on; r is behind it. Its rows are in the table e, which was d.
+pub record SectionRead (s : List ℕ) (p : Progress) (h : List ℕ) (a : Area) (d : List ℕ) (r : Progress) (e : List ℕ) : Type 0 where
+  pub sound : Sound s r
+  pub rows : List (List ℕ)
+  pub says : (c : Section) (ss : List Section) → c .heading ≡ h → c .width ≡ a .width
+      → remaining (c ∷ ss) s p ≡ also rows (remaining ss s r)
+  pub count : r .good ≡ true → r .rows ≡ length rows
+  pub table : r .good ≡ true → e ≡ putRows a 1 rows d
+  pub came : r .good ≡ true → p .good ≡ true
+
+module _ (s : List ℕ) (p : Progress) (h : List ℕ) where
+  -- Where the rows of a section start.
+  abbrev from : ℕ
+  from = p .next + length h + 1
+
+  module _ (y : p .good ≡ true) (o : Sound s p) (g : hasLine h (lines (drop (p .next) s)) ≡ true) where
+    behind : (from ≤ length s) × (after (lines (drop (p .next) s)) ≡ lines (drop from s))
+    behind =
+        let b = behind-heading h (drop (p .next) s) g in
+        let z : p .next + suc (length h) ≡ from = omega arith in (
+          omega (arith, b .inside, length-drop (p .next) s, o .inside y),
+          b .is ∙ ap lines (drop-drop (suc (length h)) (p .next) s ∙ ap (λ (j : ℕ). drop j s) z),
+        )
+
+    pub rows-start : from ≤ length s
+    rows-start = behind .0
+
+module _ (s : List ℕ) (p : Progress) (h : List ℕ) (a : Area) (d : List ℕ) where
+  -- A line is at fault: that is all that is said.
+  fails : (r : Progress) → r .good ≡ false → 0 < r .line
+      → ((c : Section) (ss : List Section) → c .heading ≡ h → c .width ≡ a .width → remaining (c ∷ ss) s p ≡ faulty (r .line))
+      → (e : List ℕ) → SectionRead s p h a d r e
+  unfolding remaining
+  fails r f z says e = record {
+    sound = record { inside = λ t. absurd (not-both t f); lined = λ t. absurd (not-both t f); some = z };
+    rows = [];
+    says = λ c ss u v. rw f (says c ss u v);
+    count = λ t. absurd (not-both t f);
+    table = λ t. absurd (not-both t f);
+    came = λ t. absurd (not-both t f);
+  }
+
+  -- It was at fault before.
+  pub section-before : p .good ≡ false → Sound s p → (e : List ℕ) → SectionRead s p h a d p e
+  unfolding remaining
+  section-before f o e = fails p f (o .some) (λ c ss u v. rw f) e
+
+  module _ (y : p .good ≡ true) (o : Sound s p) where
+    -- Its heading is not there.
+    pub section-none : hasLine h (lines (drop (p .next) s)) ≡ false → (r : Progress) → r .good ≡ false → r .line ≡ p .line
+        → (e : List ℕ) → SectionRead s p h a d r e
+    unfolding remaining
+    section-none g r f x e =
+        fails r f (omega (arith, o .some))
+        (λ c ss u v. rw (y, x) (sheet-none c ss (p .line) (lines (drop (p .next) s)) (rw u g))) e
+
+    module _ (g : hasLine h (lines (drop (p .next) s)) ≡ true) where
+      here : (c : Section) (ss : List Section) → c .heading ≡ h → c .width ≡ a .width
+          → sheet (c ∷ ss) (p .line) (lines (drop (p .next) s))
+          ≡ filled (p .line) (sheet ss) (block (a .width) (lines (drop (from s p h) s)))
+      here c ss u v = sheet-some c ss (p .line) (lines (drop (p .next) s)) (rw u g) ∙ rw (v, behind s p h y o g .1)
+
+      module _ {q : Rows} {e : List ℕ} (b : RowsRead s (from s p h) a d q e) (r : Progress) where
+        -- A row of it is at fault.
+        pub section-fault : q .good ≡ false → r .good ≡ false → r .line ≡ p .line + 1 + q .rows → SectionRead s p h a d r e
+        unfolding remaining
+        section-fault n f x =
+            fails r f (omega arith) (λ c ss u v. rw y (here c ss u v ∙ ap (filled (p .line) (sheet ss)) (b .fault n) ∙ ap faulty (sym x))) e
+
+        pub section-good : q .good ≡ true → r .good ≡ true → r .next ≡ q .next → r .line ≡ p .line + q .rows + 2 → r .rows ≡ q .rows
+            → SectionRead s p h a d r e
+        unfolding remaining
+        section-good n f x l m = record {
+          sound = record {
+            inside = λ t. omega (arith, b .next n .1);
+            lined = λ t. omega (arith, b .next n .0, o .lined y);
+            some = omega arith;
+          };
+          rows = b .done;
+          says = λ c ss u v. rw (y, f, x, l, ← b .count) (here c ss u v ∙ ap (filled (p .line) (sheet ss)) (b .ended n));
+          count = λ t. m ∙ sym (b .count);
+          table = λ t. b .table n;
+          came = λ t. y;
+        }

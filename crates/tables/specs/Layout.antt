@@ -1,0 +1,35 @@
+-- Where the rows of the sections stand in the tables: an area for each section, one behind the other.
+use mathlib.Core.Path.{_≡_, refl}
+use mathlib.Core.List.{List, [], _∷_}
+use Prim.Native.Nat.{ℕ, suc, _+_, _*_}
+use Rattle.text.specs.Sections.{Section, sections}
+use Rattle.tables.specs.declared.Area.{Area}
+
+module _ (a : Area) where
+  -- Where row r stands, counted from 1.
+  abbrev pub rowPlace : ℕ → ℕ
+  rowPlace r = a .start + a .width * r
+
+  -- The place behind the last row.
+  abbrev pub areaEnd : ℕ
+  areaEnd = rowPlace (suc (a .rows))
+
+-- The area of a section that starts at a place: room for as many rows as the section may have.
+abbrev pub areaOf : ℕ → Section → Area
+areaOf at s = record { start = at; width = s .width; rows = s .limit }
+
+unfoldable pub areasFrom : ℕ → List Section → List Area
+areasFrom at [] = []
+areasFrom at (s ∷ ss) = areaOf at s ∷ areasFrom (areaEnd (areaOf at s)) ss
+
+-- The areas of the five sections. The first eight entries are for counts.
+unfoldable pub areas : List Area
+areas = areasFrom 8 sections
+
+-- The same in numbers: names take no room.
+abbrev area : ℕ → ℕ → ℕ → Area
+area at k n = record { start = at; width = k; rows = n }
+
+areas-are : areas ≡ area 8 0 127 ∷ area 8 4 64 ∷ area 268 8 512 ∷ area 4372 7 128 ∷ area 5275 1 32 ∷ []
+unfolding areas areasFrom sections
+areas-are = refl

@@ -1,0 +1,15 @@
+pub mod Bytes
+pub mod Lines
+pub mod Numbers
+pub mod Limits
+pub mod Sections
+pub mod Form
+pub mod Names
+pub mod Counts
+pub mod Questions
+pub mod LineLaws
+pub mod DigitLaws
+pub mod WordLaws
+pub mod RowLaws
+pub mod FormLaws
+pub mod Trials

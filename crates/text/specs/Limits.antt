@@ -1,0 +1,30 @@
+-- The most that a sheet may have of each thing. The definitions say these numbers here alone.
+use Prim.Native.Nat.{ℕ}
+
+-- The bytes of a sheet.
+abbrev pub sheet : ℕ
+sheet = 32768
+
+-- The bytes of a name.
+abbrev pub name : ℕ
+name = 32
+
+-- A value.
+abbrev pub value : ℕ
+value = 65535
+
+-- The rows of each section.
+abbrev pub names : ℕ
+names = 127
+
+abbrev pub builtIns : ℕ
+builtIns = 64
+
+abbrev pub expressions : ℕ
+expressions = 512
+
+abbrev pub statements : ℕ
+statements = 128
+
+abbrev pub queries : ℕ
+queries = 32

@@ -1,0 +1,81 @@
+-- What reading a field gives, and the ways out of `field_at`.
+use mathlib.Core.Path.{_≡_, sym, ap, _∙_}
+use mathlib.Core.Bool.{true, false}
+use mathlib.Core.List.{List}
+use Prim.Native.Nat.{ℕ, suc, _+_, _≤_, _<_}
+use native.Mathlib.Omega.{arith}
+use lib.ListN.{length, getD, drop, length-drop}
+use lib.Seq.{getD-drop, drop-drop}
+use Rattle.basics.specs.Truth.{not-both}
+use Rattle.text.specs.Bytes.{newline, space}
+use Rattle.text.specs.Lines.{lines}
+use Rattle.text.specs.Numbers.{value, number}
+use Rattle.text.specs.DigitLaws.{digitsOf}
+use Rattle.text.specs.RowLaws.{fits, Spaced, Ended, starts-spaced, starts-ended, no-more, no-space, no-newline, no-number}
+use Rattle.values.specs.declared.Number.{Number}
+use Rattle.values.specs.declared.Field.{Field}
+use Rattle.values.specs.Numbers.{NumberRead}
+
+-- At a place stands a value and its separator; or no row of numbers goes on so there.
+pub record FieldRead (s : List ℕ) (at separator : ℕ) (r : Field) : Type 0 where
+  pub next : r .good ≡ true → (at < r .next) × (r .next ≤ length s)
+  pub spaced : r .good ≡ true → separator ≡ space → Spaced (drop at s) (r .value) (drop (r .next) s)
+  pub ended : r .good ≡ true → separator ≡ newline → Ended (drop at s) (r .value) (drop (r .next) s)
+  pub no-space : r .good ≡ false → separator ≡ space → (k : ℕ) → fits (suc (suc k)) (lines (drop at s)) ≡ false
+  pub no-newline : r .good ≡ false → separator ≡ newline → fits 1 (lines (drop at s)) ≡ false
+
+module _ (s : List ℕ) (at separator : ℕ) (high : at ≤ length s) (n : Number) (g : NumberRead (drop at s) at n) (r : Field) where
+  abbrev t : List ℕ
+  t = drop at s
+
+  -- No row of numbers starts there.
+  refused : r .good ≡ false → ((k : ℕ) → separator ≡ space → fits (suc (suc k)) (lines t) ≡ false)
+      → (separator ≡ newline → fits 1 (lines t) ≡ false) → FieldRead s at separator r
+  refused f spaces newlines = record {
+    next = λ y. absurd (not-both y f);
+    spaced = λ y. absurd (not-both y f);
+    ended = λ y. absurd (not-both y f);
+    no-space = λ y e k. spaces k e;
+    no-newline = λ y e. newlines e;
+  }
+
+  pub field-none : n .good ≡ false → r .good ≡ false → FieldRead s at separator r
+  field-none e f =
+      let no = sym (g .good) ∙ e in
+      refused f (λ k p. no-number t (suc k) no) (λ p. no-number t 0 no)
+
+  module _ (y : n .good ≡ true) where
+    is : number (digitsOf t) ≡ true
+    is = sym (g .good) ∙ y
+
+    byte : getD t (length (digitsOf t)) 0 ≡ getD s (n .end) 0
+    byte = getD-drop at s (length (digitsOf t)) 0 ∙ ap (λ (j : ℕ). getD s j 0) (sym (g .end y))
+
+    pub field-over : length s ≤ n .end → r .good ≡ false → FieldRead s at separator r
+    field-over h f =
+        let b : length t ≤ length (digitsOf t) = omega (arith, g .end y, length-drop at s) in
+        refused f (λ k p. no-more t (suc (suc k)) b) (λ p. no-more t 1 b)
+
+    module _ (h : n .end < length s) where
+      inside : length (digitsOf t) < length t
+      inside = omega (arith, g .end y, length-drop at s)
+
+      pub field-wrong : (getD s (n .end) 0 ≡ separator → ⊥) → r .good ≡ false → FieldRead s at separator r
+      field-wrong ne f =
+          refused f (λ k p. no-space t inside k (λ q. ne (sym byte ∙ q ∙ sym p)))
+          (λ p. no-newline t inside (λ q. ne (sym byte ∙ q ∙ sym p)))
+
+      pub field-good : getD s (n .end) 0 ≡ separator → r .good ≡ true → r .value ≡ n .value → r .next ≡ n .end + 1
+          → FieldRead s at separator r
+      field-good e f v x =
+          let z : at + suc (length (digitsOf t)) ≡ r .next = omega (arith, g .end y) in
+          let behind : drop (suc (length (digitsOf t))) t ≡ drop (r .next) s =
+          drop-drop (suc (length (digitsOf t))) at s ∙ ap (λ (j : ℕ). drop j s) z in
+          let is-value = sym (v ∙ g .value y) in
+          record {
+            next = λ w. (omega (arith, g .end y), omega arith);
+            spaced = λ w p. rw (is-value, behind) at (starts-spaced t inside is (byte ∙ e ∙ p));
+            ended = λ w p. rw (is-value, behind) at (starts-ended t inside is (byte ∙ e ∙ p));
+            no-space = λ w. absurd (not-both f w);
+            no-newline = λ w. absurd (not-both f w);
+          }
