@@ -16,6 +16,9 @@ pub const STATEMENTS: usize = 128;
 
 pub const QUERIES: usize = 32;
 
+// The deepest level of a query. Row 1 is level 1.
+pub const NESTING: usize = 8;
+
 // The entries that the tables have at least.
 pub const LENGTH: usize = 8192;
 

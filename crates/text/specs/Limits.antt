@@ -28,3 +28,7 @@ statements = 128
 
 abbrev pub queries : ℕ
 queries = 32
+
+-- The level of a query. Row 1 is level 1.
+abbrev pub nesting : ℕ
+nesting = 8

@@ -1,0 +1,10 @@
+pub mod Neither
+pub mod Accepted
+pub mod FineFields
+pub mod Kinds
+pub mod Rows
+pub mod Places
+pub mod Enclosed
+pub mod Levels
+pub mod Later
+pub mod Facts

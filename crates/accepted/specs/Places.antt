@@ -1,0 +1,72 @@
+-- Where the namings of an accepted sheet put their rows.
+use mathlib.Core.Path.{_≡_, refl, sym, ap, _∙_, subst}
+use mathlib.Core.Bool.{Bool, true, false, cond, _&&_}
+use mathlib.Core.List.{List, [], _∷_, List·Memᴰ, List·Memᴰ·head, List·Memᴰ·tail, List·Memᴰ·cases-cons, List·Memᴰ·not-nil}
+use mathlib.Core.Logic.{_⊎_, inl, inr, ⊎-elim}
+use Prim.Native.Nat.{ℕ, _+_, _/_, _≤_, _<_}
+use native.Mathlib.Omega.{arith}
+use lib.Dec.{eqb, leb, ltb}
+use borrow.Author.Tests.{le-leb, lt-ltb}
+use Rattle.basics.specs.Truth.{bool-cases, not-both}
+use Rattle.records.specs.declared.Counts.{Counts}
+use Rattle.records.specs.declared.Expr.{Expr}
+use Rattle.records.specs.declared.Statement.{Statement}
+use Rattle.records.specs.Layout.{exprAt, statementAt}
+use Rattle.fields.specs.declared.Field.{Field}
+use Rattle.fields.specs.Fields.{queries, fieldFrom, query, first, second, third, kindFields, limitOf}
+use Rattle.naming.specs.Entries.{Entry, queryRow, statementRow, exprRow, target, placeOf, nextField, exprEntry, exprEntries, statementEntries, queryEntries}
+use Rattle.naming.specs.Faults.{isMember}
+use Rattle.naming.specs.PlaceLaws.{each}
+use Rattle.accepted.specs.FineFields.{Fine}
+use Rattle.naming.specs.EnclosingLaws.{queryOf}
+use Rattle.accepted.specs.Rows.{FineExpr}
+use Rattle.accepted.specs.Kinds.{Termed, termed-name, termed-first, termed-second, termed-third}
+
+module _ (c : Counts) (t : List ℕ) where
+  -- A comprehension's query, if it is set.
+  target-query : (v : ℕ) → 1 ≤ v → v ≤ c .queries → target c (fieldFrom query) v ≡ v
+  unfolding target fieldFrom
+  target-query v a b = rw (lt-ltb 0 v a, le-leb v (c .queries) b)
+
+  -- A part lies where its whole does, and a term in the comprehension's query.
+  pub record Lies (r : ℕ) (e : Entry) : Type 0 where
+    pub part : e .field .term ≡ false → e .place ≡ exprRow r
+    pub term : e .field .term ≡ true → (1 ≤ e .place) × (e .place ≤ c .queries)
+    pub no-query : e .field .section ≡ queries → e .field .term ≡ false
+
+  module _ (r : ℕ) (x : FineExpr c t r) where
+    kind : ℕ
+    kind = exprAt t r .kind
+
+    -- Where the third is a query, it is set.
+    third-set : fieldFrom (kindFields kind / third) ≡ fieldFrom query → (1 ≤ exprAt t r .third) × (exprAt t r .third ≤ c .queries)
+    unfolding kind exprEntries fieldFrom
+    third-set e =
+        let f = x .fields {e = exprEntry c t r (fieldFrom (kindFields kind / third)) (exprAt t r .third)}
+        (List·Memᴰ·tail (List·Memᴰ·tail (List·Memᴰ·tail (List·Memᴰ·head refl)))) in
+        let s : fieldFrom (kindFields kind / third) .set ≡ true = ap (λ (g : Field). g .set) e in
+        (f .is-set s, subst (λ (g : Field). exprAt t r .third ≤ limitOf c (g .section)) e (f .in-range))
+
+    lies : (n v : ℕ) → Termed kind n → Lies r (exprEntry c t r (fieldFrom n) v)
+    unfolding placeOf
+    lies n v h = record {
+      part = λ p. rw p;
+      term = λ p. let s = third-set (h .third-is-query p) in rw (p, target-query (exprAt t r .third) (s .0) (s .1)) s;
+      no-query = h .query-is-no-term;
+    }
+
+    next-lies : (b : Bool) (v : ℕ) → Lies r (exprEntry c t r (nextField b) v)
+    unfolding placeOf fieldFrom
+    next-lies true v = record { part = λ p. refl; term = λ p. absurd (not-both p refl); no-query = λ p. refl }
+    next-lies false v = record { part = λ p. refl; term = λ p. absurd (not-both p refl); no-query = λ p. refl }
+
+    pub expr-place : {e : Entry} → List·Memᴰ e (exprEntries c t (isMember c t r) r) → Lies r e
+    unfolding exprEntries kind
+    expr-place m =
+        each (Lies r) _ (
+          lies _ _ (termed-name kind),
+          (
+            lies _ _ (termed-first kind),
+            (lies _ _ (termed-second kind), (lies _ _ (termed-third kind), (next-lies (isMember c t r) (exprAt t r .next), tt))),
+          ),
+        ) m

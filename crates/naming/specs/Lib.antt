@@ -1,0 +1,12 @@
+pub mod Entries
+pub mod Namings
+pub mod Nesting
+pub mod Chains
+pub mod Faults
+pub mod Lines
+pub mod Laws
+pub mod GrownLaws
+pub mod Stages
+pub mod Origins
+pub mod PlaceLaws
+pub mod EnclosingLaws

@@ -1,0 +1,47 @@
+-- The query that encloses a row, and the level of a query, where rows that are named so tell them; 0 where they do not.
+use mathlib.Core.Bool.{Bool, true, false, cond}
+use mathlib.Core.List.{List, [], _∷_, _++_}
+use Prim.Native.Nat.{ℕ, zero, suc}
+use lib.Dec.{eqb}
+use lib.ListN.{getD}
+use Rattle.records.specs.declared.Counts.{Counts}
+use Rattle.naming.specs.Entries.{queryRow, exprRow, isQuery}
+use Rattle.naming.specs.Namings.{Naming, namers, upwards, namings}
+
+-- A list whose next element each time follows from those before it; element 0 is 0.
+unfoldable pub grown : (List ℕ → ℕ → ℕ) → ℕ → List ℕ
+grown f zero = 0 ∷ []
+grown f (suc k) = let l = grown f k in l ++ (f l (suc k) ∷ [])
+
+-- Where row k lies, by these namings of it, if the rows before lie in the queries l.
+abbrev pub lying : List ℕ → ℕ → List Naming → ℕ
+lying l k [] = 0
+lying l k (x ∷ []) = cond (upwards (x .by) k) (getD l (x .place) 0) 0
+lying l k (x ∷ y ∷ xs) = 0
+
+-- A query is where its rows lie.
+abbrev pub enclosingOf : List Naming → List ℕ → ℕ → ℕ
+enclosingOf ns l k = cond (isQuery k) k (lying l k (namers k ns))
+
+-- One step deeper, where the level above is known.
+abbrev pub deeper : ℕ → ℕ
+deeper zero = zero
+deeper (suc l) = suc (suc l)
+
+module _ (c : Counts) (t : List ℕ) where
+  -- The query that encloses each row.
+  unfoldable pub enclosing : List ℕ
+  enclosing = grown (enclosingOf (namings c t)) (exprRow (c .exprs))
+
+  -- The query that encloses query q: that of the row that names it.
+  unfoldable pub parent : ℕ → ℕ
+  parent q = lying enclosing q (namers (queryRow q) (namings c t))
+
+  -- The level of query q, if row 1 is found in fewer than n steps upwards.
+  unfoldable pub levelIn : ℕ → ℕ → ℕ
+  levelIn zero q = zero
+  levelIn (suc n) q = cond (eqb q 1) 1 (deeper (levelIn n (parent q)))
+
+  -- The level of query q. No way up to row 1 has more queries than there are.
+  unfoldable pub level : ℕ → ℕ
+  level q = levelIn (c .queries) q

@@ -1,0 +1,77 @@
+-- The rows of a sheet as they stand in the tables, and the bounds of their number. Rows count from 1.
+use mathlib.Core.List.{List}
+use Prim.Native.Nat.{ℕ, _+_, _*_, _≤_}
+use lib.ListN.{getD}
+use Rattle.text.specs.Limits as limits
+use Rattle.records.specs.declared.Counts.{Counts}
+use Rattle.records.specs.declared.Builtin.{Builtin}
+use Rattle.records.specs.declared.Expr.{Expr}
+use Rattle.records.specs.declared.Statement.{Statement}
+
+-- ---- the bounds
+
+abbrev pub mostNames : ℕ
+mostNames = limits.names
+
+abbrev pub mostBuiltins : ℕ
+mostBuiltins = limits.builtIns
+
+abbrev pub mostExprs : ℕ
+mostExprs = limits.expressions
+
+abbrev pub mostStatements : ℕ
+mostStatements = limits.statements
+
+abbrev pub mostQueries : ℕ
+mostQueries = limits.queries
+
+-- The deepest level of a query. Row 1 is level 1.
+abbrev pub deepest : ℕ
+deepest = limits.nesting
+
+-- The counts are in bounds.
+pub record Within (c : Counts) : Type 0 where
+  pub few-names : c .names ≤ mostNames
+  pub few-builtins : c .builtins ≤ mostBuiltins
+  pub few-exprs : c .exprs ≤ mostExprs
+  pub few-statements : c .statements ≤ mostStatements
+  pub few-queries : c .queries ≤ mostQueries
+  pub some-query : 1 ≤ c .queries
+
+-- ---- the rows: a section's row r stands at its area and r times its width
+
+module _ (t : List ℕ) where
+  abbrev pub builtinAt : ℕ → Builtin
+  builtinAt r =
+      let at = 8 + 4 * r in
+      record { arity = getD t at 0; first = getD t (at + 1) 0; second = getD t (at + 2) 0; third = getD t (at + 3) 0 }
+
+  -- The columns 2 and 3 are the expression's line and column.
+  abbrev pub exprAt : ℕ → Expr
+  exprAt r =
+      let at = 268 + 8 * r in
+      record {
+        kind = getD t at 0;
+        name = getD t (at + 1) 0;
+        first = getD t (at + 4) 0;
+        second = getD t (at + 5) 0;
+        third = getD t (at + 6) 0;
+        next = getD t (at + 7) 0;
+      }
+
+  abbrev pub statementAt : ℕ → Statement
+  statementAt r =
+      let at = 4372 + 7 * r in
+      record {
+        form = getD t at 0;
+        first = getD t (at + 1) 0;
+        second = getD t (at + 2) 0;
+        third = getD t (at + 3) 0;
+        query = getD t (at + 4) 0;
+        with = getD t (at + 5) 0;
+        next = getD t (at + 6) 0;
+      }
+
+  -- The first statement of query r, or 0.
+  abbrev pub firstAt : ℕ → ℕ
+  firstAt r = getD t (5275 + r) 0
