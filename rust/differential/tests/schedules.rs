@@ -96,6 +96,18 @@ fn the_longest_rounds_are_placed() {
 }
 
 #[test]
+fn a_small_stack_is_enough() {
+    let worst = List::longest_rounds(128, 5);
+    let thread = std::thread::Builder::new().stack_size(64 << 10);
+    let call = move || {
+        let (mut order, mut reached) = ([0; 128], [0; 128]);
+        nokchbem::schedule(&worst.rows(), 128, &mut order, &mut reached)
+    };
+    let placed = thread.spawn(call).expect("a thread").join();
+    assert_eq!(placed.expect("no overflow"), Ok(true));
+}
+
+#[test]
 fn every_ended_walk_takes_what_is_marked_reached() {
     let mut rng = Rng::new(11);
     for _ in 0..4_000 {
