@@ -1,0 +1,150 @@
+-- The query that encloses each row, put into its mark in the place's stead, rows in ascending order.
+use mathlib.Core.Path.{_≡_, refl, sym, ap, _∙_, subst}
+use mathlib.Core.Bool.{Bool, true, false, cond}
+use mathlib.Core.List.{List, [], _∷_, _++_}
+use mathlib.Core.Logic.{_⊎_, inl, inr, ⊎-elim}
+use Prim.Native.Nat.{ℕ, zero, suc, _+_, _*_, _/_, _%_, _≤_, _<_}
+use native.Mathlib.Omega.{arith}
+use lib.Dec.{eqb, leb, ltb}
+use lib.ListN.{length, getD, set, length-set, List·getD-eq-default}
+use lib.Seq.{getD-set-same, getD-set-other}
+use borrow.Author.Tests.{eqb-true, eqb-false, eq-eqb, ne-eqb, leb-true, leb-false, le-leb, lt-leb, ltb-true, ltb-false, le-ltb, lt-ltb}
+use Rattle.basics.specs.Truth.{bool-cases, lt-cases}
+use Rattle.naming.specs.Namings.{Naming, namers, upwards, inChain}
+use Rattle.naming.specs.Nesting.{grown, lying, enclosingOf}
+use Rattle.naming.specs.GrownLaws.{grown-length, grown-at, grown-before}
+use Rattle.marks.specs.Codes.{onceOf, codeOf, once-so}
+use Rattle.marks.specs.Marks.{Marks}
+
+-- The query of row p, as the marks up to row n have it.
+unfoldable pub homeOf : ℕ → ℕ → List ℕ → ℕ
+homeOf n p w = cond (ltb n p) 0 (cond (leb p 32) p (getD w p 0 / 8))
+
+-- A mark with its row's query for its place.
+unfoldable pub settled : ℕ → ℕ → ℕ
+settled v home = cond (eqb (v % 4) 1) (v % 8 + 8 * home) v
+
+-- The row after n.
+unfoldable pub settleNext : ℕ → List ℕ → List ℕ
+settleNext n w = set w (n + 1) (settled (getD w (n + 1) 0) (homeOf n (getD w (n + 1) 0 / 8) w))
+
+-- Rows up to n have their query in their marks; queries and later rows their place.
+pub record Settled (ns : List Naming) (n : ℕ) (w : List ℕ) : Type 0 where
+  pub room : 673 ≤ length w
+  pub low : (j : ℕ) → j < 673 → getD w j 0 % 8 ≡ codeOf j (namers j ns) % 8
+  pub queries : (j : ℕ) → j ≤ 32 → getD w j 0 ≡ codeOf j (namers j ns)
+  pub later : (j : ℕ) → j < 673 → n < j → getD w j 0 ≡ codeOf j (namers j ns)
+  pub homes : (j : ℕ) → 32 < j → j ≤ n → getD w j 0 / 8 ≡ getD (grown (enclosingOf ns) n) j 0
+
+pub settled-start : (ns : List Naming) (w : List ℕ) → Marks ns w → Settled ns 32 w
+settled-start ns w m = record {
+  room = m .room;
+  low = λ j h. ap (λ (v : ℕ). v % 8) (m .code j h);
+  queries = λ j h. m .code j (omega arith);
+  later = λ j h l. m .code j h;
+  homes = λ j h l. absurd (omega arith);
+}
+
+-- ---- what a mark becomes
+
+once-home : (up chain : Bool) (p h : ℕ) → settled (onceOf up chain p) h / 8 ≡ cond up h 0
+unfolding settled
+once-home true true p h = rw (once-so true true p) (omega arith)
+once-home true false p h = rw (once-so true false p) (omega arith)
+once-home false chain p h = refl
+
+once-place : (up chain : Bool) (p : ℕ) → onceOf up chain p / 8 ≡ cond up p 0
+once-place true true p = omega arith
+once-place true false p = omega arith
+once-place false chain p = refl
+
+many-home : (b : Bool) (h : ℕ) → _≡_ {A = ℕ} (settled (cond b 6 2) h / 8) 0
+unfolding settled
+many-home true h = refl
+many-home false h = refl
+
+settled-low : (v h : ℕ) → settled v h % 8 ≡ v % 8
+unfolding settled
+settled-low v h = go (bool-cases (eqb (v % 4) 1))
+  where
+    go : (eqb (v % 4) 1 ≡ true) ⊎ (eqb (v % 4) 1 ≡ false) → settled v h % 8 ≡ v % 8
+    go (inl p) = rw p (omega arith)
+    go (inr p) = rw p
+
+-- The query of a row with these namings, by the queries l of the rows before.
+pub settled-home : (l : List ℕ) (k : ℕ) (xs : List Naming) (home : ℕ → ℕ) → ((p : ℕ) → home p ≡ getD l p 0)
+    → settled (codeOf k xs) (home (codeOf k xs / 8)) / 8 ≡ lying l k xs
+unfolding settled
+settled-home l k [] home e = refl
+settled-home l k (x ∷ []) home e =
+    once-home (upwards (x .by) k) (x .chain) (x .place) (home (onceOf (upwards (x .by) k) (x .chain) (x .place) / 8))
+    ∙ ap (λ (p : ℕ). cond (upwards (x .by) k) (home p) 0) (once-place (upwards (x .by) k) (x .chain) (x .place))
+    ∙ go (upwards (x .by) k)
+  where
+    go : (b : Bool) → cond b (home (cond b (x .place) 0)) 0 ≡ cond b (getD l (x .place) 0) 0
+    go true = e (x .place)
+    go false = refl
+settled-home l k (x ∷ y ∷ xs) home e = many-home (inChain k (x ∷ y ∷ xs)) (home (codeOf k (x ∷ y ∷ xs) / 8))
+
+-- ---- the query of an earlier row
+
+module _ (ns : List Naming) (n : ℕ) (w : List ℕ) (s : Settled ns n w) (big : 32 ≤ n) where
+  query-home : (p : ℕ) → p ≤ 32 → p ≡ getD (grown (enclosingOf ns) n) p 0
+  unfolding grown
+  query-home zero h = grown-zero n
+    where
+      grown-zero : (n : ℕ) → 0 ≡ getD (grown (enclosingOf ns) n) 0 0
+      grown-zero n = grown-before (enclosingOf ns) n 0 0 (omega arith) (omega arith)
+  query-home (suc p) h =
+      sym (grown-at (enclosingOf ns) n p (omega arith)
+      ∙ ap (λ (b : Bool). cond b (suc p) (lying (grown (enclosingOf ns) p) (suc p) (namers (suc p) ns))) (le-leb (suc p) 32 h))
+
+  pub home-is : (p : ℕ) → homeOf n p w ≡ getD (grown (enclosingOf ns) n) p 0
+  unfolding homeOf
+  home-is p = go (lt-cases n p) (lt-cases 32 p)
+    where
+      go : (n < p) ⊎ (p ≤ n) → (32 < p) ⊎ (p ≤ 32) → homeOf n p w ≡ getD (grown (enclosingOf ns) n) p 0
+      go (inl l) q =
+          rw (lt-ltb n p l) (sym (List·getD-eq-default (grown (enclosingOf ns) n) 0 {n = p} (omega (arith, grown-length (enclosingOf ns) n))))
+      go (inr l) (inl q) = rw (le-ltb n p l, lt-leb p 32 q) (s .homes p q l)
+      go (inr l) (inr q) = rw (le-ltb n p l, le-leb p 32 q) (query-home p q)
+
+  next-home : (k : ℕ) → k ≡ suc n → k < 673
+      → settled (getD w k 0) (homeOf n (getD w k 0 / 8) w) / 8 ≡ getD (grown (enclosingOf ns) (suc n)) k 0
+  next-home k e h =
+      ap (λ (v : ℕ). settled v (homeOf n (v / 8) w) / 8) (s .later k h (omega arith))
+      ∙ settled-home (grown (enclosingOf ns) n) k (namers k ns) (λ p. homeOf n p w) home-is
+      ∙ sym (ap (λ (j : ℕ). getD (grown (enclosingOf ns) (suc n)) j 0) e ∙ grown-at (enclosingOf ns) (suc n) n (omega arith)
+      ∙ ap (λ (b : Bool). cond b (suc n) (lying (grown (enclosingOf ns) n) (suc n) (namers (suc n) ns))) (lt-leb (suc n) 32 (omega arith))
+      ∙ ap (λ (j : ℕ). lying (grown (enclosingOf ns) n) j (namers j ns)) (sym e))
+
+  -- One row more.
+  pub settled-next : n + 1 < 673 → Settled ns (n + 1) (settleNext n w)
+  unfolding settleNext
+  settled-next h =
+      let r = s .room in
+      let k = n + 1 in
+      let v = settled (getD w (n + 1) 0) (homeOf n (getD w (n + 1) 0 / 8) w) in
+      let here : getD (set w (n + 1) v) (n + 1) 0 ≡ v = getD-set-same w (n + 1) v 0 (omega arith) in
+      record {
+        room = omega (arith, length-set w (n + 1) v);
+        low = λ j l. ⊎-elim
+            (λ (q : eqb (n + 1) j ≡ true).
+            subst (λ (i : ℕ). getD (set w (n + 1) v) i 0 % 8 ≡ codeOf i (namers i ns) % 8) (eqb-true (n + 1) j q)
+            (ap (λ (u : ℕ). u % 8) here ∙ settled-low (getD w (n + 1) 0) (homeOf n (getD w (n + 1) 0 / 8) w) ∙ s .low (n + 1) h))
+            (λ (q : eqb (n + 1) j ≡ false).
+            ap (λ (u : ℕ). u % 8) (getD-set-other w (n + 1) j v 0 (λ z. eqb-false (n + 1) j q (sym z))) ∙ s .low j l)
+            (bool-cases (eqb (n + 1) j));
+        queries = λ j l. getD-set-other w (n + 1) j v 0 (λ z. omega arith) ∙ s .queries j l;
+        later = λ j l q. getD-set-other w (n + 1) j v 0 (λ z. omega arith) ∙ s .later j l (omega arith);
+        homes = λ j l q. ⊎-elim
+            (λ (z : eqb (n + 1) j ≡ true).
+            subst (λ (i : ℕ). getD (set w (n + 1) v) i 0 / 8 ≡ getD (grown (enclosingOf ns) (n + 1)) i 0) (eqb-true (n + 1) j z)
+            (ap (λ (u : ℕ). u / 8) here ∙ next-home (n + 1) (omega arith) h
+            ∙ ap (λ (i : ℕ). getD (grown (enclosingOf ns) i) (n + 1) 0) (omega arith)))
+            (λ (z : eqb (n + 1) j ≡ false).
+            let ne = eqb-false (n + 1) j z in
+            ap (λ (u : ℕ). u / 8) (getD-set-other w (n + 1) j v 0 (λ y. ne (sym y))) ∙ s .homes j l (omega arith)
+            ∙ grown-before (enclosingOf ns) (n + 1) n j (omega arith) (omega arith))
+            (bool-cases (eqb (n + 1) j));
+      }

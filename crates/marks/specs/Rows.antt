@@ -1,0 +1,120 @@
+-- The fields of a row that is in hand, and the marks row by row.
+use mathlib.Core.Path.{_≡_, refl, sym, ap, _∙_, subst}
+use mathlib.Core.Bool.{Bool, true, false, cond}
+use mathlib.Core.Logic.{_⊎_, inl, inr, ⊎-elim}
+use Rattle.basics.specs.Truth.{bool-cases, eq-cases}
+use mathlib.Core.List.{List, [], _∷_, _++_}
+use Prim.Native.Nat.{ℕ, suc, _+_, _/_, _%_, _≤_, _<_}
+use native.Mathlib.Numerals.{add-one}
+use native.Mathlib.Omega.{arith}
+use lib.Dec.{eqb}
+use lib.ListN.{length, getD, set}
+use lib.Seq.{getD-set-same, getD-set-other}
+use Rattle.records.specs.declared.Counts.{Counts}
+use Rattle.records.specs.declared.Expr.{Expr}
+use Rattle.records.specs.declared.Statement.{Statement}
+use Rattle.records.specs.Layout.{Within, exprAt, statementAt}
+use Rattle.fields.specs.declared.Field.{Field}
+use Rattle.fields.specs.Fields.{fieldFrom, chainOrNone, statementOrNone, query, first, second, third, kindFields, formFields}
+use Rattle.naming.specs.Entries.{Entry, queryRow, statementRow, exprRow, placeOf, nextField, exprEntries, statementEntries, queryEntries}
+use Rattle.naming.specs.Namings.{namers, inChain, byQueries, byStatements, byExprs}
+use Rattle.marks.specs.Codes.{code-member}
+use Rattle.marks.specs.Marks.{Marks, nameWork, rowWork, marks-row, target-bound}
+
+abbrev pub fieldOf : ℕ → Field → ℕ → Entry
+fieldOf r f v = record { field = f; value = v; place = statementRow r }
+
+abbrev pub fieldsOf : Statement → ℕ → List Entry
+fieldsOf x r =
+    fieldOf r (fieldFrom (formFields (x .form))) (x .query)
+    ∷ fieldOf r (fieldFrom (formFields (x .form) / first)) (x .first)
+    ∷ fieldOf r (fieldFrom (formFields (x .form) / second)) (x .second)
+    ∷ fieldOf r (fieldFrom (formFields (x .form) / third)) (x .third)
+    ∷ fieldOf r (fieldFrom chainOrNone) (x .with) ∷ fieldOf r (fieldFrom statementOrNone) (x .next) ∷ []
+
+module _ (c : Counts) where
+  abbrev pub partOf : Expr → ℕ → Field → ℕ → Entry
+  partOf x r f v = record { field = f; value = v; place = placeOf c f x r }
+
+  abbrev pub partsOf : Bool → Expr → ℕ → List Entry
+  partsOf member x r =
+      partOf x r (fieldFrom (kindFields (x .kind))) (x .name)
+      ∷ partOf x r (fieldFrom (kindFields (x .kind) / first)) (x .first)
+      ∷ partOf x r (fieldFrom (kindFields (x .kind) / second)) (x .second)
+      ∷ partOf x r (fieldFrom (kindFields (x .kind) / third)) (x .third)
+      ∷ partOf x r (nextField member) (x .next) ∷ []
+
+  module _ (t : List ℕ) where
+    pub parts-are : (member : Bool) (r : ℕ) → partsOf member (exprAt t r) r ≡ exprEntries c t member r
+    unfolding exprEntries
+    parts-are member r = refl
+
+    pub fields-are : (r : ℕ) → fieldsOf (statementAt t r) r ≡ statementEntries c t r
+    unfolding statementEntries
+    fields-are r = refl
+
+-- ---- one row more
+
+module _ (c : Counts) (t : List ℕ) (within : Within c) where
+  pub next-query : (q : ℕ) (w : List ℕ) → Marks (byQueries c t q) w
+      → Marks (byQueries c t (q + 1)) (rowWork c (queryRow (q + 1)) (queryEntries c t (q + 1)) w)
+  unfolding byQueries
+  next-query q w m = rw (add-one q) (marks-row c within (queryRow (suc q)) (queryEntries c t (suc q)) (byQueries c t q) w m)
+
+  pub next-statement : (s : ℕ) (w : List ℕ) → Marks (byStatements c t s) w
+      → Marks (byStatements c t (s + 1)) (rowWork c (statementRow (s + 1)) (fieldsOf (statementAt t (s + 1)) (s + 1)) w)
+  unfolding byStatements
+  next-statement s w m =
+      rw (fields-are c t (s + 1), add-one s)
+      (marks-row c within (statementRow (suc s)) (statementEntries c t (suc s)) (byStatements c t s) w m)
+
+  -- The rows before have told whether the row is a member of a chain.
+  pub next-expr : (r : ℕ) (w : List ℕ) → r < 512 → Marks (byExprs c t r) w
+      → Marks (byExprs c t (r + 1))
+      (rowWork c (exprRow (r + 1)) (partsOf c (eqb (getD w (160 + (r + 1)) 0 / 4 % 2) 1) (exprAt t (r + 1)) (r + 1)) w)
+  unfolding byExprs
+  next-expr r w h m =
+      rw (m .code (160 + (r + 1)) (omega arith), code-member (160 + (r + 1)) (namers (160 + (r + 1)) (byExprs c t r)))
+      (rw (parts-are c t (inChain (160 + (r + 1)) (namers (160 + (r + 1)) (byExprs c t r))) (r + 1), add-one r)
+      (marks-row c within (exprRow (suc r)) (exprEntries c t (inChain (exprRow (suc r)) (namers (exprRow (suc r)) (byExprs c t r))) (suc r)) (byExprs c t r) w m))
+
+-- Where a part lies is one of the rows.
+pub place-bound : (c : Counts) → Within c → (f : Field) (x : Expr) (r : ℕ) → r ≤ 512 → placeOf c f x r ≤ 672
+unfolding placeOf
+place-bound c within f x r h = go (bool-cases (f .term))
+  where
+    go : (f .term ≡ true) ⊎ (f .term ≡ false) → placeOf c f x r ≤ 672
+    go (inl p) = rw p (target-bound c within (fieldFrom query) (x .third))
+    go (inr p) = rw p (omega arith)
+
+-- ---- the fields of a row one after the other
+
+pub fields-work : (c : Counts) (x : Statement) (r fs : ℕ) (w u v y z a b : List ℕ) → fs ≡ formFields (x .form)
+    → u ≡ nameWork c (statementRow r) (fieldOf r (fieldFrom fs) (x .query)) w
+    → v ≡ nameWork c (statementRow r) (fieldOf r (fieldFrom (fs / first)) (x .first)) u
+    → y ≡ nameWork c (statementRow r) (fieldOf r (fieldFrom (fs / second)) (x .second)) v
+    → z ≡ nameWork c (statementRow r) (fieldOf r (fieldFrom (fs / third)) (x .third)) y
+    → a ≡ nameWork c (statementRow r) (fieldOf r (fieldFrom chainOrNone) (x .with)) z
+    → b ≡ nameWork c (statementRow r) (fieldOf r (fieldFrom statementOrNone) (x .next)) a
+    → b ≡ rowWork c (statementRow r) (fieldsOf x r) w
+unfolding rowWork
+fields-work c x r fs w u v y z a b e p q s t m n = rw (n, m, t, s, q, p, e)
+
+pub parts-work : (c : Counts) (x : Expr) (r : ℕ) (member : Bool) (fs next : ℕ) (w u v y z a : List ℕ)
+    → fs ≡ kindFields (x .kind) → next ≡ cond member chainOrNone 0
+    → u ≡ nameWork c (exprRow r) (partOf c x r (fieldFrom fs) (x .name)) w
+    → v ≡ nameWork c (exprRow r) (partOf c x r (fieldFrom (fs / first)) (x .first)) u
+    → y ≡ nameWork c (exprRow r) (partOf c x r (fieldFrom (fs / second)) (x .second)) v
+    → z ≡ nameWork c (exprRow r) (partOf c x r (fieldFrom (fs / third)) (x .third)) y
+    → a ≡ nameWork c (exprRow r) (partOf c x r (fieldFrom next) (x .next)) z
+    → a ≡ rowWork c (exprRow r) (partsOf c member x r) w
+unfolding rowWork
+parts-work c x r member fs next w u v y z a e f p q s t m = rw (m, t, s, q, p, e, f)
+
+-- ---- zeros
+
+pub zeros-more : (w : List ℕ) (k : ℕ) → k < length w → ((j : ℕ) → j < k → getD w j 0 ≡ 0)
+    → (j : ℕ) → j < k + 1 → getD (set w k 0) j 0 ≡ 0
+zeros-more w k h zeros j l =
+    ⊎-elim (λ (p : j ≡ k). ap (λ (i : ℕ). getD (set w k 0) i 0) p ∙ getD-set-same w k 0 0 h)
+    (λ (p : j ≡ k → ⊥). getD-set-other w k j 0 0 p ∙ zeros j (omega arith)) (eq-cases j k)
