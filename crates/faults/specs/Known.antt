@@ -1,0 +1,36 @@
+-- What the marks in memory tell of the rows.
+use mathlib.Core.Path.{_≡_, refl, sym, ap, _∙_}
+use mathlib.Core.Bool.{Bool}
+use mathlib.Core.List.{List}
+use Prim.Native.Nat.{ℕ, _/_, _%_, _≤_, _<_, _+_}
+use native.Mathlib.Omega.{arith}
+use lib.Dec.{eqb}
+use lib.ListN.{length, getD}
+use Rattle.records.specs.declared.Counts.{Counts}
+use Rattle.records.specs.Layout.{Within}
+use Rattle.naming.specs.Entries.{exprRow}
+use Rattle.naming.specs.Namings.{namers, namedSo, inChain, namings}
+use Rattle.naming.specs.Nesting.{enclosing}
+use Rattle.marks.specs.Codes.{codeOf, code-so, code-member}
+use Rattle.marks.specs.Homes.{Settled}
+
+-- The tables and the counts are in bounds, and the memory holds the marks of the rows.
+pub record Known (c : Counts) (t w : List ℕ) : Type 0 where
+  pub tables : 8192 ≤ length t
+  pub within : Within c
+  pub marks : Settled (namings c t) (exprRow (c .exprs)) w
+
+module _ (c : Counts) (t w : List ℕ) (known : Known c t w) (k : ℕ) where
+  pub so-is : k < 673 → eqb (getD w k 0 % 4) 1 ≡ namedSo k (namers k (namings c t))
+  so-is h =
+      let e : getD w k 0 % 4 ≡ codeOf k (namers k (namings c t)) % 4 = omega (arith, known .marks .low k h) in
+      ap (λ (v : ℕ). eqb v 1) e ∙ code-so k (namers k (namings c t))
+
+  pub member-is : k < 673 → eqb (getD w k 0 / 4 % 2) 1 ≡ inChain k (namers k (namings c t))
+  member-is h =
+      let e : getD w k 0 / 4 % 2 ≡ codeOf k (namers k (namings c t)) / 4 % 2 = omega (arith, known .marks .low k h) in
+      ap (λ (v : ℕ). eqb v 1) e ∙ code-member k (namers k (namings c t))
+
+  pub query-is : 32 < k → k ≤ exprRow (c .exprs) → getD w k 0 / 8 ≡ getD (enclosing c t) k 0
+  unfolding enclosing
+  query-is h l = known .marks .homes k h l

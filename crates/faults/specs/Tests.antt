@@ -1,0 +1,203 @@
+-- The tests of a row as the code makes them: of a row that is in hand, and its mark.
+use mathlib.Core.Path.{_≡_, refl, sym, ap, _∙_, subst}
+use mathlib.Core.Bool.{Bool, true, false, not, cond, _&&_, _||_, or-false}
+use mathlib.Core.List.{List, [], _∷_}
+use mathlib.Core.Logic.{_⊎_, inl, inr}
+use Prim.Native.Nat.{ℕ, zero, suc, _+_, _-_, _/_, _%_, _≤_, _<_}
+use native.Mathlib.Numerals.{add-one}
+use native.Mathlib.Omega.{arith}
+use lib.Dec.{eqb, leb, ltb}
+use lib.ListN.{length, getD}
+use borrow.Author.Tests.{eqb-true, eq-eqb, ne-eqb, lt-ltb, le-ltb}
+use Rattle.basics.specs.Truth.{bool-cases}
+use Rattle.records.specs.declared.Counts.{Counts}
+use Rattle.records.specs.declared.Builtin.{Builtin}
+use Rattle.records.specs.declared.Expr.{Expr}
+use Rattle.records.specs.declared.Statement.{Statement}
+use Rattle.records.specs.Layout.{Within, builtinAt, exprAt, statementAt, firstAt}
+use Rattle.fields.specs.declared.Field.{Field}
+use Rattle.fields.specs.Fields.{fieldFrom, chainOrNone, statementOrNone, first, second, third, kindFields, formFields, limitOf}
+use Rattle.naming.specs.Entries.{Entry, queryRow, statementRow, exprRow, exprEntries, statementEntries, queryEntries}
+use Rattle.naming.specs.Namings.{namers, namedSo, inChain, namings}
+use Rattle.naming.specs.Nesting.{enclosing, level}
+use Rattle.naming.specs.Faults.{notVar, unpaired, misnested, fieldFault, fieldsFault, isNamedSo, isMember, exprFault, statementFault, queryFault, pathBefore, builtinFault}
+use Rattle.levels.specs.Levels.{levelBy}
+use Rattle.levels.specs.Laws.{level-is}
+use Rattle.faults.specs.Known.{Known, so-is, member-is, query-is}
+
+-- ---- a field
+
+unfoldable pub misnestedBy : Counts → List ℕ → Field → ℕ → ℕ → Bool
+misnestedBy c w f v q = eqb (f .section) 4 && (leb v q || (eqb v 1 || ltb 8 (levelBy (exprRow (c .exprs)) w (c .queries) v)))
+
+module _ (c : Counts) (within : Within c) where
+  -- No section has more than 512 rows.
+  pub limit-small : (s v : ℕ) → v ≤ limitOf c s → v ≤ 512
+  limit-small s v h = go (bool-cases (eqb s 1)) (bool-cases (eqb s 2)) (bool-cases (eqb s 3)) (bool-cases (eqb s 4))
+    where
+      go : (eqb s 1 ≡ true) ⊎ (eqb s 1 ≡ false) → (eqb s 2 ≡ true) ⊎ (eqb s 2 ≡ false) → (eqb s 3 ≡ true) ⊎ (eqb s 3 ≡ false)
+          → (eqb s 4 ≡ true) ⊎ (eqb s 4 ≡ false) → v ≤ 512
+      go (inl p) q r u = let l : v ≤ c .names = rw p at h in omega arith
+      go (inr p) (inl q) r u = let l : v ≤ c .exprs = rw (p, q) at h in omega arith
+      go (inr p) (inr q) (inl r) u = let l : v ≤ c .statements = rw (p, q, r) at h in omega arith
+      go (inr p) (inr q) (inr r) (inl u) = let l : v ≤ c .queries = rw (p, q, r, u) at h in omega arith
+      go (inr p) (inr q) (inr r) (inr u) = let l : v ≤ 0 = rw (p, q, r, u) at h in omega arith
+
+  pub queries-small : (s v : ℕ) → s ≡ 4 → v ≤ limitOf c s → v ≤ 32
+  queries-small s v e h = let l : v ≤ c .queries = subst (λ (k : ℕ). v ≤ limitOf c k) e h in omega arith
+
+module _ (c : Counts) (t : List ℕ) where
+  pub misnested-is : (w : List ℕ) → Known c t w → (f : Field) (v q : ℕ) → v ≤ limitOf c (f .section)
+      → misnestedBy c w f v q ≡ misnested c t f v q
+  unfolding misnestedBy
+  misnested-is w known f v q h = go (bool-cases (eqb (f .section) 4))
+    where
+      go : (eqb (f .section) 4 ≡ true) ⊎ (eqb (f .section) 4 ≡ false) → misnestedBy c w f v q ≡ misnested c t f v q
+      go (inl p) =
+          ap (λ (l : ℕ). eqb (f .section) 4 && (leb v q || (eqb v 1 || ltb 8 l)))
+          (level-is c t w (known .marks) v (queries-small c (known .within) (f .section) v (eqb-true (f .section) 4 p) h))
+      go (inr p) = rw p
+
+  -- A field and its number. Where the row that it names lies is not asked.
+  abbrev pub faultIn : ℕ → Field → ℕ → Bool
+  faultIn q f v = fieldFault c t q (record { field = f; value = v; place = 0 })
+
+  abbrev pub faultOf : ℕ → ℕ → ℕ → Bool
+  faultOf q holds v = faultIn q (fieldFrom holds) v
+
+  module _ (q : ℕ) (f : Field) (v : ℕ) where
+    pub fault-none : v ≡ 0 → f .set ≡ faultIn q f v
+    unfolding fieldFault
+    fault-none e = sym (rw (eq-eqb v 0 e))
+
+    module _ (some : v ≡ 0 → ⊥) (l : ℕ) (is : l ≡ limitOf c (f .section)) where
+      pub fault-over : l < v → true ≡ faultIn q f v
+      unfolding fieldFault
+      fault-over h = sym (rw (ne-eqb v 0 some, lt-ltb (limitOf c (f .section)) v (subst (λ (k : ℕ). k < v) is h)))
+
+      pub fault-else : v ≤ l → (notVar c t f v || (unpaired c t f v || misnested c t f v q)) ≡ faultIn q f v
+      unfolding fieldFault
+      fault-else h = sym (rw (ne-eqb v 0 some, le-ltb (limitOf c (f .section)) v (subst (λ (k : ℕ). v ≤ k) is h)))
+
+  -- ---- the fields of a row
+
+  unfoldable pub partsBy : ℕ → ℕ → ℕ → Expr → Bool
+  partsBy q fs next x =
+      faultOf q fs (x .name) || (faultOf q (fs / first) (x .first) || (faultOf q (fs / second) (x .second)
+      || (faultOf q (fs / third) (x .third) || (faultOf q next (x .next) || false))))
+
+  unfoldable pub fieldsBy : ℕ → ℕ → Statement → Bool
+  fieldsBy q fs x =
+      faultOf q fs (x .query) || (faultOf q (fs / first) (x .first) || (faultOf q (fs / second) (x .second)
+      || (faultOf q (fs / third) (x .third) || (faultOf q chainOrNone (x .with) || (faultOf q statementOrNone (x .next) || false)))))
+
+  parts-are : (q : ℕ) (member : Bool) (r : ℕ)
+      → partsBy q (kindFields (exprAt t r .kind)) (cond member chainOrNone 0) (exprAt t r) ≡ fieldsFault c t q (exprEntries c t member r)
+  unfolding partsBy exprEntries fieldsFault fieldFault
+  parts-are q member r = refl
+
+  fields-are : (q r : ℕ) → fieldsBy q (formFields (statementAt t r .form)) (statementAt t r) ≡ fieldsFault c t q (statementEntries c t r)
+  unfolding fieldsBy statementEntries fieldsFault fieldFault
+  fields-are q r = refl
+
+  first-is : (q : ℕ) → (faultOf q statementOrNone (firstAt t q) || false) ≡ fieldsFault c t q (queryEntries c t q)
+  unfolding queryEntries fieldsFault fieldFault
+  first-is q = refl
+
+  -- ---- a row with mark v
+
+  unfoldable pub exprBy : ℕ → Expr → Bool
+  exprBy v x =
+      not (eqb (v % 4) 1) || ((eqb (x .kind) 0 || ltb 22 (x .kind))
+      || partsBy (v / 8) (kindFields (x .kind)) (cond (eqb (v / 4 % 2) 1) chainOrNone 0) x)
+
+  unfoldable pub statementBy : ℕ → Statement → Bool
+  statementBy v x =
+      not (eqb (v % 4) 1) || ((eqb (x .form) 0 || ltb 5 (x .form)) || fieldsBy (v / 8) (formFields (x .form)) x)
+
+  unfoldable pub queryBy : ℕ → ℕ → ℕ → Bool
+  queryBy v q s = (not (eqb q 1) && not (eqb (v % 4) 1)) || (faultOf q statementOrNone s || false)
+
+  module _ (w : List ℕ) (known : Known c t w) where
+    pub expr-is : (r : ℕ) → 1 ≤ r → r ≤ c .exprs → exprBy (getD w (160 + r) 0) (exprAt t r) ≡ exprFault c t r
+    unfolding exprBy exprFault isNamedSo isMember
+    expr-is r l h =
+        let b = known .within .few-exprs in
+        rw (
+          so-is c t w known (160 + r) (omega arith),
+          member-is c t w known (160 + r) (omega arith),
+          query-is c t w known (160 + r) (omega arith) (omega arith),
+          parts-are (getD (enclosing c t) (160 + r) 0) (inChain (160 + r) (namers (160 + r) (namings c t))) r,
+        )
+
+    pub statement-is : (r : ℕ) → 1 ≤ r → r ≤ c .statements → statementBy (getD w (32 + r) 0) (statementAt t r) ≡ statementFault c t r
+    unfolding statementBy statementFault isNamedSo
+    statement-is r l h =
+        let b = known .within .few-statements in
+        rw (
+          so-is c t w known (32 + r) (omega arith),
+          query-is c t w known (32 + r) (omega arith) (omega arith),
+          fields-are (getD (enclosing c t) (32 + r) 0) r,
+        )
+
+    pub query-fault-is : (q : ℕ) → q ≤ 32 → queryBy (getD w q 0) q (firstAt t q) ≡ queryFault c t q
+    unfolding queryBy queryFault isNamedSo
+    query-fault-is q h = rw (so-is c t w known q (omega arith), first-is q)
+
+-- ---- built-ins
+
+abbrev pub samePathBy : Builtin → Builtin → Bool
+samePathBy a b = eqb (a .first) (b .first) && (eqb (a .second) (b .second) && eqb (a .third) (b .third))
+
+abbrev pub gapBy : Builtin → Bool
+gapBy b = eqb (b .first) 0 || (eqb (b .second) 0 && not (eqb (b .third) 0))
+
+abbrev pub beyondBy : Counts → Builtin → Bool
+beyondBy c b = ltb (c .names) (b .first) || (ltb (c .names) (b .second) || ltb (c .names) (b .third))
+
+unfoldable pub pathBy : List ℕ → ℕ → Builtin → Bool
+pathBy t zero b = false
+pathBy t (suc n) b = samePathBy (builtinAt t (suc n)) b || pathBy t n b
+
+path-is : (c : Counts) (t : List ℕ) (n : ℕ) (b : Builtin) → pathBy t n b ≡ pathBefore c t n b
+unfolding pathBy pathBefore
+path-is c t zero b = refl
+path-is c t (suc n) b = ap (λ (z : Bool). samePathBy (builtinAt t (suc n)) b || z) (path-is c t n b)
+
+unfoldable pub builtinBy : Counts → List ℕ → ℕ → Builtin → Bool
+builtinBy c t n b = ltb 255 (b .arity) || (gapBy b || (beyondBy c b || pathBy t n b))
+
+pub builtin-is : (c : Counts) (t : List ℕ) (r : ℕ) → 1 ≤ r → builtinBy c t (r - 1) (builtinAt t r) ≡ builtinFault c t r
+unfolding builtinBy builtinFault
+builtin-is c t r h =
+    let e : r ≡ suc (r - 1) = omega arith in
+    ap (λ (z : Bool). ltb 255 (builtinAt t r .arity) || (gapBy (builtinAt t r) || (beyondBy c (builtinAt t r) || z))) (path-is c t (r - 1) (builtinAt t r))
+    ∙ ap (λ (k : ℕ). ltb 255 (builtinAt t k .arity) || (gapBy (builtinAt t k) || (beyondBy c (builtinAt t k) || pathBefore c t (r - 1) (builtinAt t k)))) e
+    ∙ sym (ap (builtinFault c t) e)
+
+module _ (t : List ℕ) (b : Builtin) (n : ℕ) where
+  path-at : 0 < n → (samePathBy (builtinAt t n) b || pathBy t (n - 1) b) ≡ pathBy t n b
+  unfolding pathBy
+  path-at h =
+      let e : n ≡ suc (n - 1) = omega arith in
+      ap (λ (k : ℕ). samePathBy (builtinAt t k) b || pathBy t (n - 1) b) e ∙ sym (ap (λ (k : ℕ). pathBy t k b) e)
+
+  pub path-here : 0 < n → (x : Builtin) → x ≡ builtinAt t n → samePathBy x b ≡ true → true ≡ pathBy t n b
+  path-here h x e s =
+      sym (ap (λ (z : Bool). z || pathBy t (n - 1) b) (sym (ap (λ (y : Builtin). samePathBy y b) e) ∙ s)) ∙ path-at h
+
+  pub path-before : 0 < n → (x : Builtin) → x ≡ builtinAt t n → samePathBy x b ≡ false → pathBy t (n - 1) b ≡ pathBy t n b
+  path-before h x e s =
+      sym (ap (λ (z : Bool). z || pathBy t (n - 1) b) (sym (ap (λ (y : Builtin). samePathBy y b) e) ∙ s)) ∙ path-at h
+
+  pub path-none : n ≤ 0 → false ≡ pathBy t n b
+  unfolding pathBy
+  path-none h = let e : n ≡ 0 = omega arith in sym (ap (λ (k : ℕ). pathBy t k b) e)
+
+-- ---- one test after the other
+
+pub or-here : (a b : Bool) → a ≡ true → true ≡ (a || b)
+or-here a b p = sym (rw p)
+
+pub or-next : (r a b : Bool) → a ≡ false → r ≡ b → r ≡ (a || b)
+or-next r a b p q = q ∙ sym (rw p)
