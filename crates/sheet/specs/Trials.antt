@@ -1,0 +1,112 @@
+-- The specification's sheet, which is read, and broken ones, each with the number and the line that it is refused with.
+use mathlib.Core.Path.{_≡_, refl}
+use mathlib.Core.Bool.{Bool, true, _&&_}
+use mathlib.Core.List.{List, [], _∷_}
+use Prim.Native.Nat.{ℕ}
+use Prim.Native.String.{String, _++_}
+use lib.Dec.{eqb}
+use Rattle.basics.specs.Lists.{all}
+use Rattle.text.specs.Bytes.{bytes}
+use Rattle.text.specs.Lines.{lines}
+use Rattle.text.specs.Numbers as numbers
+use Rattle.text.specs.Sections.{sections}
+use Rattle.text.specs.Form.{block, sheet, form, faultOf, rowsIn}
+use Rattle.text.specs.Names.{before, nameFault}
+use Rattle.text.specs.Counts.{overLine, noQueryLine, countFault}
+use Rattle.text.specs.Counts as counts
+use Rattle.text.specs.Questions.{formFault, sectionRows, namesFault, countsFault}
+use Rattle.text.specs.Trials.{Trial}
+use Rattle.tables.specs.Layout.{areas, areasFrom}
+use Rattle.tables.specs.Tables.{tables, putSections, putRows}
+use Rattle.fields.specs.Fields.{fieldFrom, kinds, forms, kindFields, formFields}
+use Rattle.naming.specs.Entries.{target, placeOf, exprEntries, statementEntries, queryEntries}
+use Rattle.naming.specs.Namings.{namers, inChain, entryNaming, rowNamings, byQueries, byStatements, byExprs, namings}
+use Rattle.naming.specs.Nesting.{grown, enclosing, parent, levelIn, level}
+use Rattle.naming.specs.Chains.{varsIn, endsIn, allVars, endsOdd}
+use Rattle.naming.specs.Faults.{fieldFault, isNamedSo, isMember, exprFault, statementFault, queryFault, pathBefore, builtinFault}
+use Rattle.naming.specs.Faults as faults
+use Rattle.naming.specs.Lines.{lineOf, firstOf, firstLine}
+use Rattle.sheet.specs.Verdict.{number, line, fieldsFault, asked, verdict}
+
+-- Is the text refused so, where there is room?
+abbrev pub passes : Trial → Bool
+passes t =
+    let r = verdict (bytes (t .text)) 8192 8192 in
+    eqb (number r) (t .number) && eqb (line r) (t .line)
+
+abbrev trial : String → ℕ → ℕ → Trial
+trial s n l = record { text = s; number = n; line = l }
+
+-- The parts of the specification's sheet.
+abbrev named : String
+named = "name\na\ninput\nx\ny\n\n"
+
+abbrev noBuiltIns : String
+noBuiltIns = "arity first second third\n\n"
+
+abbrev firstRows : String
+firstRows =
+    "kind name line col first second third next\n20 0 1 1 2 3 0 0\n6 4 1 1 0 0 0 0\n6 3 1 5 0 0 0 0\n20 0 2 1 5 6 0 0\n6 3 2 1 0 0 0 0\n15 1 2 5 7 0 0 0\n"
+
+abbrev expressions : String
+expressions = firstRows ++ "6 2 2 5 0 0 0 0\n\n"
+
+abbrev formed : String
+formed = "form first second third query with next\n"
+
+abbrev statements : String
+statements = formed ++ "3 1 0 0 0 0 2\n3 4 0 0 0 0 0\n\n"
+
+abbrev queries : String
+queries = "statement\n1\n\n"
+
+-- The sheet with built-ins, another last expression, other statements, other queries.
+abbrev builtIn : String → String
+builtIn rows = named ++ "arity first second third\n" ++ rows ++ "\n" ++ expressions ++ statements ++ queries
+
+abbrev lastRow : String → String
+lastRow row = named ++ noBuiltIns ++ firstRows ++ row ++ "\n\n" ++ statements ++ queries
+
+abbrev stated : String → String
+stated rows = named ++ noBuiltIns ++ expressions ++ formed ++ rows ++ "\n" ++ queries
+
+abbrev queried : String → String
+queried rows = named ++ noBuiltIns ++ expressions ++ statements ++ "statement\n" ++ rows ++ "\n"
+
+abbrev pub trials : List Trial
+trials =
+    trial (queried "1\n") 0 0
+    ∷ trial "" 3 1
+    -- built-ins: one that is good, then arity, no first name, a gap, no such name, a path twice
+    ∷ trial (builtIn "255 1 2 0\n") 0 0
+    ∷ trial (builtIn "256 1 2 0\n") 6 8
+    ∷ trial (builtIn "1 0 0 0\n") 6 8
+    ∷ trial (builtIn "1 1 0 2\n") 6 8
+    ∷ trial (builtIn "1 5 0 0\n") 6 8
+    ∷ trial (builtIn "1 1 0 0\n2 1 0 0\n") 6 9
+    -- expressions: no such kind, no such name, no name, a field that the kind has not, a `next` outside of chains
+    ∷ trial (lastRow "23 2 2 5 0 0 0 0") 6 16
+    ∷ trial (lastRow "0 2 2 5 0 0 0 0") 6 16
+    ∷ trial (lastRow "6 5 2 5 0 0 0 0") 6 16
+    ∷ trial (lastRow "6 0 2 5 0 0 0 0") 6 16
+    ∷ trial (lastRow "6 2 2 5 1 0 0 0") 6 16
+    ∷ trial (lastRow "6 2 2 5 0 0 0 3") 6 16
+    -- statements: an expression left unnamed, one named twice, a form that names nothing
+    ∷ trial (stated "3 1 0 0 0 0 0\n") 6 13
+    ∷ trial (stated "3 1 0 0 0 0 2\n3 1 0 0 0 0 0\n") 6 10
+    ∷ trial (stated "6 1 0 0 0 0 2\n3 4 0 0 0 0 0\n") 6 10
+    -- queries: the second statement twice and the first not, no such statement, a query that nothing names
+    ∷ trial (queried "2\n") 6 19
+    ∷ trial (queried "3\n") 6 19
+    ∷ trial (queried "1\n0\n") 6 24
+    ∷ []
+
+pub trials-pass : all passes trials ≡ true
+unfolding bytes lines numbers.words numbers.value numbers.number numbers.numbers numbers.values sections block sheet form faultOf rowsIn before nameFault
+    counts.lineOf overLine noQueryLine countFault formFault sectionRows namesFault countsFault
+    tables putSections putRows areas areasFrom fieldFrom kinds forms kindFields formFields
+    target placeOf exprEntries statementEntries queryEntries namers inChain entryNaming rowNamings byQueries byStatements byExprs namings
+    grown enclosing parent levelIn level varsIn endsIn allVars endsOdd
+    fieldFault faults.fieldsFault isNamedSo isMember exprFault statementFault queryFault pathBefore builtinFault
+    lineOf firstOf firstLine fieldsFault asked verdict
+trials-pass = refl
