@@ -31,6 +31,37 @@ uint64_t nokchbem_schedule(const uint64_t *definitions, size_t definitions_len, 
                            uint16_t *order, size_t order_len, uint16_t *reached,
                            size_t reached_len);
 
+/* The entries that `tables` and `work` have at least. */
+#define NOKCHBEM_TABLES_LENGTH 8192
+#define NOKCHBEM_WORK_LENGTH 8192
+
+/* Reads a sheet into tables, and asks whether all of it is as it should be.
+ *
+ * Returns 0 if it is. The tables then start with how many names, built-ins, expressions, statements
+ * and queries there are, and the rows of the names `_`, `input` and `data`, 0 for one that is not
+ * there. Row r of a section, counted from 1, stands at
+ *
+ *     built-ins    8 + 4 * r       arity first second third
+ *     expressions  268 + 8 * r     kind name line col first second third next
+ *     statements   4372 + 7 * r    form first second third query with next
+ *     queries      5275 + r        statement
+ *
+ * and every other entry is 0. Refuses, and zeros the tables, with the first of these numbers that
+ * applies, and the first line of the sheet at fault (0 for 1 and 2); the column is 0.
+ *
+ *     1  `tables` or `work` has fewer than 8,192 entries
+ *     2  the sheet has more than 32,768 bytes
+ *     3  it has not the form of five sections
+ *     4  a name is none, or not above the one before it
+ *     5  a section has too many rows, or there is no query
+ *     6  a field or the nesting is not as it should be
+ *
+ * `work` is zeros afterwards, whatever is returned. Any input is taken, buffers of no length too.
+ *
+ * Each slice is a pointer to that many elements; the two written ones must not overlap anything. */
+uint64_t nokchbem_read(const uint8_t *sheet, size_t sheet_len, uint16_t *tables, size_t tables_len,
+                       uint64_t *work, size_t work_len);
+
 #ifdef __cplusplus
 }
 #endif

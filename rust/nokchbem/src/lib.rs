@@ -46,6 +46,15 @@ extern "C" {
         reached: *mut u16,
         reached_len: usize,
     ) -> u64;
+
+    fn nokchbem_read(
+        sheet: *const u8,
+        sheet_len: usize,
+        tables: *mut u16,
+        tables_len: usize,
+        work: *mut u64,
+        work_len: usize,
+    ) -> u64;
 }
 
 /// Puts statements into an order in which every name has a value when it is read.
@@ -76,6 +85,39 @@ pub fn schedule(
     match result {
         0 => Ok(false),
         1 => Ok(true),
+        packed => Err(Refusal::unpack(packed)),
+    }
+}
+
+/// How many entries [`read`] wants at least, in the tables and in work.
+pub const TABLES_LENGTH: usize = 8_192;
+pub const WORK_LENGTH: usize = 8_192;
+
+/// Reads a sheet into tables, and asks whether all of it is as it should be.
+///
+/// The tables start with how many names, built-ins, expressions, statements and queries there are,
+/// and the rows of the names `_`, `input` and `data`, 0 for one that is not there. Row r of a
+/// section, counted from 1, stands at 8 + 4r (built-ins), 268 + 8r (expressions), 4372 + 7r
+/// (statements) or 5275 + r (queries); every other entry is 0.
+///
+/// Refuses with the first of these numbers that applies: 1, a buffer is shorter than 8,192 entries;
+/// 2, the sheet has more than 32,768 bytes; 3, its form; 4, its names; 5, its counts; 6, its fields
+/// and nesting. The line is the first at fault, 0 for 1 and 2. A refusal leaves zeros in the
+/// tables; `work` is zeros afterwards in any case.
+pub fn read(sheet: &[u8], tables: &mut [u16], work: &mut [u64]) -> Result<(), Refusal> {
+    // SAFETY: each pointer and length are one slice's, and the two written ones are exclusive.
+    let result = unsafe {
+        nokchbem_read(
+            sheet.as_ptr(),
+            sheet.len(),
+            tables.as_mut_ptr(),
+            tables.len(),
+            work.as_mut_ptr(),
+            work.len(),
+        )
+    };
+    match result {
+        0 => Ok(()),
         packed => Err(Refusal::unpack(packed)),
     }
 }
