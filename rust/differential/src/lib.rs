@@ -1,4 +1,6 @@
-//! The proved library beside the original.
+//! The proved library beside what it is compared with: the original, and plain code.
 
+pub mod readers;
 pub mod schedules;
+pub mod timing;
 pub mod walks;

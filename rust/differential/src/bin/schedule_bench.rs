@@ -5,6 +5,7 @@
 //! the geometric mean of the lists' ratios. The proved call zeroes its buffers and asks its
 //! question each time; the original gets its list ready made.
 
+use differential::timing::{best, geometric_mean};
 use oracle::{NotAtHand, Outcome, Prepared};
 use sheets::answer::Answer;
 use sheets::lists::List;
@@ -107,21 +108,6 @@ fn times(list: &List) -> Times {
     }
 }
 
-fn best(call: &mut dyn FnMut()) -> f64 {
-    let started = Instant::now();
-    call();
-    let once = started.elapsed().as_nanos().max(50);
-    let calls = (200_000 / once).clamp(1, 2_000) as u32;
-    let run = |call: &mut dyn FnMut()| {
-        let started = Instant::now();
-        for _ in 0..calls {
-            call();
-        }
-        started.elapsed().as_nanos() as f64 / f64::from(calls)
-    };
-    (0..5).map(|_| run(call)).fold(f64::MAX, f64::min)
-}
-
 /// The ratio of the times for all lists of a class one after the other, so that no branch is
 /// foreseen from the call before.
 fn in_turn(lists: &[List]) -> f64 {
@@ -151,10 +137,7 @@ fn in_turn(lists: &[List]) -> f64 {
 
 fn report(label: &str, lists: &[List]) {
     let times: Vec<Times> = lists.iter().map(times).collect();
-    let mean = |value: &dyn Fn(&Times) -> f64| {
-        let sum: f64 = times.iter().map(|t| value(t).ln()).sum();
-        (sum / times.len() as f64).exp()
-    };
+    let mean = |value: &dyn Fn(&Times) -> f64| geometric_mean(times.iter().map(value));
     let size = |size: &dyn Fn(&List) -> usize| {
         lists.iter().map(size).sum::<usize>() as f64 / lists.len() as f64
     };

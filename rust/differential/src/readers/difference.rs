@@ -1,0 +1,40 @@
+//! A sheet on which the two readers differ.
+
+use std::fmt;
+
+#[derive(Clone, Debug)]
+pub struct Difference {
+    pub sheet: Vec<u8>,
+    /// How long the lent buffers were.
+    pub tables: usize,
+    pub work: usize,
+    pub found: String,
+}
+
+/// How many bytes of a sheet are shown.
+const SHOWN: usize = 8_000;
+
+impl fmt::Display for Difference {
+    fn fmt(&self, f: &mut fmt::Formatter<'_>) -> fmt::Result {
+        let bytes = self.sheet.len();
+        writeln!(f, "{}", self.found)?;
+        writeln!(
+            f,
+            "with tables of {} and work of {}, on this sheet of {bytes} bytes:",
+            self.tables, self.work
+        )?;
+        let shown = &self.sheet[..bytes.min(SHOWN)];
+        for line in shown.split_inclusive(|&byte| byte == b'\n') {
+            match line.strip_suffix(b"\n") {
+                Some(whole) => writeln!(f, "{}", whole.escape_ascii())?,
+                None => writeln!(f, "{} (no line end)", line.escape_ascii())?,
+            }
+        }
+        if bytes > SHOWN {
+            writeln!(f, "({} bytes more)", bytes - SHOWN)?;
+        }
+        Ok(())
+    }
+}
+
+impl std::error::Error for Difference {}
