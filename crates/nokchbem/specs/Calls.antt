@@ -2,10 +2,24 @@
 use mathlib.Core.Path.{_≡_}
 use mathlib.Core.List.{List}
 use Prim.Native.Nat.{ℕ}
-use Rattle.schedule.specs.Call.{number, result, orderBuffer, reachedBuffer}
+use lib.ListN.{replicate}
+use Rattle.schedule.specs.Call.{refusal, number, result, orderBuffer, reachedBuffer}
+use Rattle.sheet.specs.declared.Outcome.{Outcome}
+use Rattle.sheet.specs.Verdict as Verdict
+use Rattle.sheet.specs.Verdict.{verdict, leftTables}
 
 -- `nokchbem_schedule`: the number of its outcome, and every element of both buffers, whatever stood in them before.
 pub record ScheduleCall (definitions : List ℕ) (statements room marks r : ℕ) (orderAfter reachedAfter : List ℕ) : Type 0 where
   pub returned : r ≡ number (result definitions statements room marks)
   pub ordered : orderAfter ≡ orderBuffer definitions statements room marks
   pub marked : reachedAfter ≡ reachedBuffer definitions statements room marks
+
+-- An outcome of the reader as one number: 0 where the sheet is read.
+abbrev pub readNumber : Outcome → ℕ
+readNumber r = refusal (Verdict.number r) (Verdict.line r) 0
+
+-- `nokchbem_read`: the number of its outcome, and every element of the tables and of work, whatever stood in them before.
+pub record ReadCall (sheet : List ℕ) (room long r : ℕ) (tablesAfter workAfter : List ℕ) : Type 0 where
+  pub returned : r ≡ readNumber (verdict sheet room long)
+  pub tabled : tablesAfter ≡ leftTables sheet room (verdict sheet room long)
+  pub worked : workAfter ≡ replicate long 0

@@ -1,7 +1,18 @@
 // The exported calls, with C linkage. A slice passes as a pointer and a length.
 
+ghost use mathlib.Core.Path.{_≡_};
+ghost use Prim.Native.Nat.{_≤_};
 ghost use lib.ListN.{length};
-ghost use Rattle.nokchbem.specs.Calls.{ScheduleCall};
+ghost use Rattle.schedule.specs.Call.{refusal};
+ghost use Rattle.nokchbem.specs.Calls.{ScheduleCall, ReadCall};
+
+// A refusal and its position as one number.
+fn pack(number: u64, line: usize, col: usize) -> u64
+    requires { ⌜ (number ≤ 65535) × (line ≤ 65535) × (col ≤ 65535) ⌝ }
+    ensures { λ r. ⌜ r ≡ refusal number line col ⌝ }
+{
+    number * 0x1_0000_0000 + line as u64 * 0x1_0000 + col as u64
+}
 
 // Puts statements into an order in which every name has a value when it is read.
 //
@@ -18,4 +29,16 @@ pub extern "C" fn nokchbem_schedule(
     ensures { λ r. ⌜ ScheduleCall (now (definitions .entry)) statements (length (now (order .entry))) (length (now (reached .entry))) r (now (order .exit)) (now (reached .exit)) ⌝ }
 {
     schedule::number_of(schedule::schedule(definitions, statements, order, reached))
+}
+
+// Reads a sheet, and answers whether it passes questions 1 to 6.
+//
+// `tables` has at least 8,192 entries and receives the sheet's counts and rows; `work` has at least 8,192 words, which are zeros
+// afterwards. Returns 0, or a refusal 1 to 6 and the first line at fault as number x 2^32 + line x 2^16, with both buffers zeroed.
+#[no_mangle]
+pub extern "C" fn nokchbem_read(sheet: &[u8], tables: &mut [u16], work: &mut [u64]) -> u64
+    ensures { λ r. ⌜ ReadCall (now (sheet .entry)) (length (now (tables .entry))) (length (now (work .entry))) r (now (tables .exit)) (now (work .exit)) ⌝ }
+{
+    let outcome = sheet::read(sheet, tables, work);
+    pack(sheet::number_of(outcome), sheet::line_of(outcome), 0)
 }

@@ -1,2 +1,5 @@
 pub mod Verdict
+pub mod Asked
+pub mod Leaving
+pub mod LineBounds
 pub mod Trials

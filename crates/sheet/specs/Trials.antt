@@ -26,7 +26,7 @@ use Rattle.naming.specs.Chains.{varsIn, endsIn, allVars, endsOdd}
 use Rattle.naming.specs.Faults.{fieldFault, isNamedSo, isMember, exprFault, statementFault, queryFault, pathBefore, builtinFault}
 use Rattle.naming.specs.Faults as faults
 use Rattle.naming.specs.Lines.{lineOf, firstOf, firstLine}
-use Rattle.sheet.specs.Verdict.{number, line, fieldsFault, asked, verdict}
+use Rattle.sheet.specs.Verdict.{number, line, blank, fieldsFault, asked, verdict}
 
 -- Is the text refused so, where there is room?
 abbrev pub passes : Trial → Bool
@@ -77,6 +77,10 @@ abbrev pub trials : List Trial
 trials =
     trial (queried "1\n") 0 0
     ∷ trial "" 3 1
+    -- names: one that starts with a digit, two in the wrong order; then no query
+    ∷ trial ("name\n1a\n\n" ++ noBuiltIns ++ expressions ++ statements ++ queries) 4 2
+    ∷ trial ("name\nb\na\n\n" ++ noBuiltIns ++ expressions ++ statements ++ queries) 4 3
+    ∷ trial (queried "") 5 22
     -- built-ins: one that is good, then arity, no first name, a gap, no such name, a path twice
     ∷ trial (builtIn "255 1 2 0\n") 0 0
     ∷ trial (builtIn "256 1 2 0\n") 6 8
@@ -108,5 +112,10 @@ unfolding bytes lines numbers.words numbers.value numbers.number numbers.numbers
     target placeOf exprEntries statementEntries queryEntries namers inChain entryNaming rowNamings byQueries byStatements byExprs namings
     grown enclosing parent levelIn level varsIn endsIn allVars endsOdd
     fieldFault faults.fieldsFault isNamedSo isMember exprFault statementFault queryFault pathBefore builtinFault
-    lineOf firstOf firstLine fieldsFault asked verdict
+    lineOf firstOf firstLine blank fieldsFault asked verdict
 trials-pass = refl
+
+-- Question 1 comes before all others.
+pub no-room : (number (verdict [] 8191 8192) ≡ 1) × (number (verdict [] 8192 8191) ≡ 1)
+unfolding verdict
+no-room = (refl, refl)

@@ -2,11 +2,12 @@
 use mathlib.Core.Path.{_≡_}
 use mathlib.Core.Bool.{Bool, true, false, cond, _&&_}
 use mathlib.Core.List.{List, [], _∷_, _++_}
-use Prim.Native.Nat.{ℕ, _+_, _-_, _*_, _^_}
+use Prim.Native.Nat.{ℕ, _-_}
 use lib.Dec.{eqb, leb}
-use lib.ListN.{length, getD, replicate}
+use lib.ListN.{getD, replicate}
 use lib.Seq.{sets}
 use Rattle.text.specs.Bytes.{bytes}
+use Rattle.text.specs.Limits as limits
 use Rattle.text.specs.Questions.{shortEnough, formFault, namesFault, countsFault, rowCounts, rowOfName}
 use Rattle.tables.specs.Tables.{tables}
 use Rattle.records.specs.declared.Counts.{Counts}
@@ -34,6 +35,10 @@ line (BadName l) = l
 line (BadCount l) = l
 line (BadField l) = l
 
+-- Tables without a row.
+unfoldable pub blank : List ℕ
+blank = replicate limits.tables 0
+
 module _ (s : List ℕ) where
   -- How many rows each section has.
   abbrev pub countsOf : Counts
@@ -45,9 +50,9 @@ module _ (s : List ℕ) where
     queries = getD (rowCounts s) 4 0;
   }
 
-  -- The rows, in tables that held zeros.
+  -- The rows, where they stand in the tables.
   abbrev pub rowTables : List ℕ
-  rowTables = tables s (replicate 8192 0)
+  rowTables = tables s blank
 
   -- Question 6: the first row at fault.
   unfoldable pub fieldsFault : ℕ
@@ -62,7 +67,7 @@ module _ (s : List ℕ) where
 
   -- Question 1 comes first: is there room in the tables and in work, which are so long?
   unfoldable pub verdict : ℕ → ℕ → Outcome
-  verdict room work = cond (leb 8192 room && leb 8192 work) asked NoRoom
+  verdict room work = cond (leb limits.tables room && leb limits.work work) asked NoRoom
 
 -- ---- what the tables hold of a sheet that is read
 
@@ -80,7 +85,7 @@ module _ (s : List ℕ) where
 
   -- Of a sheet that is refused they hold zeros.
   abbrev pub leftTables : ℕ → Outcome → List ℕ
-  leftTables room Read = readTables ++ replicate (room - 8192) 0
+  leftTables room Read = readTables ++ replicate (room - limits.tables) 0
   leftTables room NoRoom = replicate room 0
   leftTables room TooLong = replicate room 0
   leftTables room (BadForm l) = replicate room 0

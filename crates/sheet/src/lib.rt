@@ -1,4 +1,16 @@
-// The outcomes of the reader's call.
+// The reader's call: the questions put to a sheet, and its rows in the tables.
+
+use records::Counts;
+use spelling::Special;
+ghost use mathlib.Core.Path.{_≡_};
+ghost use mathlib.Core.Bool.{_&&_};
+ghost use Prim.Native.Nat.{_≤_};
+ghost use lib.Dec.{leb};
+ghost use lib.ListN.{length};
+ghost use lib.Seq.{sets};
+ghost use Rattle.records.specs.Layout.{Within};
+ghost use Rattle.sheet.specs.Verdict.{number, line, blank, headOf, SheetLeft};
+ghost use Rattle.sheet.specs.Asked.{isRead, Small, Asked};
 
 // What a sheet comes to: read, or the first question that it fails, with the first line at fault.
 pub enum Outcome {
@@ -9,4 +21,132 @@ pub enum Outcome {
     BadName(usize),
     BadCount(usize),
     BadField(usize),
+}
+
+// Question 1.
+fn has_room(tables: usize, work: usize) -> bool
+    ensures { λ r. ⌜ r ≡ (leb 8192 tables && leb 8192 work) ⌝ }
+{
+    if tables < tables::LENGTH {
+        return false;
+    }
+    tables::WORK <= work
+}
+
+// The counts and the special names in front of the rows.
+fn store_head(table: &mut [u16], counts: Counts, special: Special)
+    requires { ⌜ (8192 ≤ length (now table)) × Within counts × Small special ⌝ }
+    ensures { λ _. ⌜ now (table .exit) ≡ sets (now (table .entry)) 0 (headOf counts special) ⌝ }
+{
+    table[0] = counts.names as u16;
+    table[1] = counts.builtins as u16;
+    table[2] = counts.exprs as u16;
+    table[3] = counts.statements as u16;
+    table[4] = counts.queries as u16;
+    table[5] = special.blank as u16;
+    table[6] = special.input as u16;
+    table[7] = special.data as u16;
+}
+
+// Questions 2 to 6. Where the sheet is read, its rows are left in the table.
+fn ask(s: &[u8], table: &mut [u16], work: &mut [u64]) -> Outcome
+    requires { ⌜ (now table ≡ blank) × (8192 ≤ length (now work)) ⌝ }
+    ensures { λ r. ⌜ Asked (now (s .entry)) r (now (table .exit)) ⌝ }
+{
+    if tables::SHEET_BYTES < s.len() {
+        return Outcome::TooLong;
+    }
+    let read = reader::read_sheet(s, table);
+    let form = read.fault;
+    if form != 0 {
+        return Outcome::BadForm(form);
+    }
+    let name = spelling::names_fault(s);
+    if name != 0 {
+        return Outcome::BadName(name);
+    }
+    let count = counts::counts_fault(
+        read.names,
+        read.built_ins,
+        read.expressions,
+        read.statements,
+        read.queries,
+    );
+    if count != 0 {
+        return Outcome::BadCount(count);
+    }
+    let counts = Counts {
+        names: read.names,
+        builtins: read.built_ins,
+        exprs: read.expressions,
+        statements: read.statements,
+        queries: read.queries,
+    };
+    let field = faults::first_line(table, counts, work);
+    if field != 0 {
+        return Outcome::BadField(field);
+    }
+    store_head(table, counts, spelling::special_names(s));
+    Outcome::Read
+}
+
+fn is_read(outcome: Outcome) -> bool
+    ensures { λ r. ⌜ r ≡ isRead outcome ⌝ }
+{
+    match outcome {
+        Outcome::Read => true,
+        Outcome::NoRoom => false,
+        Outcome::TooLong => false,
+        Outcome::BadForm(_) => false,
+        Outcome::BadName(_) => false,
+        Outcome::BadCount(_) => false,
+        Outcome::BadField(_) => false,
+    }
+}
+
+// Reads a sheet into the tables, or refuses it and leaves zeros. Work is zeros afterwards in any case.
+pub fn read(s: &[u8], tables: &mut [u16], work: &mut [u64]) -> Outcome
+    ensures { λ r. ⌜ SheetLeft (now (s .entry)) (length (now (tables .entry))) (length (now (work .entry))) r (now (tables .exit)) (now (work .exit)) ⌝ }
+{
+    buffers::clear(tables);
+    if !has_room(tables.len(), work.len()) {
+        buffers::clear_words(work);
+        return Outcome::NoRoom;
+    }
+    let outcome = ask(s, &mut tables[0..tables::LENGTH], work);
+    buffers::clear_words(work);
+    if !is_read(outcome) {
+        buffers::clear(tables);
+    }
+    outcome
+}
+
+// The number that an outcome is returned as.
+pub fn number_of(outcome: Outcome) -> u64
+    ensures { λ r. ⌜ r ≡ number outcome ⌝ }
+{
+    match outcome {
+        Outcome::Read => 0,
+        Outcome::NoRoom => 1,
+        Outcome::TooLong => 2,
+        Outcome::BadForm(_) => 3,
+        Outcome::BadName(_) => 4,
+        Outcome::BadCount(_) => 5,
+        Outcome::BadField(_) => 6,
+    }
+}
+
+// Its line at fault, or 0.
+pub fn line_of(outcome: Outcome) -> usize
+    ensures { λ r. ⌜ r ≡ line outcome ⌝ }
+{
+    match outcome {
+        Outcome::Read => 0,
+        Outcome::NoRoom => 0,
+        Outcome::TooLong => 0,
+        Outcome::BadForm(at) => at,
+        Outcome::BadName(at) => at,
+        Outcome::BadCount(at) => at,
+        Outcome::BadField(at) => at,
+    }
 }

@@ -19,8 +19,10 @@ pub const QUERIES: usize = 32;
 // The deepest level of a query. Row 1 is level 1.
 pub const NESTING: usize = 8;
 
-// The entries that the tables have at least.
+// The entries that the tables have at least, and the words of work.
 pub const LENGTH: usize = 8192;
+
+pub const WORK: usize = 8192;
 
 // Room for rows of so many values: row r, counted from 1, stands at start + width * r.
 pub struct Area {

@@ -32,3 +32,13 @@ queries = 32
 -- The level of a query. Row 1 is level 1.
 abbrev pub nesting : ℕ
 nesting = 8
+
+-- ---- and the least that is lent
+
+-- The entries of the tables.
+abbrev pub tables : ℕ
+tables = 8192
+
+-- The words of work.
+abbrev pub work : ℕ
+work = 8192

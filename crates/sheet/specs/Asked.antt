@@ -1,0 +1,223 @@
+-- Questions 2 to 6 as the code puts them: each way out, by the answers of the questions so far.
+use mathlib.Core.Path.{_≡_, refl, sym, ap, ap₂, _∙_}
+use mathlib.Core.Bool.{Bool, true, false, cond}
+use mathlib.Core.List.{List, [], _∷_, map}
+use mathlib.Core.Logic.{_⊎_, inl, inr}
+use Prim.Native.Nat.{ℕ, zero, suc, _+_, _≤_, _<_}
+use native.Mathlib.Omega.{arith}
+use lib.Dec.{eqb, leb, ltb}
+use lib.ListN.{length, getD, take, length-replicate}
+use lib.Seq.{sets}
+use borrow.Author.Tests.{ltb-false, eqb-true, eqb-false, lt-leb, le-leb, eq-eqb, ne-eqb}
+use Rattle.basics.specs.Truth.{bool-cases, not-both}
+use Rattle.text.specs.Bytes.{bytes}
+use Rattle.text.specs.Sections.{Section, sections}
+use Rattle.text.specs.Names.{nameRow}
+use Rattle.text.specs.Form.{same}
+use Rattle.text.specs.Counts.{lineOf, overLine, noQueryLine, countFault}
+use Rattle.text.specs.Questions.{shortEnough, formFault, namesFault, countsFault, sectionRows, rowCounts, rowOfName, sheetNames}
+use Rattle.tables.specs.Tables.{tables}
+use Rattle.reader.specs.declared.Read as read-of
+use Rattle.reader.specs.Reads.{counts, SheetRead}
+use Rattle.records.specs.declared.Counts.{Counts}
+use Rattle.records.specs.Layout.{Within}
+use Rattle.spelling.specs.declared.Special.{Special}
+use Rattle.spelling.specs.Names.{SpecialRead}
+use Rattle.naming.specs.Lines.{firstLine}
+use Rattle.sheet.specs.declared.Outcome.{Outcome}
+use Rattle.sheet.specs.declared.Outcome.the-variants.{Read, NoRoom, TooLong, BadForm, BadName, BadCount, BadField}
+use Rattle.sheet.specs.Verdict.{blank, countsOf, rowTables, fieldsFault, asked, headOf, specialOf, readTables}
+
+abbrev pub isRead : Outcome → Bool
+isRead Read = true
+isRead NoRoom = false
+isRead TooLong = false
+isRead (BadForm l) = false
+isRead (BadName l) = false
+isRead (BadCount l) = false
+isRead (BadField l) = false
+
+-- What the questions leave.
+pub record Asked (s : List ℕ) (r : Outcome) (tableAfter : List ℕ) : Type 0 where
+  pub came-to : r ≡ asked s
+  pub tabled : isRead r ≡ true → tableAfter ≡ readTables s
+
+-- The special names' rows fit an entry of the tables.
+pub record Small (x : Special) : Type 0 where
+  pub blank : x .blank ≤ 127
+  pub input : x .input ≤ 127
+  pub «data» : x .«data» ≤ 127
+
+-- ---- counts in bounds
+
+pub over-none : (n : ℕ) (s : Section) (ss : List Section) (k : ℕ) (ks : List ℕ) → overLine n (s ∷ ss) (k ∷ ks) ≡ 0
+    → (k ≤ s .limit) × (overLine (n + k + 2) ss ks ≡ 0)
+unfolding overLine
+over-none n s ss k ks h = go (bool-cases (ltb (s .limit) k))
+  where
+    go : (ltb (s .limit) k ≡ true) ⊎ (ltb (s .limit) k ≡ false) → (k ≤ s .limit) × (overLine (n + k + 2) ss ks ≡ 0)
+    go (inl p) = let z : n + s .limit + 1 ≡ 0 = rw p at h in absurd (omega arith)
+    go (inr p) = (ltb-false (s .limit) k p, rw p at h)
+
+-- No section is over its limit, and there is a query.
+pub count-none : (ks : List ℕ) → countFault ks ≡ 0 → (overLine 1 sections ks ≡ 0) × (noQueryLine ks ≡ 0)
+unfolding countFault
+count-none ks h = go (bool-cases (eqb (overLine 1 sections ks) 0))
+  where
+    go : (eqb (overLine 1 sections ks) 0 ≡ true) ⊎ (eqb (overLine 1 sections ks) 0 ≡ false)
+        → (overLine 1 sections ks ≡ 0) × (noQueryLine ks ≡ 0)
+    go (inl p) = (eqb-true _ 0 p, rw p at h)
+    go (inr p) = let z : overLine 1 sections ks ≡ 0 = rw p at h in absurd (eqb-false _ 0 p z)
+
+line-some : (ks : List ℕ) → 1 ≤ lineOf ks 0
+unfolding lineOf
+line-some [] = omega arith
+line-some (k ∷ ks) = omega (arith, line-some ks)
+
+no-query : (ks : List ℕ) → noQueryLine ks ≡ 0 → getD ks 4 0 ≡ 0 → ⊥
+unfolding noQueryLine
+no-query ks h z = let l : lineOf (take 4 ks) 0 ≡ 0 = rw z at h in let some = line-some (take 4 ks) in absurd (omega arith)
+
+-- The counts of rows in five sections.
+abbrev pub asCounts : List ℕ → Counts
+asCounts ks = record {
+  names = getD ks 0 0;
+  builtins = getD ks 1 0;
+  exprs = getD ks 2 0;
+  statements = getD ks 3 0;
+  queries = getD ks 4 0;
+}
+
+pub within : (ks : List ℕ) → countFault ks ≡ 0 → Within (asCounts ks)
+unfolding sections
+within [] h = absurd (no-query [] (count-none [] h .1) refl)
+within (a ∷ []) h = absurd (no-query _ (count-none _ h .1) refl)
+within (a ∷ b ∷ []) h = absurd (no-query _ (count-none _ h .1) refl)
+within (a ∷ b ∷ c ∷ []) h = absurd (no-query _ (count-none _ h .1) refl)
+within (a ∷ b ∷ c ∷ d ∷ []) h = absurd (no-query _ (count-none _ h .1) refl)
+within (a ∷ b ∷ c ∷ d ∷ e ∷ ks) h =
+    let none = count-none (a ∷ b ∷ c ∷ d ∷ e ∷ ks) h in
+    let first = over-none _ _ _ a _ (none .0) in
+    let second = over-none _ _ _ b _ (first .1) in
+    let third = over-none _ _ _ c _ (second .1) in
+    let fourth = over-none _ _ _ d _ (third .1) in
+    let fifth = over-none _ _ _ e _ (fourth .1) in
+    let some = no-query _ (none .1) in
+    record {
+      few-names = first .0;
+      few-builtins = second .0;
+      few-exprs = third .0;
+      few-statements = fourth .0;
+      few-queries = fifth .0;
+      some-query = omega arith;
+    }
+
+-- ---- the special names' rows
+
+name-row-low : (n : ℕ) (w : List ℕ) (ls : List (List ℕ)) → nameRow (suc n) w ls ≤ n + length ls
+unfolding nameRow
+name-row-low n w [] = omega arith
+name-row-low n w (l ∷ ls) = go (bool-cases (same l w)) (name-row-low (suc n) w ls)
+  where
+    go : (same l w ≡ true) ⊎ (same l w ≡ false) → nameRow (suc (suc n)) w ls ≤ suc n + length ls
+        → cond (same l w) (suc n) (nameRow (suc (suc n)) w ls) ≤ n + suc (length ls)
+    go (inl p) h = rw p (omega arith)
+    go (inr p) h = rw p (omega arith)
+
+first-count : (rs : List (List (List ℕ))) → getD (map length rs) 0 0 ≡ length (getD rs 0 [])
+first-count [] = refl
+first-count (ls ∷ rs) = refl
+
+module _ (s : List ℕ) (few : getD (rowCounts s) 0 0 ≤ 127) where
+  row-low : (w : List ℕ) → rowOfName s w ≤ 127
+  unfolding rowOfName
+  row-low w = let h = name-row-low 0 w (sheetNames s) in omega (arith, first-count (sectionRows s))
+
+  pub small : (x : Special) → SpecialRead s x → Small x
+  small x r = record {
+    blank = rw (r .blank) (row-low (bytes "_"));
+    input = rw (r .input) (row-low (bytes "input"));
+    «data» = rw (r .«data») (row-low (bytes "data"));
+  }
+
+-- ---- what is read
+
+pub blank-room : (d : List ℕ) → d ≡ blank → 8192 ≤ length d
+unfolding blank
+blank-room d is = let n : length d ≡ 8192 = ap length is ∙ length-replicate {A = ℕ} 8192 0 in omega arith
+
+-- The counts of a sheet that has the form, as the reader gives them.
+abbrev pub countsIn : read-of.Read → Counts
+countsIn r = record {
+  names = r .names;
+  builtins = r .«built_ins»;
+  exprs = r .expressions;
+  statements = r .statements;
+  queries = r .queries;
+}
+
+module _ (s d : List ℕ) (r : read-of.Read) (e : List ℕ) (is : d ≡ blank) (k : SheetRead s d r e) (good : r .fault ≡ 0) where
+  pub counts-are : countsIn r ≡ countsOf s
+  counts-are = ap asCounts (k .count good)
+
+  pub few-names : r .names ≤ 127 → getD (rowCounts s) 0 0 ≤ 127
+  few-names h = let n : r .names ≡ getD (rowCounts s) 0 0 = ap (λ (ks : List ℕ). getD ks 0 0) (k .count good) in omega arith
+
+  pub rows-are : e ≡ rowTables s
+  rows-are = k .table good ∙ ap (tables s) is
+
+  pub counts-fault-is : countFault (counts r) ≡ countsFault s
+  unfolding countsFault
+  counts-fault-is = ap countFault (k .count good)
+
+  pub fields-fault-is : firstLine (countsIn r) e ≡ fieldsFault s
+  unfolding fieldsFault
+  fields-fault-is = ap₂ firstLine counts-are rows-are
+
+  pub head-is : (x : Special) → SpecialRead s x → sets e 0 (headOf (countsIn r) x) ≡ readTables s
+  unfolding readTables
+  head-is x special = rw (special .blank, special .input, special .«data») (ap₂ (λ (t : List ℕ) (c : Counts). sets t 0 (headOf c (specialOf s))) rows-are counts-are)
+
+-- ---- each way out
+
+refused : (s : List ℕ) (r : Outcome) (e : List ℕ) → r ≡ asked s → isRead r ≡ false → Asked s r e
+refused s r e is not-read = record { came-to = is; tabled = λ is-read. absurd (not-both is-read not-read) }
+
+module _ (s e : List ℕ) where
+  pub too-long : 32768 < length s → Asked s TooLong e
+  unfolding asked
+  too-long h = refused s TooLong e (sym (rw (lt-leb (length s) 32768 h))) refl
+
+  module _ (short : length s ≤ 32768) where
+    pub bad-form : (l : ℕ) → l ≡ formFault s → (l ≡ 0 → ⊥) → Asked s (BadForm l) e
+    unfolding asked
+    bad-form l is some =
+        refused s (BadForm l) e (sym (rw (le-leb (length s) 32768 short, ne-eqb (formFault s) 0 (λ z. some (is ∙ z)), sym is))) refl
+
+    module _ (formed : formFault s ≡ 0) where
+      pub bad-name : (l : ℕ) → l ≡ namesFault s → (l ≡ 0 → ⊥) → Asked s (BadName l) e
+      unfolding asked
+      bad-name l is some =
+          refused s (BadName l) e
+          (sym (rw (le-leb (length s) 32768 short, formed, ne-eqb (namesFault s) 0 (λ z. some (is ∙ z)), sym is))) refl
+
+      module _ (named : namesFault s ≡ 0) where
+        pub bad-count : (l : ℕ) → l ≡ countsFault s → (l ≡ 0 → ⊥) → Asked s (BadCount l) e
+        unfolding asked
+        bad-count l is some =
+            refused s (BadCount l) e
+            (sym (rw (le-leb (length s) 32768 short, formed, named, ne-eqb (countsFault s) 0 (λ z. some (is ∙ z)), sym is))) refl
+
+        module _ (counted : countsFault s ≡ 0) where
+          pub bad-field : (l : ℕ) → l ≡ fieldsFault s → (l ≡ 0 → ⊥) → Asked s (BadField l) e
+          unfolding asked
+          bad-field l is some =
+              refused s (BadField l) e
+              (sym (rw (le-leb (length s) 32768 short, formed, named, counted, ne-eqb (fieldsFault s) 0 (λ z. some (is ∙ z)), sym is))) refl
+
+          pub all-read : fieldsFault s ≡ 0 → e ≡ readTables s → Asked s Read e
+          unfolding asked
+          all-read held is = record {
+            came-to = sym (rw (le-leb (length s) 32768 short, formed, named, counted, held));
+            tabled = λ is-read. is;
+          }
