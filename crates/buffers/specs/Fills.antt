@@ -1,12 +1,29 @@
--- A buffer whose front holds the numbers from 0 up: one more at a time.
+-- A buffer whose front holds zeros, or the numbers from 0 up: one more at a time.
 use mathlib.Core.Path.{_≡_, refl, sym, ap, _∙_}
-use mathlib.Core.List.{List, [], _∷_, _++_, append-assoc}
+use mathlib.Core.List.{List, [], _∷_, _++_, append-assoc, append-nil}
 use Prim.Native.Nat.{ℕ, zero, suc, _+_, _-_, _≤_, _<_}
 use native.Mathlib.Numerals.{add-one}
 use native.Mathlib.Omega.{arith}
-use lib.ListN.{length, getD, drop, set}
-use lib.Seq.{drop-cons, set-at}
+use lib.ListN.{length, getD, drop, replicate, set}
+use lib.Seq.{drop-cons, drop-length, set-at}
+use borrow.Author.Fill.{fill-more}
 use Rattle.basics.specs.Ranges.{counted, range}
+
+-- ---- zeros
+
+-- A buffer that held d, and holds zeros below i.
+abbrev pub clearedTo : List ℕ → ℕ → List ℕ
+clearedTo d i = replicate i 0 ++ drop i d
+
+pub clear-more : (d b : List ℕ) (i : ℕ) → i < length d → b ≡ clearedTo d i → set b i 0 ≡ clearedTo d (i + 1)
+clear-more d b i h is = ap (λ (l : List ℕ). set l i 0) is ∙ fill-more i 0 d h
+
+pub clear-all : (d b : List ℕ) (i : ℕ) → i ≡ length d → b ≡ clearedTo d i → b ≡ replicate (length d) 0
+clear-all d b i e is =
+    is ∙ ap (clearedTo d) e ∙ ap (λ (l : List ℕ). replicate (length d) 0 ++ l) (drop-length d)
+    ∙ append-nil (replicate (length d) 0)
+
+-- ---- numbers
 
 length-counted : (a c : ℕ) → length (counted a c) ≡ c
 length-counted a zero = refl

@@ -1,5 +1,6 @@
 pub mod Verdict
 pub mod Asked
 pub mod Leaving
+pub mod TextLines
 pub mod LineBounds
 pub mod Trials
