@@ -2,6 +2,7 @@
 
 use chains::all_vars;
 use chains::ends_odd;
+use chains::follow_all;
 use chains::is_var;
 use fields::CHAIN_OR_NONE;
 use fields::FIRST;
@@ -41,13 +42,13 @@ ghost use Rattle.faults.specs.Tests.{misnestedBy, faultOf, partsBy, fiel
 // ---- a field that holds number v
 
 // Is the row, or a member of the chain, no Var though it should be one?
-fn not_var(tables: &[u16], counts: Counts, field: Field, v: usize) -> bool
-    requires { ⌜ (8192 ≤ length (now tables)) × (v ≤ 512) × Within counts ⌝ }
+fn not_var(work: &[u64], tables: &[u16], counts: Counts, field: Field, v: usize) -> bool
+    requires { ⌜ Known counts (now tables) (now work) × (v ≤ 512) ⌝ }
     ensures { λ r. ⌜ r ≡ notVar counts (now (tables .entry)) field v ⌝ }
 {
     if field.var {
         if field.chain {
-            return !all_vars(tables, counts, v);
+            return !all_vars(work, tables, counts, v);
         }
         return !is_var(tables, counts, v);
     }
@@ -55,12 +56,12 @@ fn not_var(tables: &[u16], counts: Counts, field: Field, v: usize) -> bool
 }
 
 // Does a chain of keys and values lack the last value?
-fn lacks_value(tables: &[u16], counts: Counts, field: Field, v: usize) -> bool
-    requires { ⌜ (8192 ≤ length (now tables)) × (v ≤ 512) × Within counts ⌝ }
+fn lacks_value(work: &[u64], tables: &[u16], counts: Counts, field: Field, v: usize) -> bool
+    requires { ⌜ Known counts (now tables) (now work) × (v ≤ 512) ⌝ }
     ensures { λ r. ⌜ r ≡ unpaired counts (now (tables .entry)) field v ⌝ }
 {
     if field.pairs {
-        return ends_odd(tables, counts, v);
+        return ends_odd(work, tables, counts, v);
     }
     false
 }
@@ -103,10 +104,10 @@ fn field_fault(
     if most < v {
         return true;
     }
-    if not_var(tables, counts, field, v) {
+    if not_var(work, tables, counts, field, v) {
         return true;
     }
-    if lacks_value(tables, counts, field, v) {
+    if lacks_value(work, tables, counts, field, v) {
         return true;
     }
     is_misnested(work, counts, field, v, q)
@@ -395,6 +396,15 @@ fn first_query(work: &[u64], tables: &[u16], counts: Counts) -> usize
     0
 }
 
+// What the tests ask the memory for: the marks of the rows, and what their chains come to.
+fn note_rows(work: &mut [u64], tables: &[u16], counts: Counts)
+    requires { ⌜ (8192 ≤ length (now tables)) × (8192 ≤ length (now work)) × Within counts ⌝ }
+    ensures { λ _. ⌜ Known counts (now (tables .entry)) (now (work .exit)) ⌝ }
+{
+    mark_all(work, tables, counts);
+    follow_all(work, tables, counts);
+}
+
 // The first line at fault, in the order of the sheet, or 0.
 pub fn first_line(tables: &[u16], counts: Counts, work: &mut [u64]) -> usize
     requires { ⌜ (8192 ≤ length (now tables)) × (8192 ≤ length (now work)) × Within counts ⌝ }
@@ -404,7 +414,7 @@ pub fn first_line(tables: &[u16], counts: Counts, work: &mut [u64]) -> usize
     if b != 0 {
         return counts.names + 3 + b;
     }
-    mark_all(work, tables, counts);
+    note_rows(work, tables, counts);
     let e = first_expr(work, tables, counts);
     if e != 0 {
         return counts.names + counts.builtins + 5 + e;

@@ -26,7 +26,7 @@ returns-2 c =
 
 not-var-requires : tie.Need-not-var-requires
 not-var-requires c κs =
-    let a = c .before .before .before .before .before .before .args in (c .before .before .before .before .before .before .pre .tables, limit-small (a .counts) (c .before .before .before .before .before .before .pre .within) (c .before .before .before .field-from .result .section) (a .value) (subst (λ (k : ℕ). a .value ≤ k) (c .before .limit .ensures) (c .if2 .left)), c .before .before .before .before .before .before .pre .within)
+    let a = c .before .before .before .before .before .before .args in (c .before .before .before .before .before .before .pre, limit-small (a .counts) (c .before .before .before .before .before .before .pre .within) (c .before .before .before .field-from .result .section) (a .value) (subst (λ (k : ℕ). a .value ≤ k) (c .before .limit .ensures) (c .if2 .left)))
 
 returns-3 : tie.Need-returns-3
 returns-3 c =
@@ -36,7 +36,7 @@ returns-3 c =
 
 lacks-value-requires : tie.Need-lacks-value-requires
 lacks-value-requires c κs =
-    let a = c .before .before .before .before .before .before .before .before .args in (c .before .before .before .before .before .before .before .before .pre .tables, limit-small (a .counts) (c .before .before .before .before .before .before .before .before .pre .within) (c .before .before .before .before .before .field-from .result .section) (a .value) (subst (λ (k : ℕ). a .value ≤ k) (c .before .before .before .limit .ensures) (c .before .before .if2 .left)), c .before .before .before .before .before .before .before .before .pre .within)
+    let a = c .before .before .before .before .before .before .before .before .args in (c .before .before .before .before .before .before .before .before .pre, limit-small (a .counts) (c .before .before .before .before .before .before .before .before .pre .within) (c .before .before .before .before .before .field-from .result .section) (a .value) (subst (λ (k : ℕ). a .value ≤ k) (c .before .before .before .limit .ensures) (c .before .before .if2 .left)))
 
 returns-4 : tie.Need-returns-4
 returns-4 c =

@@ -11,7 +11,8 @@ returns c =
     simp (c .before .if1 .taken) (c .ends-odd .ensures)
 
 returns-2 : tie.Need-returns-2
-returns-2 c = search needs
+returns-2 c =
+    simp (c .if1 .left)
 
 pub lacks-value-spec : {M : Type 1} → statement M
 lacks-value-spec = tie.close (tie.spec ends-odd-requires returns returns-2)

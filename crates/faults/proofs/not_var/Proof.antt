@@ -20,7 +20,8 @@ returns-2 c =
     simp (c .before .before .if1 .taken, c .before .if2 .left) (ap not (c .is-var .ensures))
 
 returns-3 : tie.Need-returns-3
-returns-3 c = search needs
+returns-3 c =
+    simp (c .if1 .left)
 
 pub not-var-spec : {M : Type 1} → statement M
 not-var-spec = tie.close (tie.spec all-vars-requires returns is-var-requires returns-2 returns-3)
