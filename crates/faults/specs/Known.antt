@@ -1,4 +1,4 @@
--- What the marks in memory tell of the rows.
+-- What the marks in memory tell of the rows, and the numbers behind them of the chains.
 use mathlib.Core.Path.{_≡_, refl, sym, ap, _∙_}
 use mathlib.Core.Bool.{Bool}
 use mathlib.Core.List.{List}
@@ -12,13 +12,27 @@ use Rattle.naming.specs.Entries.{exprRow}
 use Rattle.naming.specs.Namings.{namers, namedSo, inChain, namings}
 use Rattle.naming.specs.Nesting.{enclosing}
 use Rattle.marks.specs.Codes.{codeOf, code-so, code-member}
-use Rattle.marks.specs.Homes.{Settled}
+use Rattle.marks.specs.Homes.{Settled, settled-same}
+use Rattle.chains.specs.Numbers.{Chained, Followed}
 
--- The tables and the counts are in bounds, and the memory holds the marks of the rows.
+-- The tables and the counts are in bounds, and the memory holds the marks of the rows and the numbers of the chains.
 pub record Known (c : Counts) (t w : List ℕ) : Type 0 where
   pub tables : 8192 ≤ length t
   pub within : Within c
   pub marks : Settled (namings c t) (exprRow (c .exprs)) w
+  pub chains : Chained c t 0 w
+
+-- The chains are followed when the rows are marked.
+pub known-so : (c : Counts) (t w u : List ℕ) → 8192 ≤ length t → Within c → Settled (namings c t) (exprRow (c .exprs)) w
+    → Followed c t w u → Known c t u
+known-so c t w u tables within marks followed = record {
+  tables = tables;
+  within = within;
+  marks =
+      settled-same (namings c t) (exprRow (c .exprs)) w u (omega (arith, followed .chains .room)) (followed .marks)
+      (omega (arith, within .few-exprs)) marks;
+  chains = followed .chains;
+}
 
 module _ (c : Counts) (t w : List ℕ) (known : Known c t w) (k : ℕ) where
   pub so-is : k < 673 → eqb (getD w k 0 % 4) 1 ≡ namedSo k (namers k (namings c t))

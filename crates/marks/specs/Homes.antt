@@ -45,6 +45,17 @@ settled-start ns w m = record {
   homes = λ j h l. absurd (omega arith);
 }
 
+-- Only the first 673 numbers are marks.
+pub settled-same : (ns : List Naming) (n : ℕ) (w u : List ℕ) → 673 ≤ length u → ((j : ℕ) → j < 673 → getD u j 0 ≡ getD w j 0)
+    → n < 673 → Settled ns n w → Settled ns n u
+settled-same ns n w u room same small s = record {
+  room = room;
+  low = λ j h. ap (λ (v : ℕ). v % 8) (same j h) ∙ s .low j h;
+  queries = λ j h. same j (omega arith) ∙ s .queries j h;
+  later = λ j h l. same j h ∙ s .later j h l;
+  homes = λ j h l. ap (λ (v : ℕ). v / 8) (same j (omega arith)) ∙ s .homes j h l;
+}
+
 -- ---- what a mark becomes
 
 once-home : (up chain : Bool) (p h : ℕ) → settled (onceOf up chain p) h / 8 ≡ cond up h 0

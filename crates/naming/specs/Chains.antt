@@ -24,9 +24,9 @@ module _ (c : Counts) (t : List ℕ) where
   endsIn zero odd r = false
   endsIn (suc n) odd r = cond (eqb (exprAt t r .next) 0) odd (goesOn r && endsIn n (not odd) (exprAt t r .next))
 
-  -- No chain has more members than there are expressions.
+  -- After row r a chain has no more members than there are expressions.
   unfoldable pub allVars : ℕ → Bool
-  allVars r = varsIn (c .exprs) r
+  allVars r = varsIn (suc (c .exprs)) r
 
   unfoldable pub endsOdd : ℕ → Bool
-  endsOdd r = endsIn (c .exprs) true r
+  endsOdd r = endsIn (suc (c .exprs)) true r

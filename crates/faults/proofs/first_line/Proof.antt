@@ -20,8 +20,8 @@ unfolding firstLine lineOf
 returns c =
     let a = c .before .before .before .before .before .args in line-here (a .counts) builtins _ _ (c .before .before .first-builtin .result) _ (c .before .before .first-builtin .ensures .0) (c .before .if1 .taken) refl
 
-mark-all-requires : tie.Need-mark-all-requires
-mark-all-requires c κs = search needs
+note-rows-requires : tie.Need-note-rows-requires
+note-rows-requires c κs = search needs
 
 first-expr-requires : tie.Need-first-expr-requires
 first-expr-requires c κs = search needs
@@ -117,7 +117,7 @@ first-line-spec =
     add-result
     add-result-2
     returns
-    mark-all-requires
+    note-rows-requires
     first-expr-requires
     add-result-3
     add-result-4

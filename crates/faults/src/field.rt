@@ -1,0 +1,90 @@
+// Is a field at fault by the number that it holds?
+
+use chains::all_vars;
+use chains::ends_odd;
+use chains::is_var;
+use fields::Field;
+use fields::field_from;
+use fields::limit;
+use levels::level;
+use marks::EXPR_ROW;
+use records::Counts;
+ghost use mathlib.Core.Path.{_≡_};
+ghost use Prim.Native.Nat.{_≤_};
+ghost use lib.ListN.{length};
+ghost use Rattle.records.specs.Layout.{Within};
+ghost use Rattle.naming.specs.Faults.{notVar, unpaired};
+ghost use Rattle.faults.specs.Known.{Known};
+ghost use Rattle.faults.specs.Tests.{misnestedBy, faultOf};
+
+// Is the row, or a member of the chain, no Var though it should be one?
+fn not_var(work: &[u64], tables: &[u16], counts: Counts, field: Field, v: usize) -> bool
+    requires { ⌜ Known counts (now tables) (now work) × (v ≤ 512) ⌝ }
+    ensures { λ r. ⌜ r ≡ notVar counts (now (tables .entry)) field v ⌝ }
+{
+    if field.var {
+        if field.chain {
+            return !all_vars(work, tables, counts, v);
+        }
+        return !is_var(tables, counts, v);
+    }
+    false
+}
+
+// Does a chain of keys and values lack the last value?
+fn lacks_value(work: &[u64], tables: &[u16], counts: Counts, field: Field, v: usize) -> bool
+    requires { ⌜ Known counts (now tables) (now work) × (v ≤ 512) ⌝ }
+    ensures { λ r. ⌜ r ≡ unpaired counts (now (tables .entry)) field v ⌝ }
+{
+    if field.pairs {
+        return ends_odd(work, tables, counts, v);
+    }
+    false
+}
+
+// Is a query that is nested in query q not larger, or too deep?
+fn is_misnested(work: &[u64], counts: Counts, field: Field, v: usize, q: usize) -> bool
+    requires { ⌜ (673 ≤ length (now work)) × Within counts ⌝ }
+    ensures { λ r. ⌜ r ≡ misnestedBy counts (now (work .entry)) field v q ⌝ }
+{
+    if field.section != fields::QUERIES {
+        return false;
+    }
+    if v <= q {
+        return true;
+    }
+    if v == 1 {
+        return true;
+    }
+    records::NESTING < level(work, EXPR_ROW + counts.exprs, counts.queries, v)
+}
+
+// Is a field at fault, in a row that lies in query q?
+pub(crate) fn field_fault(
+    work: &[u64],
+    tables: &[u16],
+    counts: Counts,
+    q: usize,
+    holds: u32,
+    value: u16,
+) -> bool
+    requires { ⌜ Known counts (now tables) (now work) ⌝ }
+    ensures { λ r. ⌜ r ≡ faultOf counts (now (tables .entry)) q holds value ⌝ }
+{
+    let field = field_from(holds);
+    let v = value as usize;
+    if v == 0 {
+        return field.set;
+    }
+    let most = limit(counts, field.section);
+    if most < v {
+        return true;
+    }
+    if not_var(work, tables, counts, field, v) {
+        return true;
+    }
+    if lacks_value(work, tables, counts, field, v) {
+        return true;
+    }
+    is_misnested(work, counts, field, v, q)
+}

@@ -1,0 +1,175 @@
+// Is an expression, a statement or a query at fault, by its mark and its fields?
+
+use crate::field::field_fault;
+use fields::CHAIN_OR_NONE;
+use fields::FIRST;
+use fields::FORMS;
+use fields::KINDS;
+use fields::SECOND;
+use fields::STATEMENT_OR_NONE;
+use fields::THIRD;
+use fields::of_form;
+use fields::of_kind;
+use marks::EXPR_ROW;
+use marks::STATEMENT_ROW;
+use marks::next_holds;
+use records::Counts;
+use records::Expr;
+use records::Statement;
+use records::expr_at;
+use records::first_at;
+use records::statement_at;
+ghost use mathlib.Core.Path.{_≡_};
+ghost use Prim.Native.Nat.{_≤_};
+ghost use Rattle.naming.specs.Faults.{exprFault, statementFault, queryFault};
+ghost use Rattle.faults.specs.Known.{Known};
+ghost use Rattle.faults.specs.Tests.{partsBy, fieldsBy, exprBy, statementBy, queryBy};
+
+// ---- expressions
+
+fn parts_fault(
+    work: &[u64],
+    tables: &[u16],
+    counts: Counts,
+    q: usize,
+    fs: u32,
+    next: u32,
+    x: Expr,
+) -> bool
+    requires { ⌜ Known counts (now tables) (now work) ⌝ }
+    ensures { λ r. ⌜ r ≡ partsBy counts (now (tables .entry)) q fs next x ⌝ }
+{
+    if field_fault(work, tables, counts, q, fs, x.name) {
+        return true;
+    }
+    if field_fault(work, tables, counts, q, fs / FIRST, x.first) {
+        return true;
+    }
+    if field_fault(work, tables, counts, q, fs / SECOND, x.second) {
+        return true;
+    }
+    if field_fault(work, tables, counts, q, fs / THIRD, x.third) {
+        return true;
+    }
+    field_fault(work, tables, counts, q, next, x.next)
+}
+
+// Is an expression with such a mark at fault?
+fn judge_expr(work: &[u64], tables: &[u16], counts: Counts, mark: u64, x: Expr) -> bool
+    requires { ⌜ Known counts (now tables) (now work) ⌝ }
+    ensures { λ r. ⌜ r ≡ exprBy counts (now (tables .entry)) mark x ⌝ }
+{
+    if mark % 4 != 1 {
+        return true;
+    }
+    let kind = x.kind as usize;
+    if kind == 0 {
+        return true;
+    }
+    if KINDS < kind {
+        return true;
+    }
+    let fs = of_kind(x.kind);
+    let next = next_holds(mark / 4 % 2 == 1);
+    parts_fault(work, tables, counts, (mark / 8) as usize, fs, next, x)
+}
+
+pub(crate) fn expr_fault(work: &[u64], tables: &[u16], counts: Counts, row: usize) -> bool
+    requires { ⌜ Known counts (now tables) (now work) × (1 ≤ row) × (row ≤ counts .exprs) ⌝ }
+    ensures { λ r. ⌜ r ≡ exprFault counts (now (tables .entry)) row ⌝ }
+{
+    let x = expr_at(tables, row);
+    let mark = work[EXPR_ROW + row];
+    judge_expr(work, tables, counts, mark, x)
+}
+
+// ---- statements
+
+fn fields_fault(
+    work: &[u64],
+    tables: &[u16],
+    counts: Counts,
+    q: usize,
+    fs: u32,
+    x: Statement,
+) -> bool
+    requires { ⌜ Known counts (now tables) (now work) ⌝ }
+    ensures { λ r. ⌜ r ≡ fieldsBy counts (now (tables .entry)) q fs x ⌝ }
+{
+    if field_fault(work, tables, counts, q, fs, x.query) {
+        return true;
+    }
+    if field_fault(work, tables, counts, q, fs / FIRST, x.first) {
+        return true;
+    }
+    if field_fault(work, tables, counts, q, fs / SECOND, x.second) {
+        return true;
+    }
+    if field_fault(work, tables, counts, q, fs / THIRD, x.third) {
+        return true;
+    }
+    if field_fault(work, tables, counts, q, CHAIN_OR_NONE, x.with) {
+        return true;
+    }
+    field_fault(work, tables, counts, q, STATEMENT_OR_NONE, x.next)
+}
+
+// Is a statement with such a mark at fault?
+fn judge_statement(work: &[u64], tables: &[u16], counts: Counts, mark: u64, x: Statement) -> bool
+    requires { ⌜ Known counts (now tables) (now work) ⌝ }
+    ensures { λ r. ⌜ r ≡ statementBy counts (now (tables .entry)) mark x ⌝ }
+{
+    if mark % 4 != 1 {
+        return true;
+    }
+    let form = x.form as usize;
+    if form == 0 {
+        return true;
+    }
+    if FORMS < form {
+        return true;
+    }
+    let fs = of_form(x.form);
+    fields_fault(work, tables, counts, (mark / 8) as usize, fs, x)
+}
+
+pub(crate) fn statement_fault(work: &[u64], tables: &[u16], counts: Counts, row: usize) -> bool
+    requires { ⌜ Known counts (now tables) (now work) × (1 ≤ row) × (row ≤ counts .statements) ⌝ }
+    ensures { λ r. ⌜ r ≡ statementFault counts (now (tables .entry)) row ⌝ }
+{
+    let x = statement_at(tables, row);
+    let mark = work[STATEMENT_ROW + row];
+    judge_statement(work, tables, counts, mark, x)
+}
+
+// ---- queries
+
+// Is a query with such a mark at fault? Nothing names row 1.
+fn judge_query(
+    work: &[u64],
+    tables: &[u16],
+    counts: Counts,
+    mark: u64,
+    row: usize,
+    first: u16,
+) -> bool
+    requires { ⌜ Known counts (now tables) (now work) ⌝ }
+    ensures { λ r. ⌜ r ≡ queryBy counts (now (tables .entry)) mark row first ⌝ }
+{
+    if row == 1 {
+        return field_fault(work, tables, counts, row, STATEMENT_OR_NONE, first);
+    }
+    if mark % 4 != 1 {
+        return true;
+    }
+    field_fault(work, tables, counts, row, STATEMENT_OR_NONE, first)
+}
+
+pub(crate) fn query_fault(work: &[u64], tables: &[u16], counts: Counts, row: usize) -> bool
+    requires { ⌜ Known counts (now tables) (now work) × (row ≤ counts .queries) ⌝ }
+    ensures { λ r. ⌜ r ≡ queryFault counts (now (tables .entry)) row ⌝ }
+{
+    let first = first_at(tables, row);
+    let mark = work[row];
+    judge_query(work, tables, counts, mark, row, first)
+}
