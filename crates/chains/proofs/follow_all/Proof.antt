@@ -1,10 +1,9 @@
 -- The rows below have their numbers, and the marks are as they were.
 use borrow.Author.Needs.{needs}
 use mathlib.Core.Path.{_≡_, refl, _∙_, subst}
-use mathlib.Core.List.{List}
 use Prim.Native.Nat.{ℕ, _+_, _≤_, _<_}
 use native.Mathlib.Omega.{arith}
-use lib.ListN.{length, getD, set, length-set}
+use lib.ListN.{length, getD, length-set}
 use lib.Seq.{getD-set-other}
 use Rattle.chains.specs.Numbers.{Chained, number-more}
 use Rattle.chains.proofs.follow_all.Statement.{statement}
