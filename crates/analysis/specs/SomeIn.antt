@@ -1,0 +1,52 @@
+-- `some .. in ..` (scheduler.rs, `gather_some_vars`, and `Literal::SomeIn` of `analyze_query`).
+use mathlib.Core.Bool.{Bool, not, _||_, _&&_}
+use mathlib.Core.List.{List, [], _∷_, _++_, map, foldl}
+use Prim.Native.Nat.{ℕ}
+use Rattle.basics.specs.Lists.{filter}
+use Rattle.turns.specs.Definitions.{Definition}
+use Rattle.trees.specs.Lists.{concatMap}
+use Rattle.trees.specs.Sheet.{Sheet, Row, isInput}
+use Rattle.trees.specs.Kinds.{isVar}
+use Rattle.trees.specs.Trees.{Tree, rowOf}
+use Rattle.trees.specs.Traverse.{vars, comprs}
+use Rattle.scopes.specs.Scopes.{Scope, spanOf, isLocal}
+use Rattle.uses.specs.Uses.{define, indexDefinitions}
+use Rattle.analysis.specs.States.{indexVariable, State, addFirstUses, addDefinitions, fail, inTurn}
+use Rattle.analysis.specs.Using.{gatherUsedVars, recordOne}
+use Rattle.analysis.specs.Comprs.{Nested, Mods, allUsed, processComprs, useExpr}
+
+-- `gather_some_vars`, among the leaves of a pattern: the locals, `input` apart.
+unfoldable pub someVarsIn : Sheet → Scope → List Tree → List Row
+someVarsIn sheet sc ls = filter (λ (w : Row). isLocal sc (w .name) && not (isInput sheet (w .name))) (vars ls)
+
+-- And what is neither a local nor `input`.
+unfoldable pub nonVars : Sheet → Scope → List Tree → List Tree
+nonVars sheet sc ls =
+    filter (λ e. not (isVar (rowOf e) && (isInput sheet (rowOf e .name) || isLocal sc (rowOf e .name)))) ls
+
+-- 14, if a pattern's bracket would define something.
+abbrev pub failIfSome : List Definition → State → State
+failIfSome [] s = s
+failIfSome (d ∷ defs) s = fail indexVariable s
+
+module _ (sheet : Sheet) (nested : Nested) (parents : List Scope) where
+  unfoldable pub processNonVar : ℕ → Mods → State → Tree → State
+  processNonVar i m s e =
+      inTurn (gatherUsedVars sheet i [] e
+      ∷ (λ t. failIfSome (indexDefinitions sheet (t .scope) [] i e) t)
+      ∷ processComprs sheet nested parents (comprs e ++ m .comprs)
+      ∷ []) s
+
+  -- The collection, then the names, which it defines; then the rest of the pattern, whose uses are the empty name's. The modifiers' names
+  -- count for the collection alone, their comprehensions for the rest of the pattern too.
+  unfoldable pub processSomeIn : ℕ → Mods → List Tree → Tree → State → State
+  processSomeIn i m pattern collection s =
+      let names = someVarsIn sheet (s .scope) pattern in
+      let others = nonVars sheet (s .scope) pattern in
+      let later : Mods = record { usedVars = []; comprs = m .comprs } in
+      inTurn (useExpr sheet nested parents i [] m collection
+      ∷ (λ t. addDefinitions (map (λ (w : Row). define i (w .name) (allUsed sheet [] m collection t)) names) t)
+      ∷ addFirstUses (map spanOf names)
+      ∷ (λ t. foldl (processNonVar i m) t others)
+      ∷ (λ t. recordOne i 0 (concatMap (λ e. allUsed sheet [] later e t) others) t)
+      ∷ []) s

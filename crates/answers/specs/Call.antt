@@ -1,0 +1,88 @@
+-- The whole call: what it comes to and what it leaves, as functions of the sheet's bytes and of how long the lent buffers are.
+use mathlib.Core.Bool.{Bool, cond}
+use mathlib.Core.List.{List, [], _∷_, _++_}
+use Prim.Native.Nat.{ℕ, _-_}
+use lib.Dec.{leb}
+use lib.ListN.{length, replicate}
+use Rattle.trees.specs.Sheet.{Sheet, sheetOf}
+use Rattle.sheet.specs.declared.Outcome.{Outcome}
+use Rattle.sheet.specs.declared.Outcome.the-variants.{Read, NoRoom, TooLong, BadForm, BadName, BadCount, BadField}
+use Rattle.sheet.specs.Verdict as questions
+use Rattle.analysis.specs.States.{Fault, sound, undefined, usedBefore, lengths, indexVariable, Run}
+use Rattle.analysis.specs.Queries.{analyzeQuerySnippet}
+use Rattle.answers.specs.Text.{answerText, refusalText}
+
+-- What a sheet comes to: a refusal at a position, or a text.
+pub data Result : Type 0 where
+  refused : (number line col : ℕ) → Result
+  answered : (text : List ℕ) → Result
+
+-- Question 8: does the text fit the lent bytes?
+abbrev pub fitting : ℕ → List ℕ → Result
+fitting room text = cond (leb (length text) room) (answered text) (refused 7 0 0)
+
+-- Question 7: does the analysis finish without a fault? The text is about n queries.
+abbrev pub finished : ℕ → ℕ → Run → Fault → Result
+finished n room r sound = fitting room (answerText n (r .schedules))
+finished n room r (undefined l c) = refused 11 l c
+finished n room r (usedBefore l c) = refused 12 l c
+finished n room r (lengths l c) = refused 13 l c
+finished n room r indexVariable = refused 14 0 0
+
+-- Questions 7 and 8, put to a sheet that passed the others.
+unfoldable pub analysed : Sheet → ℕ → Result
+analysed sheet room =
+    let r = analyzeQuerySnippet sheet in
+    finished (length (sheet .queries)) room r (r .fault)
+
+-- The sheet that bytes give, where they pass questions 2 to 6.
+unfoldable pub sheetIn : List ℕ → Sheet
+sheetIn s = sheetOf (questions.countsOf s) (questions.specialOf s) (questions.rowTables s)
+
+-- The questions 1 to 6, then the others.
+abbrev pub afterReading : List ℕ → ℕ → Outcome → Result
+afterReading s room Read = analysed (sheetIn s) room
+afterReading s room NoRoom = refused 1 0 0
+afterReading s room TooLong = refused 2 0 0
+afterReading s room (BadForm l) = refused 3 l 0
+afterReading s room (BadName l) = refused 4 l 0
+afterReading s room (BadCount l) = refused 5 l 0
+afterReading s room (BadField l) = refused 6 l 0
+
+-- All questions, put to bytes with lent buffers of these lengths: tables, work and the answer.
+unfoldable pub result : List ℕ → ℕ → ℕ → ℕ → Result
+result s tables work room = afterReading s room (questions.verdict s tables work)
+
+-- ---- what is left
+
+-- The number, the line and the column returned, and every element of the lent buffers.
+pub record Left : Type 0 where
+  pub number : ℕ
+  pub line : ℕ
+  pub col : ℕ
+  pub tables : List ℕ
+  pub work : List ℕ
+  pub answer : List ℕ
+
+-- Tables and work are zeros; so is the answer behind its text, and all of it after a refusal.
+abbrev pub leftBy : ℕ → ℕ → ℕ → Result → Left
+leftBy tables work room (refused n l c) =
+    record { number = n; line = l; col = c; tables = replicate tables 0; work = replicate work 0; answer = replicate room 0 }
+leftBy tables work room (answered text) = record {
+  number = 0;
+  line = 0;
+  col = 0;
+  tables = replicate tables 0;
+  work = replicate work 0;
+  answer = text ++ replicate (room - length text) 0;
+}
+
+unfoldable pub left : List ℕ → ℕ → ℕ → ℕ → Left
+left s tables work room = leftBy tables work room (result s tables work room)
+
+-- ---- what is printed
+
+-- The printing program's text.
+abbrev pub printed : Result → List ℕ
+printed (refused n l c) = refusalText n l c
+printed (answered text) = text

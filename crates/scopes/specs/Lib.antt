@@ -1,0 +1,4 @@
+pub mod NameSets
+pub mod Scopes
+pub mod Gather
+pub mod GatherLocals

@@ -1,0 +1,81 @@
+-- A query's scope (traversal.rs, `Scope`), and whether a variable exists in the scopes around it.
+use mathlib.Core.Bool.{Bool, true, false, _||_}
+use mathlib.Core.List.{List, [], _∷_, foldl}
+use mathlib.Core.Option.{Option, none, some}
+use Prim.Native.Nat.{ℕ}
+use lib.Dec.{eqb, leb}
+use Rattle.trees.specs.Lists.{find, isSome}
+use Rattle.trees.specs.Sheet.{Row}
+use Rattle.scopes.specs.NameSets.{NameSet, empty, contains, insert, remove}
+
+-- A name and a position where it stands (lexer.rs, `Span`).
+pub record Span : Type 0 where
+  pub name : ℕ
+  pub line : ℕ
+  pub col : ℕ
+
+abbrev pub spanOf : Row → Span
+spanOf w = record { name = w .name; line = w .line; col = w .col }
+
+-- The span that a list holds for a name: the first one.
+abbrev pub spanIn : List Span → ℕ → Option Span
+spanIn spans x = find (λ (p : Span). eqb (p .name) x) spans
+
+-- The locals have the latest in front: of a local gathered twice the later span counts.
+pub record Scope : Type 0 where
+  pub locals : List Span
+  pub unscoped : NameSet
+  pub inputs : NameSet
+  pub usesInput : Bool
+
+-- `Scope::default()`.
+abbrev pub noScope : Scope
+noScope = record { locals = []; unscoped = empty; inputs = empty; usesInput = false }
+
+-- ---- what a gathering step adds
+
+unfoldable pub addLocal : Scope → Row → Scope
+addLocal s w = record { locals = spanOf w ∷ s .locals; unscoped = s .unscoped; inputs = s .inputs; usesInput = s .usesInput }
+
+unfoldable pub addUnscoped : Scope → ℕ → Scope
+addUnscoped s x = record { locals = s .locals; unscoped = insert (s .unscoped) x; inputs = s .inputs; usesInput = s .usesInput }
+
+unfoldable pub addInput : Scope → ℕ → Scope
+addInput s x = record { locals = s .locals; unscoped = s .unscoped; inputs = insert (s .inputs) x; usesInput = s .usesInput }
+
+-- The flag is set, if b.
+unfoldable pub useInput : Bool → Scope → Scope
+useInput b s = record { locals = s .locals; unscoped = s .unscoped; inputs = s .inputs; usesInput = b || s .usesInput }
+
+-- The names of spans leave a set.
+unfoldable pub removeAll : NameSet → List Span → NameSet
+removeAll s spans = foldl (λ r (p : Span). remove r (p .name)) s spans
+
+-- The locals leave inputs and unscoped: the last step of `gather_local_vars`.
+unfoldable pub removeShadowed : Scope → Scope
+removeShadowed s = record {
+  locals = s .locals;
+  unscoped = removeAll (s .unscoped) (s .locals);
+  inputs = removeAll (s .inputs) (s .locals);
+  usesInput = s .usesInput;
+}
+
+-- ---- what is asked of a scope
+
+abbrev pub isLocal : Scope → ℕ → Bool
+isLocal s x = isSome (spanIn (s .locals) x)
+
+-- Is it a local or an unscoped name, one of the query's own?
+unfoldable pub owns : Scope → ℕ → Bool
+owns s x = isLocal s x || contains (s .unscoped) x
+
+-- A local counts only if its line is at most the use's; columns are not compared.
+abbrev pub notBelow : Option Span → Row → Bool
+notBelow none w = false
+notBelow (some p) w = leb (p .line) (w .line)
+
+-- `var_exists`: is the variable w unscoped, or a local not below it, in one of the parents? The innermost stands in front.
+unfoldable pub varExists : List Scope → Row → Bool
+varExists [] w = false
+varExists (p ∷ parents) w =
+    contains (p .unscoped) (w .name) || (notBelow (spanIn (p .locals) (w .name)) w || varExists parents w)

@@ -1,0 +1,55 @@
+-- Expressions as trees (ast.rs, `Expr`): a row with the expressions that its fields name, and the rest of its chain.
+use mathlib.Core.Bool.{cond}
+use mathlib.Core.List.{List, [], _∷_, _++_}
+use Prim.Native.Nat.{ℕ, zero, suc}
+use lib.ListN.{length, getD}
+use Rattle.trees.specs.Sheet.{Sheet, Row}
+use Rattle.trees.specs.Kinds.{isCompr}
+
+pub data Tree : Type 0 where
+  nil : Tree
+  node : (row : Row) (first second third next : Tree) → Tree
+
+-- Stands where a sheet has no such row.
+abbrev pub noRow : Row
+noRow = record { kind = 0; name = 0; line = 0; col = 0; first = 0; second = 0; third = 0; next = 0 }
+
+-- A comprehension's third field names a query, and no expression.
+abbrev pub thirdOf : Row → ℕ
+thirdOf w = cond (isCompr w) 0 (w .third)
+
+-- The tree at row r of a section, down to a depth.
+unfoldable pub decode : ℕ → List Row → ℕ → Tree
+decode zero rows r = nil
+decode (suc depth) rows zero = nil
+decode (suc depth) rows (suc r) =
+    let w = getD rows r noRow in
+    node w (decode depth rows (w .first)) (decode depth rows (w .second)) (decode depth rows (thirdOf w)) (decode depth rows (w .next))
+
+-- The tree at row r: rows are named by smaller ones, so no way down is longer than the section.
+unfoldable pub treeAt : Sheet → ℕ → Tree
+treeAt sheet r = decode (length (sheet .exprs)) (sheet .exprs) r
+
+-- ---- parts
+
+abbrev pub rowOf : Tree → Row
+rowOf nil = noRow
+rowOf (node w a b c n) = w
+
+abbrev pub firstOf : Tree → Tree
+firstOf nil = nil
+firstOf (node w a b c n) = a
+
+abbrev pub secondOf : Tree → Tree
+secondOf nil = nil
+secondOf (node w a b c n) = b
+
+-- The expressions of a chain, each without the rest; none for a field that is 0.
+unfoldable pub chain : Tree → List Tree
+chain nil = []
+chain (node w a b c n) = node w a b c nil ∷ chain n
+
+-- The term of a comprehension, or its key and its value.
+abbrev pub outputsOf : Tree → List Tree
+outputsOf nil = []
+outputsOf (node w a b c n) = chain a ++ chain b
