@@ -5,3 +5,6 @@ pub mod Trees
 pub mod Traverse
 pub mod Paths
 pub mod Statements
+pub mod ListLaws
+pub mod TreeRows
+pub mod StatementRows

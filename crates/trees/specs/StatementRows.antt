@@ -1,0 +1,59 @@
+-- A test that all rows of a sheet pass is passed by the rows of its statements' trees.
+use mathlib.Core.Path.{_≡_, refl}
+use mathlib.Core.Bool.{Bool, true, false, cond, _&&_}
+use mathlib.Core.List.{List, [], _∷_}
+use Prim.Native.Nat.{ℕ, zero, suc}
+use lib.Dec.{eqb}
+use lib.ListN.{length, getD}
+use Rattle.basics.specs.Truth.{and-intro}
+use Rattle.basics.specs.Lists.{all}
+use Rattle.records.specs.declared.Statement.{Statement}
+use Rattle.trees.specs.Sheet.{Sheet, Row}
+use Rattle.trees.specs.Trees.{Tree, noRow, treeAt, chain}
+use Rattle.trees.specs.TreeRows.{allRows, chain-rows, tree-rows}
+use Rattle.trees.specs.Statements.{Literal, someVars, someIn, expr, notExpr, every, Stmt, noStatement, literalOf, stmtsFrom, stmtsOf}
+
+module _ (q : Row → Bool) where
+  abbrev pub literalRows : Literal → Bool
+  literalRows (someVars vs) = allRows q vs
+  literalRows (someIn key value collection) = allRows q key && (allRows q value && allRows q collection)
+  literalRows (expr e) = allRows q e
+  literalRows (notExpr e) = allRows q e
+  literalRows (every key value domain query) = allRows q key && (allRows q value && allRows q domain)
+
+  abbrev pub stmtRows : Stmt → Bool
+  stmtRows st = all (allRows q) (st .withMods) && literalRows (st .literal)
+
+  module _ (sheet : Sheet) (h : all q (sheet .exprs) ≡ true) (d : q noRow ≡ true) where
+    at : (r : ℕ) → allRows q (treeAt sheet r) ≡ true
+    at = tree-rows q sheet h d
+
+    literal-rows : (st : Statement) → literalRows (literalOf sheet st) ≡ true
+    unfolding literalOf
+    literal-rows st = go (eqb (st .form) 1) (eqb (st .form) 2) (eqb (st .form) 3) (eqb (st .form) 4)
+      where
+        three : (allRows q (treeAt sheet (st .first)) && (allRows q (treeAt sheet (st .second)) && allRows q (treeAt sheet (st .third)))) ≡ true
+        three = and-intro _ _ (at (st .first)) (and-intro _ _ (at (st .second)) (at (st .third)))
+
+        go : (a b c e : Bool) → literalRows (cond a (someVars (treeAt sheet (st .first)))
+            (cond b (someIn (treeAt sheet (st .first)) (treeAt sheet (st .second)) (treeAt sheet (st .third)))
+            (cond c (expr (treeAt sheet (st .first)))
+            (cond e (notExpr (treeAt sheet (st .first)))
+            (every (treeAt sheet (st .first)) (treeAt sheet (st .second)) (treeAt sheet (st .third)) (st .query)))))) ≡ true
+        go true b c e = at (st .first)
+        go false true c e = three
+        go false false true e = at (st .first)
+        go false false false true = at (st .first)
+        go false false false false = three
+
+    stmts-from : (n r : ℕ) → all stmtRows (stmtsFrom sheet n r) ≡ true
+    unfolding stmtsFrom
+    stmts-from zero r = refl
+    stmts-from (suc n) zero = refl
+    stmts-from (suc n) (suc r) =
+        let st = getD (sheet .statements) r noStatement in
+        and-intro _ _ (and-intro _ _ (chain-rows q (treeAt sheet (st .with)) (at (st .with))) (literal-rows st)) (stmts-from n (st .next))
+
+    pub stmts-rows : (query : ℕ) → all stmtRows (stmtsOf sheet query) ≡ true
+    unfolding stmtsOf
+    stmts-rows query = stmts-from (length (sheet .statements)) (getD (0 ∷ sheet .queries) query 0)

@@ -1,0 +1,158 @@
+-- A test that all rows of a tree pass: so do the rows of what the walks meet.
+use mathlib.Core.Path.{_≡_, refl}
+use mathlib.Core.Bool.{Bool, true, false, cond, _&&_}
+use mathlib.Core.List.{List, [], _∷_, _++_}
+use mathlib.Core.Option.{Option, none, some}
+use Prim.Native.Nat.{ℕ, zero, suc, _+_}
+use lib.Dec.{eqb}
+use lib.ListN.{length, getD}
+use Rattle.basics.specs.Truth.{and-intro, and-left, and-right}
+use Rattle.basics.specs.Lists.{all}
+use Rattle.records.specs.declared.Builtin.{Builtin}
+use Rattle.trees.specs.Lists.{last, toList}
+use Rattle.trees.specs.ListLaws.{all-append, all-last, all-getD, all-concatMap}
+use Rattle.trees.specs.Sheet.{Sheet, Row}
+use Rattle.trees.specs.Kinds.{isVar, isPattern, isCompr, isCall}
+use Rattle.trees.specs.Trees.{Tree, nil, node, noRow, thirdOf, decode, treeAt, rowOf, firstOf, secondOf, chain, outputsOf}
+use Rattle.trees.specs.Traverse.{Enters, nothing, params, fields, enters, entered, traverse, leaves, vars, comprs}
+use Rattle.trees.specs.Paths.{getPathString, builtinOf, beyond, getExtraArg}
+
+module _ (q : Row → Bool) where
+  abbrev pub allRows : Tree → Bool
+  allRows nil = true
+  allRows (node w a b c n) = q w && (allRows a && (allRows b && (allRows c && allRows n)))
+
+  pub record Parts (w : Row) (a b c n : Tree) : Type 0 where
+    pub row : q w ≡ true
+    pub first : allRows a ≡ true
+    pub second : allRows b ≡ true
+    pub third : allRows c ≡ true
+    pub next : allRows n ≡ true
+
+  parts : (w : Row) (a b c n : Tree) → allRows (node w a b c n) ≡ true → Parts w a b c n
+  parts w a b c n h =
+      let h1 = and-right (q w) _ h in
+      let h2 = and-right (allRows a) _ h1 in
+      let h3 = and-right (allRows b) _ h2 in
+      record {
+        row = and-left _ _ h;
+        first = and-left _ _ h1;
+        second = and-left _ _ h2;
+        third = and-left _ _ h3;
+        next = and-right (allRows c) _ h3;
+      }
+
+  whole : (w : Row) (a b c n : Tree) → Parts w a b c n → allRows (node w a b c n) ≡ true
+  whole w a b c n p =
+      and-intro _ _ (p .row) (and-intro _ _ (p .first) (and-intro _ _ (p .second) (and-intro _ _ (p .third) (p .next))))
+
+  alone : (w : Row) (a b c n : Tree) → Parts w a b c n → allRows (node w a b c nil) ≡ true
+  alone w a b c n p =
+      whole w a b c nil (record { row = p .row; first = p .first; second = p .second; third = p .third; next = refl })
+
+  -- ---- what the walks meet
+
+  pub chain-rows : (t : Tree) → allRows t ≡ true → all allRows (chain t) ≡ true
+  unfolding chain
+  chain-rows nil h = refl
+  chain-rows (node w a b c n) h = let p = parts w a b c n h in and-intro _ _ (alone w a b c n p) (chain-rows n (p .next))
+
+  pub traverse-rows : (t : Tree) → allRows t ≡ true → all allRows (traverse t) ≡ true
+  unfolding traverse
+  traverse-rows nil h = refl
+  traverse-rows (node w a b c n) h =
+      let p = parts w a b c n h in
+      and-intro _ _ (alone w a b c n p)
+      (all-append allRows (entered (getD enters (w .kind) nothing) (traverse a) (traverse b) (traverse c)) (traverse n)
+      (go (getD enters (w .kind) nothing) (traverse a) (traverse b) (traverse c)
+      (traverse-rows a (p .first)) (traverse-rows b (p .second)) (traverse-rows c (p .third)))
+      (traverse-rows n (p .next)))
+    where
+      go : (e : Enters) (k l m : List Tree) → all allRows k ≡ true → all allRows l ≡ true → all allRows m ≡ true
+          → all allRows (entered e k l m) ≡ true
+      go nothing k l m hk hl hm = refl
+      go params k l m hk hl hm = hl
+      go fields k l m hk hl hm = all-append allRows k (l ++ m) hk (all-append allRows l m hl hm)
+
+  pub leaves-rows : (t : Tree) → allRows t ≡ true → all allRows (leaves t) ≡ true
+  unfolding leaves
+  leaves-rows nil h = refl
+  leaves-rows (node w a b c n) h =
+      let p = parts w a b c n h in
+      all-append allRows (cond (isPattern w) (leaves a) (node w a b c nil ∷ [])) (leaves n)
+      (go (isPattern w) (leaves-rows a (p .first)) (alone w a b c n p)) (leaves-rows n (p .next))
+    where
+      go : (b′ : Bool) → all allRows (leaves a) ≡ true → allRows (node w a b c nil) ≡ true
+          → all allRows (cond b′ (leaves a) (node w a b c nil ∷ [])) ≡ true
+      go true h1 h2 = h1
+      go false h1 h2 = and-intro _ _ h2 refl
+
+  pub first-rows : (t : Tree) → allRows t ≡ true → allRows (firstOf t) ≡ true
+  first-rows nil h = refl
+  first-rows (node w a b c n) h = parts w a b c n h .first
+
+  pub second-rows : (t : Tree) → allRows t ≡ true → allRows (secondOf t) ≡ true
+  second-rows nil h = refl
+  second-rows (node w a b c n) h = parts w a b c n h .second
+
+  row-rows : q noRow ≡ true → (t : Tree) → allRows t ≡ true → q (rowOf t) ≡ true
+  row-rows d nil h = d
+  row-rows d (node w a b c n) h = parts w a b c n h .row
+
+  pub vars-rows : q noRow ≡ true → (l : List Tree) → all allRows l ≡ true → all q (vars l) ≡ true
+  vars-rows d l h = all-concatMap q allRows (λ e. cond (isVar (rowOf e)) (rowOf e ∷ []) []) (λ e g. go e (isVar (rowOf e)) g) l h
+    where
+      go : (e : Tree) (b : Bool) → allRows e ≡ true → all q (cond b (rowOf e ∷ []) []) ≡ true
+      go e true g = and-intro _ _ (row-rows d e g) refl
+      go e false g = refl
+
+  pub comprs-rows : (t : Tree) → allRows t ≡ true → all allRows (comprs t) ≡ true
+  comprs-rows t h =
+      all-concatMap allRows allRows (λ e. cond (isCompr (rowOf e)) (e ∷ []) []) (λ e g. go e (isCompr (rowOf e)) g) (traverse t)
+      (traverse-rows t h)
+    where
+      go : (e : Tree) (b : Bool) → allRows e ≡ true → all allRows (cond b (e ∷ []) []) ≡ true
+      go e true g = and-intro _ _ g refl
+      go e false g = refl
+
+  pub outputs-rows : (t : Tree) → allRows t ≡ true → all allRows (outputsOf t) ≡ true
+  outputs-rows nil h = refl
+  outputs-rows (node w a b c n) h =
+      let p = parts w a b c n h in
+      all-append allRows (chain a) (chain b) (chain-rows a (p .first)) (chain-rows b (p .second))
+
+  pub extra-rows : (sheet : Sheet) (e : Tree) → allRows e ≡ true → all allRows (toList (getExtraArg sheet e)) ≡ true
+  unfolding getExtraArg
+  extra-rows sheet e h = go (isCall (rowOf e)) (builtinOf (sheet .builtins) (getPathString (firstOf e)))
+    where
+      args : all allRows (chain (secondOf e)) ≡ true
+      args = chain-rows (secondOf e) (second-rows e h)
+
+      last-arg : (b : Bool) → all allRows (toList (cond b (last (chain (secondOf e))) none)) ≡ true
+      last-arg true = all-last allRows (chain (secondOf e)) args
+      last-arg false = refl
+
+      go : (b : Bool) (x : Option Builtin) → all allRows (toList (cond b (beyond x (chain (secondOf e))) none)) ≡ true
+      go false x = refl
+      go true none = refl
+      go true (some x) = last-arg (eqb (x .arity + 1) (length (chain (secondOf e))))
+
+  -- ---- the trees of a sheet whose rows pass
+
+  decode-rows : (rows : List Row) → all q rows ≡ true → q noRow ≡ true → (n r : ℕ) → allRows (decode n rows r) ≡ true
+  unfolding decode
+  decode-rows rows h d zero r = refl
+  decode-rows rows h d (suc n) zero = refl
+  decode-rows rows h d (suc n) (suc r) =
+      let w = getD rows r noRow in
+      whole w (decode n rows (w .first)) (decode n rows (w .second)) (decode n rows (thirdOf w)) (decode n rows (w .next)) (record {
+        row = all-getD q rows r noRow h d;
+        first = decode-rows rows h d n (w .first);
+        second = decode-rows rows h d n (w .second);
+        third = decode-rows rows h d n (thirdOf w);
+        next = decode-rows rows h d n (w .next);
+      })
+
+  pub tree-rows : (sheet : Sheet) → all q (sheet .exprs) ≡ true → q noRow ≡ true → (r : ℕ) → allRows (treeAt sheet r) ≡ true
+  unfolding treeAt
+  tree-rows sheet h d r = decode-rows (sheet .exprs) h d (length (sheet .exprs)) r

@@ -1,0 +1,79 @@
+-- The definitions of the call, opened so that they compute: whoever unfolds one of these unfolds all that it names.
+use mathlib.Core.List.{List}
+use Prim.Native.Nat.{ℕ}
+use Rattle.basics.specs.Ranges.{range}
+use Rattle.turns.specs.Definitions.{resolves}
+use Rattle.turns.specs.Turns.{round, placements}
+use Rattle.text.specs.Bytes.{bytes}
+use Rattle.text.specs.Lines.{lines}
+use Rattle.text.specs.Numbers as numbers
+use Rattle.text.specs.Sections.{sections}
+use Rattle.text.specs.Form.{block, sheet, form, faultOf, rowsIn}
+use Rattle.text.specs.Names.{before, nameFault, nameRow}
+use Rattle.text.specs.Counts.{overLine, noQueryLine, countFault}
+use Rattle.text.specs.Counts as counts
+use Rattle.text.specs.Questions.{formFault, sectionRows, namesFault, countsFault, rowOfName}
+use Rattle.tables.specs.Layout.{areas, areasFrom}
+use Rattle.tables.specs.Tables.{tables, putSections, putRows}
+use Rattle.fields.specs.Fields.{fieldFrom, kinds, forms, kindFields, formFields}
+use Rattle.naming.specs.Entries.{target, placeOf, exprEntries, statementEntries, queryEntries}
+use Rattle.naming.specs.Namings.{namers, inChain, entryNaming, rowNamings, byQueries, byStatements, byExprs, namings}
+use Rattle.naming.specs.Nesting.{grown, enclosing, parent, levelIn, level}
+use Rattle.naming.specs.Chains.{varsIn, endsIn, allVars, endsOdd}
+use Rattle.naming.specs.Faults.{fieldFault, isNamedSo, isMember, exprFault, statementFault, queryFault, pathBefore, builtinFault}
+use Rattle.naming.specs.Faults as faults
+use Rattle.naming.specs.Lines.{lineOf, firstOf, firstLine}
+use Rattle.sheet.specs.Verdict as questions
+use Rattle.trees.specs.Sheet.{Sheet, rowAt, rowsTo, sheetOf, isInput, isSpecial}
+use Rattle.trees.specs.Trees.{decode, treeAt, chain}
+use Rattle.trees.specs.Traverse.{traverse, leaves}
+use Rattle.trees.specs.Paths.{getPathString, getExtraArg}
+use Rattle.trees.specs.Statements.{literalOf, stmtsFrom, stmtsOf}
+use Rattle.scopes.specs.NameSets.{empty, contains, insert, remove, elements}
+use Rattle.scopes.specs.Scopes.{addLocal, addUnscoped, addInput, useInput, removeAll, removeShadowed, owns, varExists}
+use Rattle.scopes.specs.Gather.{assignVar, gatherAssignedVars, inputVar, gatherInputVars, loopVar, gatherLoopVars, gatherRead, gatherVars}
+use Rattle.scopes.specs.GatherLocals.{gatherExpr, gatherLiteral, gatherStmt, gatherLocalVars}
+use Rattle.uses.specs.Uses.{define, assignedVars, indexVars, readsInput, isUndefined, undefinedVar, isUse, usedAt, usedVars, variablesUsed, indexDefinitionsAt, indexDefinitions}
+use Rattle.uses.specs.FirstUses.{addFirstUse}
+use Rattle.analysis.specs.States.{Run, setScope, addFirstUses, addDefinitions, setRun, fail}
+use Rattle.analysis.specs.Using.{gatherUsedVars, checkFirstUse, checkAssigned, recordOne, recordEach, atLeastOne}
+use Rattle.analysis.specs.Comprs.{comprInputs, propagate, comprsUse, useCompr, allUsed, analyzeCompr, processCompr, processComprs, useExpr}
+use Rattle.analysis.specs.Exprs.{pairings, assignOneWay, assignPairing, processAssignExpr, processPlainExpr, processExpr, extraVars, processExtraArg}
+use Rattle.analysis.specs.SomeIn.{someVarsIn, nonVars, processNonVar, processSomeIn}
+use Rattle.analysis.specs.Statements.{modsOf, processEvery, processLiteral, processStmt, processStmts}
+use Rattle.analysis.specs.Queries.{outputScope, scheduled, outputCompr, analyzeOutputExpr, analyzeQuery, analyze, analyzeQuerySnippet, scheduleIn, recorded}
+use Rattle.answers.specs.Rows.{rowsOf}
+use Rattle.answers.specs.Text.{digits, section, answerText, refusalText}
+use Rattle.answers.specs.Call.{Result, analysed, sheetIn, result}
+
+-- The sheet in bytes.
+unfoldable pub sheetRead : List ℕ → Sheet
+unfolding lines numbers.words numbers.value numbers.values numbers.number numbers.numbers sections block sheet form faultOf rowsIn nameRow
+    sectionRows rowOfName tables putSections putRows areas areasFrom bytes range rowAt rowsTo sheetOf sheetIn
+sheetRead s = sheetIn s
+
+-- The analysis of a sheet, its text, and what it recorded.
+unfoldable pub analysedSheet : Sheet → Run
+unfolding range resolves round placements bytes isInput isSpecial decode treeAt chain traverse leaves getPathString getExtraArg
+    literalOf stmtsFrom stmtsOf
+    empty contains insert remove elements addLocal addUnscoped addInput useInput removeAll removeShadowed owns varExists
+    assignVar gatherAssignedVars inputVar gatherInputVars loopVar gatherLoopVars gatherRead gatherVars
+    gatherExpr gatherLiteral gatherStmt gatherLocalVars
+    define assignedVars indexVars readsInput isUndefined undefinedVar isUse usedAt usedVars variablesUsed indexDefinitionsAt indexDefinitions
+    addFirstUse setScope addFirstUses addDefinitions setRun fail
+    gatherUsedVars checkFirstUse checkAssigned recordOne recordEach atLeastOne
+    comprInputs propagate comprsUse useCompr allUsed analyzeCompr processCompr processComprs useExpr
+    pairings assignOneWay assignPairing processAssignExpr processPlainExpr processExpr extraVars processExtraArg
+    someVarsIn nonVars processNonVar processSomeIn modsOf processEvery processLiteral processStmt processStmts
+    outputScope scheduled outputCompr analyzeOutputExpr analyzeQuery analyze analyzeQuerySnippet scheduleIn recorded
+    rowsOf digits section answerText refusalText analysed
+analysedSheet s = analyzeQuerySnippet s
+
+-- The whole call.
+unfoldable pub computed : List ℕ → ℕ → ℕ → ℕ → Result
+unfolding sheetRead analysedSheet before nameFault counts.lineOf overLine noQueryLine countFault formFault namesFault countsFault
+    fieldFrom kinds forms kindFields formFields target placeOf exprEntries statementEntries queryEntries
+    namers inChain entryNaming rowNamings byQueries byStatements byExprs namings grown enclosing parent levelIn level
+    varsIn endsIn allVars endsOdd fieldFault faults.fieldsFault isNamedSo isMember exprFault statementFault queryFault pathBefore
+    builtinFault lineOf firstOf firstLine questions.fieldsFault questions.asked questions.verdict result
+computed s room work text = result s room work text
