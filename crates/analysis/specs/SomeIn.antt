@@ -5,7 +5,8 @@ use Prim.Native.Nat.{ℕ}
 use Rattle.basics.specs.Lists.{filter}
 use Rattle.turns.specs.Definitions.{Definition}
 use Rattle.trees.specs.Lists.{concatMap}
-use Rattle.trees.specs.Sheet.{Sheet, Row, isInput}
+use Rattle.trees.specs.declared.Row.{Row}
+use Rattle.trees.specs.Sheet.{Sheet, isInput}
 use Rattle.trees.specs.Kinds.{isVar}
 use Rattle.trees.specs.Trees.{Tree, rowOf}
 use Rattle.trees.specs.Traverse.{vars, comprs}

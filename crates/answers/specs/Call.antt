@@ -37,7 +37,7 @@ analysed sheet room =
 
 -- The sheet that bytes give, where they pass questions 2 to 6.
 unfoldable pub sheetIn : List ℕ → Sheet
-sheetIn s = sheetOf (questions.countsOf s) (questions.specialOf s) (questions.rowTables s)
+sheetIn s = sheetOf (questions.countsOf s) (questions.specialOf s) (questions.readTables s)
 
 -- The questions 1 to 6, then the others.
 abbrev pub afterReading : List ℕ → ℕ → Outcome → Result

@@ -5,7 +5,7 @@ use mathlib.Core.Option.{Option, none, some}
 use Prim.Native.Nat.{ℕ}
 use lib.Dec.{eqb, leb}
 use Rattle.trees.specs.Lists.{find, isSome}
-use Rattle.trees.specs.Sheet.{Row}
+use Rattle.trees.specs.declared.Row.{Row}
 use Rattle.scopes.specs.NameSets.{NameSet, empty, contains, insert, remove}
 
 -- A name and a position where it stands (lexer.rs, `Span`).

@@ -26,7 +26,7 @@ use Rattle.spelling.specs.Names.{SpecialRead}
 use Rattle.naming.specs.Lines.{firstLine}
 use Rattle.sheet.specs.declared.Outcome.{Outcome}
 use Rattle.sheet.specs.declared.Outcome.the-variants.{Read, NoRoom, TooLong, BadForm, BadName, BadCount, BadField}
-use Rattle.sheet.specs.Verdict.{blank, countsOf, rowTables, fieldsFault, asked, headOf, specialOf, readTables}
+use Rattle.sheet.specs.Verdict.{blank, countsOf, fieldsFault, asked, headOf, specialOf, readTables}
 
 abbrev pub isRead : Outcome → Bool
 isRead Read = true
@@ -163,20 +163,24 @@ module _ (s d : List ℕ) (r : read-of.Read) (e : List ℕ) (is : d ≡ blank) (
   pub few-names : r .names ≤ 127 → getD (rowCounts s) 0 0 ≤ 127
   few-names h = let n : r .names ≡ getD (rowCounts s) 0 0 = ap (λ (ks : List ℕ). getD ks 0 0) (k .count good) in omega arith
 
-  pub rows-are : e ≡ rowTables s
+  rows-are : e ≡ tables s blank
   rows-are = k .table good ∙ ap (tables s) is
 
   pub counts-fault-is : countFault (counts r) ≡ countsFault s
   unfolding countsFault
   counts-fault-is = ap countFault (k .count good)
 
-  pub fields-fault-is : firstLine (countsIn r) e ≡ fieldsFault s
-  unfolding fieldsFault
-  fields-fault-is = ap₂ firstLine counts-are rows-are
+  -- With the head in front.
+  module _ (x : Special) (special : SpecialRead s x) (t : List ℕ) (headed : t ≡ sets e 0 (headOf (countsIn r) x)) where
+    pub tables-are : t ≡ readTables s
+    unfolding readTables
+    tables-are =
+        headed
+        ∙ rw (special .blank, special .input, special .«data») (ap₂ (λ (l : List ℕ) (c : Counts). sets l 0 (headOf c (specialOf s))) rows-are counts-are)
 
-  pub head-is : (x : Special) → SpecialRead s x → sets e 0 (headOf (countsIn r) x) ≡ readTables s
-  unfolding readTables
-  head-is x special = rw (special .blank, special .input, special .«data») (ap₂ (λ (t : List ℕ) (c : Counts). sets t 0 (headOf c (specialOf s))) rows-are counts-are)
+    pub fields-fault-is : firstLine (countsIn r) t ≡ fieldsFault s
+    unfolding fieldsFault
+    fields-fault-is = ap₂ firstLine counts-are tables-are
 
 -- ---- each way out
 

@@ -20,7 +20,7 @@ use Rattle.naming.specs.Lines.{firstOf, firstLine}
 use Rattle.sheet.specs.declared.Outcome.{Outcome}
 use Rattle.sheet.specs.declared.Outcome.the-variants.{Read, NoRoom, TooLong, BadForm, BadName, BadCount, BadField}
 use Rattle.sheet.specs.Verdict as Verdict
-use Rattle.sheet.specs.Verdict.{countsOf, rowTables, fieldsFault, asked, verdict}
+use Rattle.sheet.specs.Verdict.{countsOf, readTables, fieldsFault, asked, verdict}
 use Rattle.sheet.specs.Asked.{over-none, within}
 use Rattle.sheet.specs.TextLines.{form-low, names-fault-low}
 
@@ -119,7 +119,7 @@ either-low false x y f g = g refl
 module _ (s : List ℕ) where
   fields-fault-low : countsFault s ≡ 0 → fieldsFault s ≤ 872
   unfolding fieldsFault countsFault
-  fields-fault-low counted = fields-low (countsOf s) (rowTables s) (within (rowCounts s) counted)
+  fields-fault-low counted = fields-low (countsOf s) (readTables s) (within (rowCounts s) counted)
 
   counts-fault-low : countsFault s ≤ 875
   unfolding countsFault

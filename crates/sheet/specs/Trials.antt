@@ -11,10 +11,10 @@ use Rattle.text.specs.Lines.{lines}
 use Rattle.text.specs.Numbers as numbers
 use Rattle.text.specs.Sections.{sections}
 use Rattle.text.specs.Form.{block, sheet, form, faultOf, rowsIn}
-use Rattle.text.specs.Names.{before, nameFault}
+use Rattle.text.specs.Names.{before, nameFault, nameRow}
 use Rattle.text.specs.Counts.{overLine, noQueryLine, countFault}
 use Rattle.text.specs.Counts as counts
-use Rattle.text.specs.Questions.{formFault, sectionRows, namesFault, countsFault}
+use Rattle.text.specs.Questions.{formFault, sectionRows, namesFault, rowOfName, countsFault}
 use Rattle.text.specs.Trials.{Trial}
 use Rattle.tables.specs.Layout.{areas, areasFrom}
 use Rattle.tables.specs.Tables.{tables, putSections, putRows}
@@ -26,7 +26,7 @@ use Rattle.naming.specs.Chains.{varsIn, endsIn, allVars, endsOdd}
 use Rattle.naming.specs.Faults.{fieldFault, isNamedSo, isMember, exprFault, statementFault, queryFault, pathBefore, builtinFault}
 use Rattle.naming.specs.Faults as faults
 use Rattle.naming.specs.Lines.{lineOf, firstOf, firstLine}
-use Rattle.sheet.specs.Verdict.{number, line, blank, fieldsFault, asked, verdict}
+use Rattle.sheet.specs.Verdict.{number, line, blank, readTables, fieldsFault, asked, verdict}
 
 -- Is the text refused so, where there is room?
 abbrev pub passes : Trial → Bool
@@ -107,12 +107,12 @@ trials =
 
 pub trials-pass : all passes trials ≡ true
 unfolding bytes lines numbers.words numbers.value numbers.number numbers.numbers numbers.values sections block sheet form faultOf rowsIn before nameFault
-    counts.lineOf overLine noQueryLine countFault formFault sectionRows namesFault countsFault
+    nameRow rowOfName counts.lineOf overLine noQueryLine countFault formFault sectionRows namesFault countsFault
     tables putSections putRows areas areasFrom fieldFrom kinds forms kindFields formFields
     target placeOf exprEntries statementEntries queryEntries namers inChain entryNaming rowNamings byQueries byStatements byExprs namings
     grown enclosing parent levelIn level varsIn endsIn allVars endsOdd
     fieldFault faults.fieldsFault isNamedSo isMember exprFault statementFault queryFault pathBefore builtinFault
-    lineOf firstOf firstLine blank fieldsFault asked verdict
+    lineOf firstOf firstLine blank readTables fieldsFault asked verdict
 trials-pass = refl
 
 -- Question 1 comes before all others.

@@ -35,9 +35,16 @@ line (BadName l) = l
 line (BadCount l) = l
 line (BadField l) = l
 
+-- ---- what the tables hold of a sheet that has the form
+
 -- Tables without a row.
 unfoldable pub blank : List ℕ
 blank = replicate limits.tables 0
+
+-- The first eight entries: how many rows each section has, and the rows of the names that the language gives a meaning.
+abbrev pub headOf : Counts → Special → List ℕ
+headOf c x =
+    c .names ∷ c .builtins ∷ c .exprs ∷ c .statements ∷ c .queries ∷ x .blank ∷ x .input ∷ x .«data» ∷ []
 
 module _ (s : List ℕ) where
   -- How many rows each section has.
@@ -50,13 +57,19 @@ module _ (s : List ℕ) where
     queries = getD (rowCounts s) 4 0;
   }
 
-  -- The rows, where they stand in the tables.
-  abbrev pub rowTables : List ℕ
-  rowTables = tables s blank
+  abbrev pub specialOf : Special
+  specialOf = record { blank = rowOfName s (bytes "_"); input = rowOfName s (bytes "input"); «data» = rowOfName s (bytes "data") }
 
+  -- The rows behind the head.
+  unfoldable pub readTables : List ℕ
+  readTables = sets (tables s blank) 0 (headOf countsOf specialOf)
+
+-- ---- the questions
+
+module _ (s : List ℕ) where
   -- Question 6: the first row at fault.
   unfoldable pub fieldsFault : ℕ
-  fieldsFault = firstLine countsOf rowTables
+  fieldsFault = firstLine (countsOf s) (readTables s)
 
   -- Questions 2 to 6.
   unfoldable pub asked : Outcome
@@ -69,23 +82,12 @@ module _ (s : List ℕ) where
   unfoldable pub verdict : ℕ → ℕ → Outcome
   verdict room work = cond (leb limits.tables room && leb limits.work work) asked NoRoom
 
--- ---- what the tables hold of a sheet that is read
-
--- The first eight entries: how many rows each section has, and the rows of the names that the language gives a meaning.
-abbrev pub headOf : Counts → Special → List ℕ
-headOf c x =
-    c .names ∷ c .builtins ∷ c .exprs ∷ c .statements ∷ c .queries ∷ x .blank ∷ x .input ∷ x .«data» ∷ []
+-- ---- what the reader leaves
 
 module _ (s : List ℕ) where
-  abbrev pub specialOf : Special
-  specialOf = record { blank = rowOfName s (bytes "_"); input = rowOfName s (bytes "input"); «data» = rowOfName s (bytes "data") }
-
-  unfoldable pub readTables : List ℕ
-  readTables = sets (rowTables s) 0 (headOf (countsOf s) specialOf)
-
-  -- Of a sheet that is refused they hold zeros.
+  -- The tables of a sheet that is refused hold zeros.
   abbrev pub leftTables : ℕ → Outcome → List ℕ
-  leftTables room Read = readTables ++ replicate (room - limits.tables) 0
+  leftTables room Read = readTables s ++ replicate (room - limits.tables) 0
   leftTables room NoRoom = replicate room 0
   leftTables room TooLong = replicate room 0
   leftTables room (BadForm l) = replicate room 0

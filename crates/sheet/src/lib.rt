@@ -82,11 +82,11 @@ fn ask(s: &[u8], table: &mut [u16], work: &mut [u64]) -> Outcome
         statements: read.statements,
         queries: read.queries,
     };
+    store_head(table, counts, spelling::special_names(s));
     let field = faults::first_line(table, counts, work);
     if field != 0 {
         return Outcome::BadField(field);
     }
-    store_head(table, counts, spelling::special_names(s));
     Outcome::Read
 }
 

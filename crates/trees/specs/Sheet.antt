@@ -1,5 +1,6 @@
 -- A sheet that passed questions 1 to 6, as lists of rows. Rows count from 1, and 0 means none. Names are their rows: names ascend strictly,
 -- so two are the same text exactly if they are the same row. Name 0 is the empty text.
+use mathlib.Core.Path.{_≡_, refl}
 use mathlib.Core.Bool.{Bool, _||_}
 use mathlib.Core.List.{List, map}
 use Prim.Native.Nat.{ℕ, _+_, _*_}
@@ -11,17 +12,7 @@ use Rattle.records.specs.declared.Builtin.{Builtin}
 use Rattle.records.specs.declared.Statement.{Statement}
 use Rattle.records.specs.Layout.{builtinAt, exprAt, statementAt, firstAt}
 use Rattle.spelling.specs.declared.Special.{Special}
-
--- An expression and its position.
-pub record Row : Type 0 where
-  pub kind : ℕ
-  pub name : ℕ
-  pub line : ℕ
-  pub col : ℕ
-  pub first : ℕ
-  pub second : ℕ
-  pub third : ℕ
-  pub next : ℕ
+use Rattle.trees.specs.declared.Row.{Row}
 
 -- A query is its first statement, or 0; row 1 is the outer one. `special` are the rows of the names `_`, `input` and `data`, or 0.
 pub record Sheet : Type 0 where
@@ -38,8 +29,8 @@ nameBound = 128
 -- ---- the sheet in the tables
 
 -- Expression r: the fields that question 6 asks of, and the position in the columns 2 and 3.
-unfoldable pub rowAt : List ℕ → ℕ → Row
-rowAt t r =
+abbrev pub fieldsAt : List ℕ → ℕ → Row
+fieldsAt t r =
     let e = exprAt t r in
     let at = 268 + 8 * r in
     record {
@@ -52,6 +43,14 @@ rowAt t r =
       third = e .third;
       next = e .next;
     }
+
+-- The same, which nothing writes out.
+unfoldable pub rowAt : List ℕ → ℕ → Row
+rowAt t r = fieldsAt t r
+
+pub row-fields : (t : List ℕ) (r : ℕ) → fieldsAt t r ≡ rowAt t r
+unfolding rowAt
+row-fields t r = refl
 
 -- The rows 1 to n of a section.
 unfoldable pub rowsTo : {A : Type 0} → (ℕ → A) → ℕ → List A

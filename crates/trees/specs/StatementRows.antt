@@ -8,7 +8,8 @@ use lib.ListN.{length, getD}
 use Rattle.basics.specs.Truth.{and-intro}
 use Rattle.basics.specs.Lists.{all}
 use Rattle.records.specs.declared.Statement.{Statement}
-use Rattle.trees.specs.Sheet.{Sheet, Row}
+use Rattle.trees.specs.declared.Row.{Row}
+use Rattle.trees.specs.Sheet.{Sheet}
 use Rattle.trees.specs.Trees.{Tree, noRow, treeAt, chain}
 use Rattle.trees.specs.TreeRows.{allRows, chain-rows, tree-rows}
 use Rattle.trees.specs.Statements.{Literal, someVars, someIn, expr, notExpr, every, Stmt, noStatement, literalOf, stmtsFrom, stmtsOf}

@@ -49,7 +49,7 @@ use Rattle.answers.specs.Call.{Result, analysed, sheetIn, result}
 -- The sheet in bytes.
 unfoldable pub sheetRead : List ℕ → Sheet
 unfolding lines numbers.words numbers.value numbers.values numbers.number numbers.numbers sections block sheet form faultOf rowsIn nameRow
-    sectionRows rowOfName tables putSections putRows areas areasFrom bytes range rowAt rowsTo sheetOf questions.blank sheetIn
+    sectionRows rowOfName tables putSections putRows areas areasFrom bytes range rowAt rowsTo sheetOf questions.blank questions.readTables sheetIn
 sheetRead s = sheetIn s
 
 -- The analysis of a sheet, its text, and what it recorded.
@@ -75,5 +75,5 @@ unfolding sheetRead analysedSheet before nameFault counts.lineOf overLine noQuer
     fieldFrom kinds forms kindFields formFields target placeOf exprEntries statementEntries queryEntries
     namers inChain entryNaming rowNamings byQueries byStatements byExprs namings grown enclosing parent levelIn level
     varsIn endsIn allVars endsOdd fieldFault faults.fieldsFault isNamedSo isMember exprFault statementFault queryFault pathBefore
-    builtinFault lineOf firstOf firstLine questions.blank questions.fieldsFault questions.asked questions.verdict result
+    builtinFault lineOf firstOf firstLine questions.blank questions.readTables questions.fieldsFault questions.asked questions.verdict result
 computed s room work text = result s room work text

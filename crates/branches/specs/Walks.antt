@@ -2,40 +2,21 @@
 use mathlib.Core.Path.{_≡_, refl, sym, ap, _∙_}
 use mathlib.Core.Bool.{Bool, true, false, cond}
 use mathlib.Core.List.{List, [], _∷_, _++_, foldl}
+use mathlib.Core.Logic.{_⊎_, inl, inr}
 use Prim.Native.Nat.{ℕ, _≤_}
 use lib.ListN.{getD}
+use Rattle.basics.specs.Truth.{bool-cases}
 use Rattle.records.specs.declared.Counts.{Counts}
 use Rattle.spelling.specs.declared.Special.{Special}
 use Rattle.accepted.specs.Facts.{SheetFacts}
-use Rattle.trees.specs.Sheet.{Row, rowAt, sheetOf}
-use Rattle.trees.specs.Kinds.{isPattern}
+use Rattle.trees.specs.declared.Row.{Row}
+use Rattle.trees.specs.Sheet.{rowAt, sheetOf}
+use Rattle.trees.specs.Kinds.{isPattern, isCompr}
 use Rattle.trees.specs.Trees.{Tree, nil, node, thirdOf, treeAt}
 use Rattle.trees.specs.Traverse.{Enters, nothing, params, fields, enters, entered, traverse, leaves}
-use Rattle.tree_laws.specs.RowTrees.{tree-none, tree-row}
-
--- What is entered of a row's three fields: the row that each names, or 0.
-abbrev pub intoFirst : Enters → ℕ → ℕ
-intoFirst nothing v = 0
-intoFirst params v = 0
-intoFirst fields v = v
-
-abbrev pub intoSecond : Enters → ℕ → ℕ
-intoSecond nothing v = 0
-intoSecond params v = v
-intoSecond fields v = v
-
--- By kind.
-unfoldable pub entersOf : Row → Enters
-entersOf w = getD enters (w .kind) nothing
-
-abbrev pub kidFirst : Row → ℕ
-kidFirst w = intoFirst (entersOf w) (w .first)
-
-abbrev pub kidSecond : Row → ℕ
-kidSecond w = intoSecond (entersOf w) (w .second)
-
-abbrev pub kidThird : Row → ℕ
-kidThird w = intoFirst (entersOf w) (thirdOf w)
+use Rattle.branches.specs.declared.Kids.{Kids}
+use Rattle.branches.specs.RowTrees.{tree-none, tree-row}
+use Rattle.branches.specs.Kids.{entersOf, kidsBy, kidsOf, compr-enters-nothing}
 
 fold-append : {A B : Type 0} (f : B → A → B) (s : B) (k l : List A) → foldl f s (k ++ l) ≡ foldl f (foldl f s k) l
 fold-append f s [] l = refl
@@ -65,27 +46,43 @@ module _ (c : Counts) (x : Special) (t : List ℕ) (facts : SheetFacts c t) wher
     unfolding leaves
     leaves-none s = rw (tree-none c x t facts)
 
-    parts-over : (e : Enters) (s : S) (a b d : ℕ)
-        → foldl f s (entered e (traverse (tree a)) (traverse (tree b)) (traverse (tree d)))
-        ≡ over (over (over s (intoFirst e a)) (intoSecond e b)) (intoFirst e d)
-    parts-over nothing s a b d = sym (over-none _ ∙ over-none _ ∙ over-none _)
-    parts-over params s a b d =
-        sym (over-none _ ∙ ap (λ (u : S). foldl f u (traverse (tree b))) (over-none s))
-    parts-over fields s a b d =
-        fold-append f s (traverse (tree a)) (traverse (tree b) ++ traverse (tree d))
-        ∙ fold-append f (over s a) (traverse (tree b)) (traverse (tree d))
+    -- The parts of a row that are entered.
+    abbrev overParts : S → Kids → S
+    overParts s k = over (over (over s (k .first)) (k .second)) (k .third)
+
+    parts-over : (e : Enters) (s : S) (w : Row) (third : ℕ) → third ≡ w .third
+        → foldl f s (entered e (traverse (tree (w .first))) (traverse (tree (w .second))) (traverse (tree third))) ≡ overParts s (kidsBy e w)
+    parts-over nothing s w third is = sym (over-none _ ∙ over-none _ ∙ over-none _)
+    parts-over params s w third is = sym (over-none _ ∙ ap (λ (u : S). over u (w .second)) (over-none s))
+    parts-over fields s w third is =
+        fold-append f s (traverse (tree (w .first))) (traverse (tree (w .second)) ++ traverse (tree third))
+        ∙ fold-append f (over s (w .first)) (traverse (tree (w .second))) (traverse (tree third))
+        ∙ ap (λ (k : ℕ). over (over (over s (w .first)) (w .second)) k) is
+
+    -- A comprehension's third names a query, and it is not entered.
+    entered-parts : (s : S) (w : Row)
+        → foldl f s (entered (entersOf w) (traverse (tree (w .first))) (traverse (tree (w .second))) (traverse (tree (thirdOf w))))
+        ≡ overParts s (kidsOf w)
+    unfolding kidsOf
+    entered-parts s w = go (bool-cases (isCompr w))
+      where
+        go : (isCompr w ≡ true) ⊎ (isCompr w ≡ false)
+            → foldl f s (entered (entersOf w) (traverse (tree (w .first))) (traverse (tree (w .second))) (traverse (tree (thirdOf w))))
+            ≡ overParts s (kidsBy (entersOf w) w)
+        go (inl p) = rw (compr-enters-nothing w p) (sym (over-none _ ∙ over-none _ ∙ over-none _))
+        go (inr p) = parts-over (entersOf w) s w (thirdOf w) (rw p)
 
     -- The row first, then its parts, then the rest of its chain.
     pub over-row : (s : S) (r : ℕ) → 1 ≤ r → r ≤ c .exprs
-        → let w = rowAt t r in
-        over s r ≡ over (over (over (over (f s (aloneAt r)) (kidFirst w)) (kidSecond w)) (kidThird w)) (w .next)
+        → let w = rowAt t r in let k = kidsOf w in
+        over s r ≡ over (over (over (over (f s (aloneAt r)) (k .first)) (k .second)) (k .third)) (w .next)
     unfolding traverse entersOf
     over-row s r a b =
         let w = rowAt t r in
         let e = getD enters (w .kind) nothing in
         rw (tree-row c x t facts r a b)
         (fold-append f (f s (aloneAt r)) (entered e (traverse (tree (w .first))) (traverse (tree (w .second))) (traverse (tree (thirdOf w)))) (traverse (tree (w .next)))
-        ∙ ap (λ (u : S). foldl f u (traverse (tree (w .next)))) (parts-over e (f s (aloneAt r)) (w .first) (w .second) (thirdOf w)))
+        ∙ ap (λ (u : S). over u (w .next)) (entered-parts (f s (aloneAt r)) w))
 
     -- A pattern is entered, and any other row is a leaf.
     pub leaves-row : (s : S) (r : ℕ) → 1 ≤ r → r ≤ c .exprs

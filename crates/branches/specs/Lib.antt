@@ -1,3 +1,4 @@
 pub mod Descent
 pub mod RowTrees
+pub mod Kids
 pub mod Walks

@@ -15,9 +15,10 @@ use Rattle.records.specs.Layout.{exprAt}
 use Rattle.spelling.specs.declared.Special.{Special}
 use Rattle.fields.specs.Fields.{expressions, fieldFrom, first, second, third, kinds, kindFields, limitOf}
 use Rattle.accepted.specs.Facts.{Part, ExprFacts, SheetFacts}
-use Rattle.trees.specs.Sheet.{Row, Sheet, rowAt, rowsTo, sheetOf}
+use Rattle.trees.specs.declared.Row.{Row}
+use Rattle.trees.specs.Sheet.{Sheet, rowAt, rowsTo, sheetOf}
 use Rattle.trees.specs.Trees.{Tree, nil, node, noRow, thirdOf, decode, treeAt}
-use Rattle.tree_laws.specs.Descent.{Onward, Descends, decode-none, decode-row}
+use Rattle.branches.specs.Descent.{Onward, Descends, decode-none, decode-row}
 
 -- ---- what the table of kinds says: a part is an expression, and so is a third that is no comprehension's
 
