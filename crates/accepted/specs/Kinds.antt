@@ -11,7 +11,7 @@ use Rattle.basics.specs.Truth.{not-both, and-left, and-right, or-cases}
 use Rattle.basics.specs.Lists.{all}
 use Rattle.fields.specs.Fields.{queries, fieldFrom, query, first, second, third, kinds, kindFields}
 
-all-getD : (f : ℕ → Bool) (l : List ℕ) (d : ℕ) → all f l ≡ true → f d ≡ true → (k : ℕ) → f (getD l k d) ≡ true
+pub all-getD : (f : ℕ → Bool) (l : List ℕ) (d : ℕ) → all f l ≡ true → f d ≡ true → (k : ℕ) → f (getD l k d) ≡ true
 all-getD f [] d h p k = p
 all-getD f (x ∷ l) d h p zero = and-left (f x) (all f l) h
 all-getD f (x ∷ l) d h p (suc k) = all-getD f l d (and-right (f x) (all f l) h) p k

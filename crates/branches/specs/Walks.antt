@@ -22,7 +22,12 @@ fold-append : {A B : Type 0} (f : B → A → B) (s : B) (k l : List A) → fold
 fold-append f s [] l = refl
 fold-append f s (x ∷ k) l = fold-append f (f s x) k l
 
-module _ (c : Counts) (x : Special) (t : List ℕ) (facts : SheetFacts c t) where
+-- An expression without the rest of its chain.
+abbrev pub alone : Tree → Tree
+alone nil = nil
+alone (node w a b c n) = node w a b c nil
+
+module _ (c : Counts) (x : Special) (t : List ℕ) where
   abbrev tree : ℕ → Tree
   tree r = treeAt (sheetOf c x t) r
 
@@ -38,26 +43,32 @@ module _ (c : Counts) (x : Special) (t : List ℕ) (facts : SheetFacts c t) wher
     abbrev pub overLeaves : S → ℕ → S
     overLeaves s r = foldl f s (leaves (tree r))
 
-    pub over-none : (s : S) → over s 0 ≡ s
+    -- The walk over a row, with the rest of its chain if `rest`.
+    abbrev pub overBy : Bool → S → ℕ → S
+    overBy true s r = foldl f s (traverse (tree r))
+    overBy false s r = foldl f s (traverse (alone (tree r)))
+
+  module _ (facts : SheetFacts c t) {S : Type 0} (f : S → Tree → S) where
+    pub over-none : (s : S) → over f s 0 ≡ s
     unfolding traverse
     over-none s = rw (tree-none c x t facts)
 
-    pub leaves-none : (s : S) → overLeaves s 0 ≡ s
+    pub leaves-none : (s : S) → overLeaves f s 0 ≡ s
     unfolding leaves
     leaves-none s = rw (tree-none c x t facts)
 
     -- The parts of a row that are entered.
     abbrev overParts : S → Kids → S
-    overParts s k = over (over (over s (k .first)) (k .second)) (k .third)
+    overParts s k = over f (over f (over f s (k .first)) (k .second)) (k .third)
 
     parts-over : (e : Enters) (s : S) (w : Row) (third : ℕ) → third ≡ w .third
         → foldl f s (entered e (traverse (tree (w .first))) (traverse (tree (w .second))) (traverse (tree third))) ≡ overParts s (kidsBy e w)
     parts-over nothing s w third is = sym (over-none _ ∙ over-none _ ∙ over-none _)
-    parts-over params s w third is = sym (over-none _ ∙ ap (λ (u : S). over u (w .second)) (over-none s))
+    parts-over params s w third is = sym (over-none _ ∙ ap (λ (u : S). over f u (w .second)) (over-none s))
     parts-over fields s w third is =
         fold-append f s (traverse (tree (w .first))) (traverse (tree (w .second)) ++ traverse (tree third))
-        ∙ fold-append f (over s (w .first)) (traverse (tree (w .second))) (traverse (tree third))
-        ∙ ap (λ (k : ℕ). over (over (over s (w .first)) (w .second)) k) is
+        ∙ fold-append f (over f s (w .first)) (traverse (tree (w .second))) (traverse (tree third))
+        ∙ ap (λ (k : ℕ). over f (over f (over f s (w .first)) (w .second)) k) is
 
     -- A comprehension's third names a query, and it is not entered.
     entered-parts : (s : S) (w : Row)
@@ -75,19 +86,19 @@ module _ (c : Counts) (x : Special) (t : List ℕ) (facts : SheetFacts c t) wher
     -- The row first, then its parts, then the rest of its chain.
     pub over-row : (s : S) (r : ℕ) → 1 ≤ r → r ≤ c .exprs
         → let w = rowAt t r in let k = kidsOf w in
-        over s r ≡ over (over (over (over (f s (aloneAt r)) (k .first)) (k .second)) (k .third)) (w .next)
+        over f s r ≡ over f (over f (over f (over f (f s (aloneAt r)) (k .first)) (k .second)) (k .third)) (w .next)
     unfolding traverse entersOf
     over-row s r a b =
         let w = rowAt t r in
         let e = getD enters (w .kind) nothing in
         rw (tree-row c x t facts r a b)
         (fold-append f (f s (aloneAt r)) (entered e (traverse (tree (w .first))) (traverse (tree (w .second))) (traverse (tree (thirdOf w)))) (traverse (tree (w .next)))
-        ∙ ap (λ (u : S). over u (w .next)) (entered-parts (f s (aloneAt r)) w))
+        ∙ ap (λ (u : S). over f u (w .next)) (entered-parts (f s (aloneAt r)) w))
 
     -- A pattern is entered, and any other row is a leaf.
     pub leaves-row : (s : S) (r : ℕ) → 1 ≤ r → r ≤ c .exprs
         → let w = rowAt t r in
-        overLeaves s r ≡ overLeaves (cond (isPattern w) (overLeaves s (w .first)) (f s (aloneAt r))) (w .next)
+        overLeaves f s r ≡ overLeaves f (cond (isPattern w) (overLeaves f s (w .first)) (f s (aloneAt r))) (w .next)
     unfolding leaves
     leaves-row s r a b =
         let w = rowAt t r in
@@ -96,6 +107,24 @@ module _ (c : Counts) (x : Special) (t : List ℕ) (facts : SheetFacts c t) wher
         ∙ ap (λ (u : S). foldl f u (leaves (tree (w .next)))) (go (isPattern w)))
       where
         go : (p : Bool)
-            → foldl f s (cond p (leaves (tree (rowAt t r .first))) (aloneAt r ∷ [])) ≡ cond p (overLeaves s (rowAt t r .first)) (f s (aloneAt r))
+            → foldl f s (cond p (leaves (tree (rowAt t r .first))) (aloneAt r ∷ [])) ≡ cond p (overLeaves f s (rowAt t r .first)) (f s (aloneAt r))
         go true = refl
         go false = refl
+
+    -- ---- an expression with the rest of its chain, or without
+
+    pub overBy-none : (rest : Bool) (s : S) → overBy f rest s 0 ≡ s
+    unfolding traverse
+    overBy-none true s = over-none s
+    overBy-none false s = rw (tree-none c x t facts)
+
+    pub overBy-row : (rest : Bool) (s : S) (r : ℕ) → 1 ≤ r → r ≤ c .exprs
+        → let w = rowAt t r in let k = kidsOf w in
+        overBy f rest s r ≡ over f (over f (over f (over f (f s (aloneAt r)) (k .first)) (k .second)) (k .third)) (cond rest (w .next) 0)
+    unfolding traverse entersOf
+    overBy-row true s r a b = over-row s r a b
+    overBy-row false s r a b =
+        let w = rowAt t r in
+        rw (tree-row c x t facts r a b)
+        (fold-append f (f s (aloneAt r)) (entered (getD enters (w .kind) nothing) (traverse (tree (w .first))) (traverse (tree (w .second))) (traverse (tree (thirdOf w)))) []
+        ∙ entered-parts (f s (aloneAt r)) w ∙ sym (over-none _))

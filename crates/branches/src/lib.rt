@@ -2,6 +2,7 @@
 
 use trees::Row;
 ghost use mathlib.Core.Path.{_≡_};
+ghost use mathlib.Core.Bool.{cond};
 ghost use Rattle.branches.specs.Kids.{enterCode, kidsOf};
 
 // What is entered of an expression, by its kind: nothing, the parameters of a call, or its fields.
@@ -41,9 +42,9 @@ const ENTERS: [u8; KINDS + 1] = [
 
 // The rows that are entered, 0 where none is.
 pub struct Kids {
-    pub first: u16,
-    pub second: u16,
-    pub third: u16,
+    pub first: usize,
+    pub second: usize,
+    pub third: usize,
 }
 
 fn enters(kind: u16) -> u8
@@ -70,13 +71,23 @@ pub fn kids_of(w: Row) -> Kids
     if code == PARAMS {
         return Kids {
             first: 0,
-            second: w.second,
+            second: w.second as usize,
             third: 0,
         };
     }
     Kids {
-        first: w.first,
-        second: w.second,
-        third: w.third,
+        first: w.first as usize,
+        second: w.second as usize,
+        third: w.third as usize,
     }
+}
+
+// The rest of a row's chain, if it is wanted.
+pub fn next_of(w: Row, rest: bool) -> usize
+    ensures { λ r. ⌜ r ≡ cond rest (w .next) 0 ⌝ }
+{
+    if rest {
+        return w.next as usize;
+    }
+    0
 }

@@ -1,0 +1,97 @@
+-- Every call of a walk is on a later row, or on none: so a walk ends. And the names of rows are names.
+use mathlib.Core.Path.{_≡_, refl, sym, ap, _∙_, subst}
+use mathlib.Core.Bool.{Bool, true, false, cond, _&&_, _||_}
+use mathlib.Core.List.{List, [], _∷_}
+use mathlib.Core.Logic.{_⊎_, inl, inr, ⊎-elim}
+use Prim.Native.Nat.{ℕ, zero, suc, _-_, _≤_, _<_}
+use native.Mathlib.Omega.{arith}
+use lib.Dec.{eqb}
+use borrow.Author.Tests.{eqb-true}
+use Rattle.basics.specs.Truth.{bool-cases, not-both, or-cases}
+use Rattle.basics.specs.Lists.{all}
+use Rattle.records.specs.declared.Counts.{Counts}
+use Rattle.records.specs.Layout.{Within, exprAt}
+use Rattle.fields.specs.Fields.{names, fieldFrom, kinds, kindFields, limitOf}
+use Rattle.accepted.specs.Facts.{Part, SheetFacts}
+use Rattle.accepted.specs.Kinds.{all-getD}
+use Rattle.trees.specs.declared.Row.{Row}
+use Rattle.trees.specs.Sheet.{rowAt}
+use Rattle.trees.specs.Kinds.{isCompr}
+use Rattle.trees.specs.Trees.{thirdOf}
+use Rattle.trees.specs.Traverse.{Enters, nothing, params, fields}
+use Rattle.branches.specs.declared.Kids.{Kids}
+use Rattle.branches.specs.Descent.{Onward, Descends}
+use Rattle.branches.specs.RowTrees.{row-descends}
+use Rattle.branches.specs.Kids.{entersOf, kidsBy, kidsOf, compr-enters-nothing}
+
+-- What is left of n rows from a row on: least for none, then for the last row.
+unfoldable pub left : ℕ → ℕ → ℕ
+left n zero = 0
+left n (suc r) = suc (n - r)
+
+pub left-falls : (n r v : ℕ) → 1 ≤ r → r ≤ n → Onward n r v → left n v < left n r
+unfolding left
+left-falls n zero v a b h = absurd (omega arith)
+left-falls n (suc r) zero a b h = omega arith
+left-falls n (suc r) (suc v) a b (inl z) = absurd (omega arith)
+left-falls n (suc r) (suc v) a b (inr h) = omega (arith, h .0, h .1)
+
+pub onward-low : (n r v : ℕ) → Onward n r v → v ≤ n
+onward-low n r v (inl z) = omega arith
+onward-low n r v (inr h) = h .1
+
+-- The rows that a walk goes to from row w, the r-th of n.
+pub record Onwards (n r : ℕ) (w : Row) : Type 0 where
+  pub first : Onward n r (kidsOf w .first)
+  pub second : Onward n r (kidsOf w .second)
+  pub third : Onward n r (kidsOf w .third)
+  pub next : Onward n r (w .next)
+
+abbrev isFields : Enters → Bool
+isFields nothing = false
+isFields params = false
+isFields fields = true
+
+module _ (n r : ℕ) (w : Row) (d : Descends n r w) where
+  by-enters : (e : Enters) → Onward n r (w .third) ⊎ (e ≡ nothing)
+      → Onward n r (kidsBy e w .first) × Onward n r (kidsBy e w .second) × Onward n r (kidsBy e w .third)
+  by-enters nothing h = (inl refl, inl refl, inl refl)
+  by-enters params h = (inl refl, d .to-second, inl refl)
+  by-enters fields (inl h) = (d .to-first, d .to-second, h)
+  by-enters fields (inr e) = absurd (not-both refl (ap isFields e))
+
+  pub onwards : Onwards n r w
+  unfolding kidsOf
+  onwards =
+      let k = by-enters (entersOf w) (third-or-none (bool-cases (isCompr w))) in
+      record { first = k .0; second = k .1; third = k .2; next = d .to-next }
+    where
+      third-or-none : (isCompr w ≡ true) ⊎ (isCompr w ≡ false) → Onward n r (w .third) ⊎ (entersOf w ≡ nothing)
+      third-or-none (inl p) = inr (compr-enters-nothing w p)
+      third-or-none (inr p) = let e : thirdOf w ≡ w .third = rw p in inl (subst (Onward n r) e (d .to-third))
+
+-- ---- names
+
+-- A field for a name, or for nothing.
+nameField : ℕ → Bool
+nameField fs = eqb (fieldFrom fs .section) names || eqb (fieldFrom fs .section) 0
+
+kinds-name : all nameField kinds ≡ true
+unfolding nameField kinds fieldFrom
+kinds-name = refl
+
+module _ (c : Counts) (t : List ℕ) (within : Within c) (facts : SheetFacts c t) where
+  low-by : (section v : ℕ) → v ≤ limitOf c section → (section ≡ names) ⊎ (section ≡ 0) → v < 128
+  low-by section v h (inl e) = let l : v ≤ limitOf c names = subst (λ (k : ℕ). v ≤ limitOf c k) e h in omega (arith, within .few-names)
+  low-by section v h (inr e) = let l : v ≤ limitOf c 0 = subst (λ (k : ℕ). v ≤ limitOf c k) e h in omega arith
+
+  pub name-low : (r : ℕ) → 1 ≤ r → r ≤ c .exprs → rowAt t r .name < 128
+  unfolding rowAt nameField kindFields fieldFrom
+  name-low r a b =
+      let section = fieldFrom (kindFields (exprAt t r .kind)) .section in
+      let p = all-getD nameField kinds 0 kinds-name refl (exprAt t r .kind) in
+      low-by section (exprAt t r .name) (facts .expr r a b .name .fine .in-range)
+      (⊎-elim (λ q. inl (eqb-true section names q)) (λ q. inr (eqb-true section 0 q)) (or-cases (eqb section names) (eqb section 0) p))
+
+  pub row-onwards : (r : ℕ) → 1 ≤ r → r ≤ c .exprs → Onwards (c .exprs) r (rowAt t r)
+  row-onwards r a b = onwards (c .exprs) r (rowAt t r) (row-descends c t facts r a b)

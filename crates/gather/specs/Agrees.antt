@@ -1,0 +1,107 @@
+-- A scope's sets as words, and the scope of the definitions.
+use mathlib.Core.Path.{_≡_, refl, sym, ap, ap₂, _∙_}
+use mathlib.Core.Bool.{Bool, true, false, _||_, cond}
+use mathlib.Core.List.{List}
+use mathlib.Core.Logic.{_⊎_, inl, inr}
+use mathlib.Core.Option.{some}
+use Prim.Native.Nat.{ℕ}
+use lib.Dec.{eqb}
+use Rattle.names.specs.Sets.{member, Empty, Inserted}
+use borrow.Author.Tests.{eqb-true, eq-eqb}
+use Rattle.basics.specs.Truth.{bool-cases, bool-ext}
+use Rattle.trees.specs.Lists.{isSome}
+use Rattle.trees.specs.declared.Row.{Row}
+use Rattle.scopes.specs.NameSets.{contains, insert, empty}
+use Rattle.scopes.specs.Scopes as spec
+use Rattle.scopes.specs.Scopes.{noScope, addLocal, addUnscoped, addInput, useInput, isLocal}
+use Rattle.gather.specs.declared.scope.Scope.{Scope}
+
+-- The scope k has the sets of the scope s: its locals as names, without their spans.
+pub record Sets (k : Scope) (s : spec.Scope) : Type 0 where
+  pub locals : (x : ℕ) → isLocal s x ≡ member (k .locals .words) x
+  pub unscoped : (x : ℕ) → contains (s .unscoped) x ≡ member (k .unscoped .words) x
+  pub inputs : (x : ℕ) → contains (s .inputs) x ≡ member (k .inputs .words) x
+  pub flag : s .usesInput ≡ k .uses
+
+-- ---- what the methods do
+
+abbrev pub NoNames : Scope → Type 0
+NoNames r = Sets r noScope
+
+abbrev pub WithLocal : Scope → ℕ → Scope → Type 0
+WithLocal k x r = (s : spec.Scope) (w : Row) → w .name ≡ x → Sets k s → Sets r (addLocal s w)
+
+abbrev pub WithUnscoped : Scope → ℕ → Scope → Type 0
+WithUnscoped k x r = (s : spec.Scope) → Sets k s → Sets r (addUnscoped s x)
+
+abbrev pub WithInput : Scope → ℕ → Scope → Type 0
+WithInput k x r = (s : spec.Scope) → Sets k s → Sets r (addInput s x)
+
+abbrev pub WithFlag : Scope → Bool → Scope → Type 0
+WithFlag k b r = (s : spec.Scope) → Sets k s → Sets r (useInput b s)
+
+-- ---- what holds of the definitions' additions
+
+eqb-sym : (a b : ℕ) → eqb a b ≡ eqb b a
+eqb-sym a b = bool-ext _ _ (λ p. eq-eqb b a (sym (eqb-true a b p))) (λ p. eq-eqb a b (sym (eqb-true b a p)))
+
+local-has : (s : spec.Scope) (w : Row) (x : ℕ) → isLocal (addLocal s w) x ≡ (eqb x (w .name) || isLocal s x)
+unfolding addLocal
+local-has s w x = go (bool-cases (eqb (w .name) x)) (eqb-sym (w .name) x)
+  where
+    go : (eqb (w .name) x ≡ true) ⊎ (eqb (w .name) x ≡ false) → eqb (w .name) x ≡ eqb x (w .name)
+        → isSome (cond (eqb (w .name) x) (some (spec.spanOf w)) (spec.spanIn (s .locals) x)) ≡ (eqb x (w .name) || isLocal s x)
+    go (inl p) e = rw (p, sym e ∙ p)
+    go (inr p) e = rw (p, sym e ∙ p)
+
+-- ---- and so of the code's
+
+module _ (k : Scope) where
+  pub with-local : (l : List ℕ) (x : ℕ) → Inserted (k .locals .words) x l
+      → WithLocal k x (record { locals = record { words = l }; unscoped = k .unscoped; inputs = k .inputs; uses = k .uses })
+  unfolding addLocal
+  with-local l x put s w is a = record {
+    locals = λ y. local-has s w y ∙ ap₂ (λ (n : ℕ) (b : Bool). eqb y n || b) is (a .locals y) ∙ sym (put .has y);
+    unscoped = a .unscoped;
+    inputs = a .inputs;
+    flag = a .flag;
+  }
+
+  pub with-unscoped : (l : List ℕ) (x : ℕ) → Inserted (k .unscoped .words) x l
+      → WithUnscoped k x (record { locals = k .locals; unscoped = record { words = l }; inputs = k .inputs; uses = k .uses })
+  unfolding addUnscoped contains insert
+  with-unscoped l x put s a = record {
+    locals = a .locals;
+    unscoped = λ y. ap (λ (b : Bool). eqb y x || b) (a .unscoped y) ∙ sym (put .has y);
+    inputs = a .inputs;
+    flag = a .flag;
+  }
+
+  pub with-input : (l : List ℕ) (x : ℕ) → Inserted (k .inputs .words) x l
+      → WithInput k x (record { locals = k .locals; unscoped = k .unscoped; inputs = record { words = l }; uses = k .uses })
+  unfolding addInput contains insert
+  with-input l x put s a = record {
+    locals = a .locals;
+    unscoped = a .unscoped;
+    inputs = λ y. ap (λ (b : Bool). eqb y x || b) (a .inputs y) ∙ sym (put .has y);
+    flag = a .flag;
+  }
+
+  pub with-flag : (b f : Bool) → f ≡ (b || k .uses) → WithFlag k b (record { locals = k .locals; unscoped = k .unscoped; inputs = k .inputs; uses = f })
+  unfolding useInput
+  with-flag b f is s a = record {
+    locals = a .locals;
+    unscoped = a .unscoped;
+    inputs = a .inputs;
+    flag = ap (λ (u : Bool). b || u) (a .flag) ∙ sym is;
+  }
+
+pub no-names : (l : List ℕ) → Empty l
+    → NoNames (record { locals = record { words = l }; unscoped = record { words = l }; inputs = record { words = l }; uses = false })
+unfolding empty contains
+no-names l none = record {
+  locals = λ y. sym (none .has y);
+  unscoped = λ y. sym (none .has y);
+  inputs = λ y. sym (none .has y);
+  flag = refl;
+}

@@ -1,0 +1,5 @@
+pub mod Sheets
+pub mod Agrees
+pub mod Outers
+pub mod Walking
+pub mod Inputs

@@ -1,0 +1,18 @@
+// The scopes around a query, as its own gathering needs them: for each name the least line from which on a variable of that name exists there.
+
+use trees::Row;
+ghost use mathlib.Core.Path.{_≡_};
+ghost use mathlib.Core.List.{List};
+ghost use Prim.Native.Nat.{_≤_, _<_};
+ghost use lib.ListN.{length};
+ghost use Rattle.scopes.specs.Scopes.{varExists};
+ghost use Rattle.gather.specs.Outers.{Exists};
+
+// `var_exists`.
+pub fn var_exists(outer: &[u64], w: Row) -> bool
+    requires { ⌜ (128 ≤ length (now outer)) × (w .name < 128) ⌝ }
+    ensures { λ r. ⌜ Exists (now (outer .entry)) w r ⌝ }
+{
+    let name = w.name as usize;
+    outer[name] <= w.line as u64
+}

@@ -1,0 +1,87 @@
+// A query's scope, as a value that each gathering step takes and hands back. Where the locals stand is kept beside it.
+
+use names::Names;
+ghost use Prim.Native.Nat.{_<_};
+ghost use mathlib.Core.Path.{_≡_};
+ghost use Rattle.gather.specs.Agrees.{Sets, NoNames, WithLocal, WithUnscoped, WithInput, WithFlag};
+
+pub struct Scope {
+    pub locals: Names,
+    pub unscoped: Names,
+    pub inputs: Names,
+    pub uses: bool,
+}
+
+impl Scope {
+    pub fn empty() -> Scope
+        ensures { λ r. ⌜ NoNames r ⌝ }
+    {
+        let none = Names::empty();
+        Scope {
+            locals: none,
+            unscoped: none,
+            inputs: none,
+            uses: false,
+        }
+    }
+
+    pub fn add_local(self, name: usize) -> Scope
+        requires { ⌜ name < 128 ⌝ }
+        ensures { λ r. ⌜ WithLocal self name r ⌝ }
+    {
+        let locals = self.locals.insert(name);
+        let unscoped = self.unscoped;
+        let inputs = self.inputs;
+        Scope {
+            locals,
+            unscoped,
+            inputs,
+            uses: self.uses,
+        }
+    }
+
+    pub fn add_unscoped(self, name: usize) -> Scope
+        requires { ⌜ name < 128 ⌝ }
+        ensures { λ r. ⌜ WithUnscoped self name r ⌝ }
+    {
+        let locals = self.locals;
+        let unscoped = self.unscoped.insert(name);
+        let inputs = self.inputs;
+        Scope {
+            locals,
+            unscoped,
+            inputs,
+            uses: self.uses,
+        }
+    }
+
+    pub fn add_input(self, name: usize) -> Scope
+        requires { ⌜ name < 128 ⌝ }
+        ensures { λ r. ⌜ WithInput self name r ⌝ }
+    {
+        let locals = self.locals;
+        let unscoped = self.unscoped;
+        let inputs = self.inputs.insert(name);
+        Scope {
+            locals,
+            unscoped,
+            inputs,
+            uses: self.uses,
+        }
+    }
+
+    // The flag is set, if `set`.
+    pub fn use_input(self, set: bool) -> Scope
+        ensures { λ r. ⌜ WithFlag self set r ⌝ }
+    {
+        let locals = self.locals;
+        let unscoped = self.unscoped;
+        let inputs = self.inputs;
+        Scope {
+            locals,
+            unscoped,
+            inputs,
+            uses: set || self.uses,
+        }
+    }
+}
