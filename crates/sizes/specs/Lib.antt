@@ -1,0 +1,14 @@
+pub mod Sizes
+pub mod Lists
+pub mod Leaves
+pub mod Adds
+pub mod Using
+pub mod Extras
+pub mod Recording
+pub mod Comprs
+pub mod Exprs
+pub mod SomeIn
+pub mod Statements
+pub mod Sound
+pub mod Least
+pub mod Queries
