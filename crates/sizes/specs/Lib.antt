@@ -12,3 +12,9 @@ pub mod Statements
 pub mod Sound
 pub mod Least
 pub mod Queries
+pub mod Sums
+pub mod Worth
+pub mod Listed
+pub mod Rows
+pub mod Named
+pub mod Bound
