@@ -43,9 +43,11 @@ module _ (sheet : Sheet) where
 
   -- ---- one after the other
 
+  -- To stay is to add nothing.
   pub adds-none : (s : State) → Adds 0 s s
   adds-none s = record { more = []; appended = sym (append-nil (s .definitions)); few = omega arith; fit = λ h. h }
 
+  -- What is added first, and then.
   pub adds-then : {m n : ℕ} {s t u : State} → Adds m s t → Adds n t u → Adds (m + n) s u
   adds-then {m} {n} {s} {t} {u} a b = record {
     more = a .more ++ b .more;
@@ -54,11 +56,19 @@ module _ (sheet : Sheet) where
     fit = λ h. b .fit (a .fit h);
   }
 
+  -- A larger bound is one too.
   pub adds-at-most : {m : ℕ} {s t : State} (n : ℕ) → Adds m s t → m ≤ n → Adds n s t
   adds-at-most n a l = record { more = a .more; appended = a .appended; few = omega (arith, a .few); fit = a .fit }
 
   pub step-at-most : {m : ℕ} {f : State → State} (n : ℕ) → Step m f → m ≤ n → Step n f
   step-at-most n h l s = adds-at-most n (h s) l
+
+  -- So there is room for all, where there is room for n more; and at no time before there were more.
+  pub adds-length : {n : ℕ} {s t : State} → Adds n s t
+      → (length (s .definitions) ≤ length (t .definitions)) × (length (t .definitions) ≤ length (s .definitions) + n)
+  adds-length {n} {s} {t} a =
+      let l = ap length (a .appended) ∙ length-append (s .definitions) (a .more) in
+      (omega arith, omega (arith, a .few))
 
   -- A step that is not done at a fault.
   pub step-if : {n : ℕ} (f : State → State) → Step n f → (x : Fault) → Step n (ifSound x f)
@@ -73,10 +83,12 @@ module _ (sheet : Sheet) where
     end : Turns 0 []
     _⨾_ : {m n : ℕ} {f : State → State} {steps : List (State → State)} → Step m f → Turns n steps → Turns (m + n) (f ∷ steps)
 
+  -- They do so up to the first fault.
   pub turn : {n : ℕ} {steps : List (State → State)} → Turns n steps → Step n (inTurn steps)
   turn end s = adds-none s
   turn (_⨾_ {f = f} g h) s = adds-then (step-if f g (s .run .fault) s) (turn h (ifSound (s .run .fault) f s))
 
+  -- A step for each element.
   pub turn-fold : {A : Type 0} (cost : A → ℕ) (g : State → A → State) → ((x : A) → Step (cost x) (λ s. g s x))
       → (l : List A) → Step (total cost l) (λ s. foldl g s l)
   turn-fold cost g h [] s = adds-none s
@@ -88,9 +100,9 @@ module _ (sheet : Sheet) where
 
   -- ---- changes of one part
 
-  pub adds-scope : (sc : Scope) → Step 0 (setScope sc)
+  pub adds-set-scope : (sc : Scope) → Step 0 (setScope sc)
   unfolding setScope
-  adds-scope sc s = record { more = []; appended = sym (append-nil (s .definitions)); few = omega arith; fit = λ h. h }
+  adds-set-scope sc s = record { more = []; appended = sym (append-nil (s .definitions)); few = omega arith; fit = λ h. h }
 
   pub adds-first-uses : (spans : List Span) → Step 0 (addFirstUses spans)
   unfolding addFirstUses
@@ -100,14 +112,15 @@ module _ (sheet : Sheet) where
   unfolding addDefinitions
   adds-definitions defs s = record { more = defs; appended = refl; few = omega arith; fit = λ h. h }
 
-  pub adds-run : (s : State) (r : Run) → (AllFit (s .run) → AllFit r) → Adds 0 s (setRun r s)
+  pub adds-set-run : (s : State) (r : Run) → (AllFit (s .run) → AllFit r) → Adds 0 s (setRun r s)
   unfolding setRun
-  adds-run s r h = record { more = []; appended = sym (append-nil (s .definitions)); few = omega arith; fit = h }
+  adds-set-run s r h = record { more = []; appended = sym (append-nil (s .definitions)); few = omega arith; fit = h }
 
   pub adds-fail : (f : Fault) → Step 0 (fail f)
   unfolding fail
-  adds-fail f s = adds-run s _ (λ h. h)
+  adds-fail f s = adds-set-run s _ (λ h. h)
 
+  -- A fault, or the step.
   pub adds-fail-or : {n : ℕ} (e : Option Fault) (f : State → State) → Step n f → Step n (failOr e f)
   adds-fail-or none f h s = h s
   adds-fail-or {n} (some e) f h s = adds-at-most n (adds-fail e s) (omega arith)

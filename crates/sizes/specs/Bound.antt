@@ -19,13 +19,11 @@ use Rattle.accepted.specs.Accepted.{Accepted, accepted}
 use Rattle.accepted.specs.Rows.{fine-expr-row, fine-statement-row}
 use Rattle.trees.specs.Sheet.{sheetOf}
 use Rattle.trees.specs.Statements.{stmtsOf}
-use Rattle.analysis.specs.Queries.{recorded}
 use Rattle.sizes.specs.Sizes.{total, weight}
 use Rattle.sizes.specs.Sums.{sumTo, sum-mono, sum-add, sum-suc, sum-at, named-once}
 use Rattle.sizes.specs.Worth.{queryWorth, statementWorth, exprWorth, worth-namings}
 use Rattle.sizes.specs.Rows.{sizeAt, size-row, weightFrom, weight-row, weight-query, weight-no-query}
 use Rattle.sizes.specs.Named.{exprValue, statementValue, expr-worth, statement-worth, next-worth, query-worth}
-use Rattle.sizes.specs.Queries.{recorded-at-most}
 
 -- A row that is named so is named once.
 once : (k : ℕ) (ns : List Naming) → namedSo k ns ≡ true → length ns ≤ 1
@@ -82,6 +80,7 @@ module _ (c : Counts) (x : Special) (t : List ℕ) (ok : Accepted c t) where
             (λ q a b. omega (arith, weight-query c x t q a b, query-worth c x t ok q a b)),
       )
 
+  -- So does each.
   pub weight-fits : (q : ℕ) → total weight (stmtsOf (sheetOf c x t) q) ≤ c .exprs + c .statements
   weight-fits q = go (lt-cases 0 q) (lt-cases (c .queries) q)
     where
@@ -90,12 +89,11 @@ module _ (c : Counts) (x : Special) (t : List ℕ) (ok : Accepted c t) where
       go (inl l) (inl h) = omega (arith, weight-no-query c x t q (λ a b. omega arith))
       go (inl l) (inr h) = omega (arith, weights-fit, sum-at (λ q. total weight (stmtsOf (sheetOf c x t) q)) (c .queries) q l h)
 
--- The most definitions that a query records.
+-- 640: the most expressions and statements that a sheet may have.
 abbrev pub mostDefinitions : ℕ
 mostDefinitions = mostExprs + mostStatements
 
--- A query of an accepted sheet records at most 640 definitions.
-pub recorded-in-bounds : (c : Counts) (x : Special) (t : List ℕ) → Within c → firstLine c t ≡ 0 → (q : ℕ)
-    → length (recorded (sheetOf c x t) q) ≤ mostDefinitions
-recorded-in-bounds c x t few none q =
-    omega (arith, recorded-at-most (sheetOf c x t) q, weight-fits c x t (accepted c t none) q, few .few-exprs, few .few-statements)
+-- A query weighs no more.
+pub weight-in-bounds : (c : Counts) (x : Special) (t : List ℕ) → Within c → firstLine c t ≡ 0 → (q : ℕ)
+    → total weight (stmtsOf (sheetOf c x t) q) ≤ mostDefinitions
+weight-in-bounds c x t few none q = omega (arith, weight-fits c x t (accepted c t none) q, few .few-exprs, few .few-statements)

@@ -21,11 +21,11 @@ use Rattle.analysis.specs.Exprs.{Pairing, pair, mismatch, pairings, assignOneWa
 use Rattle.sizes.specs.Sizes.{total, size}
 use Rattle.sizes.specs.Lists.{total-append}
 use Rattle.sizes.specs.Leaves.{patternVars, bracketVars, pattern-fits, brackets-fit, node-fit}
-use Rattle.sizes.specs.Adds.{Step, adds-then, adds-at-most, step-at-most, end, _⨾_, turn, turn-fold, adds-scope, adds-fail}
-use Rattle.sizes.specs.Using.{assigned-few, adds-check-assigned, adds-each}
+use Rattle.sizes.specs.Adds.{Step, adds-then, adds-at-most, step-at-most, end, _⨾_, turn, turn-fold, adds-set-scope, adds-fail}
+use Rattle.sizes.specs.Using.{assigned-few, adds-check-assigned, adds-record-each}
 use Rattle.sizes.specs.Extras.{extra-few, extra-fits}
 use Rattle.sizes.specs.Recording.{AddsFor, for-at-most, for-one, lastly, _⨟_, turn-for}
-use Rattle.sizes.specs.Comprs.{KeepsFit, adds-expr}
+use Rattle.sizes.specs.Comprs.{KeepsFit, adds-use-expr}
 
 -- ---- how many
 
@@ -33,6 +33,7 @@ use Rattle.sizes.specs.Comprs.{KeepsFit, adds-expr}
 abbrev pub sideCost : Tree → ℕ
 sideCost t = max 1 (patternVars t) + bracketVars t
 
+-- Both sides; a mismatch adds nothing.
 abbrev pub pairCost : Pairing → ℕ
 pairCost (pair lhs rhs) = sideCost lhs + sideCost rhs
 pairCost (mismatch v) = 0
@@ -70,40 +71,43 @@ parts-fit (node w a b c n) = omega arith
 module _ (sheet : Sheet) (nested : Nested) (parents : List Scope) (keeps : KeepsFit sheet nested) (i : ℕ) (m : Mods) where
   -- ---- assignments
 
-  adds-way : (check : Bool) (target source : Tree)
+  -- One direction adds what the source's brackets define, and what the target assigns or one definition.
+  pub adds-assign-one-way : (check : Bool) (target source : Tree)
       → Step sheet (bracketVars source + max 1 (patternVars target)) (assignOneWay sheet nested parents i m check target source)
   unfolding assignOneWay
-  adds-way check target source =
+  adds-assign-one-way check target source =
       step-at-most sheet (bracketVars source + max 1 (patternVars target))
-      (turn sheet (adds-expr sheet nested parents keeps i [] m source
+      (turn sheet (adds-use-expr sheet nested parents keeps i [] m source
       ⨾ adds-check-assigned sheet check target
       ⨾ (λ t. adds-at-most sheet (max 1 (patternVars target))
-      (adds-each sheet i (assignedVars (t .scope) target) (λ x. filter (λ y. not (eqb y x)) (allUsed sheet [] m source t)) t)
+      (adds-record-each sheet i (assignedVars (t .scope) target) (λ x. filter (λ y. not (eqb y x)) (allUsed sheet [] m source t)) t)
       (omega (arith, assigned-few (t .scope) target)))
       ⨾ end)) (omega arith)
 
-  adds-pairing : (check : Bool) (p : Pairing) → Step sheet (pairCost p) (λ s. assignPairing sheet nested parents i m check s p)
+  pub adds-assign-pairing : (check : Bool) (p : Pairing) → Step sheet (pairCost p) (λ s. assignPairing sheet nested parents i m check s p)
   unfolding assignPairing
-  adds-pairing check (pair lhs rhs) =
-      step-at-most sheet (sideCost lhs + sideCost rhs) (turn sheet (adds-way check lhs rhs ⨾ adds-way false rhs lhs ⨾ end)) (omega arith)
-  adds-pairing check (mismatch v) = turn sheet (adds-fail sheet (lengths (v .line) (v .col)) ⨾ end)
+  adds-assign-pairing check (pair lhs rhs) =
+      step-at-most sheet (sideCost lhs + sideCost rhs)
+      (turn sheet (adds-assign-one-way check lhs rhs ⨾ adds-assign-one-way false rhs lhs ⨾ end)) (omega arith)
+  adds-assign-pairing check (mismatch v) = turn sheet (adds-fail sheet (lengths (v .line) (v .col)) ⨾ end)
 
   -- An assignment adds at most as many definitions as its sides have expressions.
-  pub adds-assign : (e : Tree) → Step sheet (size e) (processAssignExpr sheet nested parents i m e)
+  pub adds-process-assign-expr : (e : Tree) → Step sheet (size e) (processAssignExpr sheet nested parents i m e)
   unfolding processAssignExpr
-  adds-assign e s =
+  adds-process-assign-expr e s =
       adds-at-most sheet (size e)
-      (turn-fold sheet pairCost (assignPairing sheet nested parents i m (isColEq (rowOf e))) (adds-pairing (isColEq (rowOf e)))
+      (turn-fold sheet pairCost (assignPairing sheet nested parents i m (isColEq (rowOf e))) (adds-assign-pairing (isColEq (rowOf e)))
       (pairings (firstOf e) (secondOf e)) s)
       (omega (arith, pairings-fit (firstOf e) (secondOf e), parts-fit e))
 
   -- ---- any other expression
 
-  pub adds-plain : (e : Tree) (s : State) → AddsFor sheet i (size e) s (processPlainExpr sheet nested parents i m e s)
+  -- It adds what its brackets define, and one definition.
+  pub adds-process-plain-expr : (e : Tree) (s : State) → AddsFor sheet i (size e) s (processPlainExpr sheet nested parents i m e s)
   unfolding processPlainExpr
-  adds-plain e s =
+  adds-process-plain-expr e s =
       for-at-most sheet i (size e)
-      (turn-for sheet i (adds-expr sheet nested parents keeps i [] m e ⨟ lastly (λ t. for-one sheet i 0 (allUsed sheet [] m e t) t)) s)
+      (turn-for sheet i (adds-use-expr sheet nested parents keeps i [] m e ⨟ lastly (λ t. for-one sheet i 0 (allUsed sheet [] m e t) t)) s)
       (omega (arith, brackets-fit e))
 
   pub adds-process-expr : (e : Tree) (s : State) → AddsFor sheet i (size e) s (processExpr sheet nested parents i m e s)
@@ -112,27 +116,27 @@ module _ (sheet : Sheet) (nested : Nested) (parents : List Scope) (keeps : Keeps
     where
       go : (b : Bool) → AddsFor sheet i (size e) s
           (cond b (processAssignExpr sheet nested parents i m e s) (processPlainExpr sheet nested parents i m e s))
-      go true = inl (adds-assign e s)
-      go false = adds-plain e s
+      go true = inl (adds-process-assign-expr e s)
+      go false = adds-process-plain-expr e s
 
   -- ---- an extra argument
 
-  adds-extra : (e arg : Tree) → max 1 (patternVars arg) + bracketVars e ≤ size e
+  pub adds-process-extra-arg : (e arg : Tree) → max 1 (patternVars arg) + bracketVars e ≤ size e
       → Step sheet (size e) (processExtraArg sheet nested parents i m e arg)
   unfolding processExtraArg
-  adds-extra e arg h s =
+  adds-process-extra-arg e arg h s =
       let extras = extraVars sheet nested parents arg in
       adds-at-most sheet (size e)
-      (adds-then sheet (adds-scope sheet (foldl addUnscoped (s .scope) extras) s)
-      (turn sheet (adds-expr sheet nested parents keeps i extras m e
-      ⨾ (λ t. adds-at-most sheet (max 1 (patternVars arg)) (adds-each sheet i extras (λ x. allUsed sheet extras m e t) t)
+      (adds-then sheet (adds-set-scope sheet (foldl addUnscoped (s .scope) extras) s)
+      (turn sheet (adds-use-expr sheet nested parents keeps i extras m e
+      ⨾ (λ t. adds-at-most sheet (max 1 (patternVars arg)) (adds-record-each sheet i extras (λ x. allUsed sheet extras m e t) t)
       (omega (arith, extra-few sheet parents nested arg)))
       ⨾ end) (setScope (foldl addUnscoped (s .scope) extras) s)))
       (omega arith)
 
-  pub adds-call : (e : Tree) (s : State) → AddsFor sheet i (size e) s (processCall sheet nested parents (getExtraArg sheet e) i m e s)
-  adds-call e s = go (getExtraArg sheet e) refl
+  pub adds-process-call : (e : Tree) (s : State) → AddsFor sheet i (size e) s (processCall sheet nested parents (getExtraArg sheet e) i m e s)
+  adds-process-call e s = go (getExtraArg sheet e) refl
     where
       go : (x : Option Tree) → getExtraArg sheet e ≡ x → AddsFor sheet i (size e) s (processCall sheet nested parents x i m e s)
       go none q = adds-process-expr e s
-      go (some arg) q = inl (adds-extra e arg (extra-fits sheet e arg q) s)
+      go (some arg) q = inl (adds-process-extra-arg e arg (extra-fits sheet e arg q) s)

@@ -52,7 +52,8 @@ filter-insert s x (y ∷ l) h = go (bool-cases (eqb y x)) (s y) (filter-insert s
     same p = ap length (insert-above s x l (rw (← eqb-true y x p) (and-left _ _ h)))
 
     go : (eqb y x ≡ true) ⊎ (eqb y x ≡ false) → (b : Bool) → length (filter (insert s x) l) ≤ suc (length (filter s l))
-        → length (cond (eqb y x || b) (y ∷ filter (insert s x) l) (filter (insert s x) l)) ≤ suc (length (cond b (y ∷ filter s l) (filter s l)))
+        → length (cond (eqb y x || b) (y ∷ filter (insert s x) l) (filter (insert s x) l))
+        ≤ suc (length (cond b (y ∷ filter s l) (filter s l)))
     go (inl p) true q = rw p (omega (arith, same p))
     go (inl p) false q = rw p (omega (arith, same p))
     go (inr p) true q = rw p (omega arith)
@@ -109,7 +110,8 @@ unfolding getExtraArg size
 extra-fits sheet nil arg q = let z : _≡_ {A = ℕ} 0 1 = cc in omega arith
 extra-fits sheet (node w a b c n) arg q = go (bool-cases (isCall w))
   where
-    go : (isCall w ≡ true) ⊎ (isCall w ≡ false) → max 1 (patternVars arg) + bracketVars (node w a b c n) ≤ suc (size a + (size b + (size c + size n)))
+    go : (isCall w ≡ true) ⊎ (isCall w ≡ false)
+        → max 1 (patternVars arg) + bracketVars (node w a b c n) ≤ suc (size a + (size b + (size c + size n)))
     go (inl p) =
         omega (
           arith,

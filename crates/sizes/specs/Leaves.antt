@@ -24,6 +24,7 @@ indexCount e = cond (isRefBrack (rowOf e)) (patternVars (secondOf e)) 0
 unfoldable pub bracketVars : Tree → ℕ
 bracketVars t = total indexCount (traverse t)
 
+-- The variables of two lists add up.
 pub vars-append : (k l : List Tree) → length (vars (k ++ l)) ≡ length (vars k) + length (vars l)
 vars-append k l =
     rw (concatMap-append (λ e. cond (isVar (rowOf e)) (rowOf e ∷ []) []) k l) (length-append (vars k) (vars l))
@@ -32,6 +33,7 @@ bracketVars-nil : bracketVars nil ≡ 0
 unfolding bracketVars traverse
 bracketVars-nil = refl
 
+-- What is entered is in the three fields.
 entered-fit : (k : Enters) (a b c : List Tree)
     → total indexCount (entered k a b c) ≤ total indexCount a + (total indexCount b + total indexCount c)
 entered-fit nothing a b c = omega arith
@@ -54,6 +56,7 @@ pub bracketVars-node : (w : Row) (a b c n : Tree)
 unfolding bracketVars traverse
 bracketVars-node w a b c n = node-fits (getD enters (w .kind) nothing) (node w a b c nil) a b c n
 
+-- The index of a bracket is its second field.
 index-fits : (w : Row) (a b c : Tree) → indexCount (node w a b c nil) ≤ patternVars b
 unfolding indexCount
 index-fits w a b c = go (isRefBrack w)
@@ -62,6 +65,7 @@ index-fits w a b c = go (isRefBrack w)
     go true = omega arith
     go false = omega arith
 
+-- An expression is one variable or none.
 vars-one : (e : Tree) → length (vars (e ∷ [])) ≤ 1
 vars-one e = go (isVar (rowOf e))
   where
@@ -85,6 +89,7 @@ pattern-fits (node w a b c n) = go (isPattern w) (pattern-fits a) (pattern-fits 
     go false ia ib ic im =
         omega (arith, vars-append (node w a b c nil ∷ []) (leaves n), vars-one (node w a b c nil), bracketVars-node w a b c n, index-fits w a b c)
 
+-- So the variables in the indexes alone are no more.
 pub brackets-fit : (t : Tree) → bracketVars t ≤ size t
 brackets-fit t = omega (arith, pattern-fits t)
 
@@ -109,6 +114,7 @@ leaves-fit (node w a b c n) = go (isPattern w) (leaves-fit a) (leaves-fit n)
 
 -- ---- chains
 
+-- A chain's members add up to the chain.
 pub patternVars-chain : (t : Tree) → total patternVars (chain t) ≡ patternVars t
 unfolding patternVars leaves chain
 patternVars-chain nil = refl

@@ -18,3 +18,4 @@ pub mod Listed
 pub mod Rows
 pub mod Named
 pub mod Bound
+pub mod Theorems

@@ -33,6 +33,7 @@ module _ {A B : Type 0} where
   length-concatMap f (x ∷ l) = rw (length-append (f x) (concatMap f l), length-concatMap f l)
 
 module _ {A : Type 0} where
+  -- Sums over lists.
   pub total-append : (f : A → ℕ) (k l : List A) → total f (k ++ l) ≡ total f k + total f l
   total-append f [] l = omega arith
   total-append f (x ∷ k) l = omega (arith, total-append f k l)
@@ -66,7 +67,8 @@ module _ {A : Type 0} where
   find-some p [] e = let z : _≡_ {A = ℕ} 0 1 = cc in absurd (omega arith)
   find-some {a} p (x ∷ l) e = go (bool-cases (p x)) (λ q. find-some p l q)
     where
-      go : (p x ≡ true) ⊎ (p x ≡ false) → (find p l ≡ some a → List·Memᴰ a l × (p a ≡ true)) → List·Memᴰ a (x ∷ l) × (p a ≡ true)
+      go : (p x ≡ true) ⊎ (p x ≡ false) → (find p l ≡ some a → List·Memᴰ a l × (p a ≡ true))
+          → List·Memᴰ a (x ∷ l) × (p a ≡ true)
       go (inl q) rest =
           let r : some x ≡ some a = rw q at e in
           let s : a ≡ x = cc in

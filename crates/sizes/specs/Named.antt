@@ -104,6 +104,7 @@ module _ (c : Counts) (x : Special) (t : List ℕ) where
       third-part f v m false (inl p) = absurd (not-both p refl)
       third-part f v m false (inr h) = expr-part f v m h
 
+      -- What an expression names is worth at least its parts.
       pub expr-worth : partsAt c x t r ≤ exprWorth c exprValue t r
       unfolding partsAt exprWorth rowWorth exprEntries
       expr-worth =
@@ -131,6 +132,7 @@ module _ (c : Counts) (x : Special) (t : List ℕ) where
           expr-field c (statementRow s) (sizeAt c x t) (size-none c x t) (statementEntry c t s f v)
           (fine-statement-row c t s (ok .fine-statement s low high) .fields m .in-range) h
 
+      -- So is what a statement names of the expressions.
       pub statement-worth : wholesAt c x t s ≤ statementWorth c exprValue t s
       unfolding wholesAt statementWorth rowWorth statementEntries
       statement-worth =
@@ -153,6 +155,7 @@ module _ (c : Counts) (x : Special) (t : List ℕ) where
           statement-field c (statementRow s) (weightFrom c x t) (weight-none c x t) (statementEntry c t s f v)
           (fine-statement-row c t s (ok .fine-statement s low high) .fields m .in-range) h
 
+      -- And of the statements.
       pub next-worth : weightFrom c x t (statementAt t s .next) ≤ statementWorth c statementValue t s
       unfolding statementWorth rowWorth statementEntries
       next-worth =

@@ -1,13 +1,10 @@
 -- Every query that is analysed records at most what it weighs, and for each statement at least one definition.
-use mathlib.Core.Path.{_≡_, refl, sym, ap, _∙_, subst}
+use mathlib.Core.Path.{_≡_, refl, sym, ap, subst}
 use mathlib.Core.List.{List, [], _∷_, foldl, List·Memᴰ, List·Memᴰ·cases-cons, List·Memᴰ·not-nil}
 use mathlib.Core.Logic.{⊎-elim}
-use mathlib.Core.Option.{Option, none, some}
 use Prim.Native.Nat.{ℕ, zero, suc, _+_, _≤_, _<_}
 use native.Mathlib.Omega.{arith}
-use lib.Dec.{eqb}
 use lib.ListN.{length, take}
-use borrow.Author.Tests.{eqb-true}
 use Rattle.records.specs.Layout.{deepest}
 use Rattle.trees.specs.Sheet.{Sheet}
 use Rattle.trees.specs.Trees.{Tree}
@@ -18,23 +15,29 @@ use Rattle.scopes.specs.GatherLocals.{gatherLocalVars}
 use Rattle.analysis.specs.States.{Fault, sound, undefined, usedBefore, lengths, indexVariable, QuerySchedule, Run, State, ifSound}
 use Rattle.analysis.specs.Comprs.{Nested, propagate, analyzeCompr}
 use Rattle.analysis.specs.Statements.{processStmts}
-use Rattle.analysis.specs.Queries.{outputScope, scheduled, outputCompr, analyzeOutputExpr, analyzeQuery, analyze, analyzeQuerySnippet, scheduleIn, definitionsIn, recorded}
+use Rattle.analysis.specs.Queries.{outputScope, scheduled, outputCompr, analyzeOutputExpr, analyzeQuery, analyze, analyzeQuerySnippet}
 use Rattle.sizes.specs.Sizes.{total, weight}
-use Rattle.sizes.specs.Lists.{total-take, find-some}
+use Rattle.sizes.specs.Lists.{total-take}
 use Rattle.sizes.specs.Adds.{Recorded, Fits, AllFit, Adds, Step, adds-then, end, _⨾_, turn, turn-fold-none}
 use Rattle.sizes.specs.Recording.{recorded-stays}
-use Rattle.sizes.specs.Comprs.{KeepsFit, adds-propagate, adds-compr}
-use Rattle.sizes.specs.Statements.{adds-stmts}
+use Rattle.sizes.specs.Comprs.{KeepsFit, adds-propagate, adds-analyze-compr}
+use Rattle.sizes.specs.Statements.{adds-process-stmts}
 use Rattle.sizes.specs.Sound.{Sound, turn-sound, fold-sound}
 use Rattle.sizes.specs.Least.{recorded-stmts}
 
-module _ (sheet : Sheet) (nested : Nested) (parents : List Scope) (keeps : KeepsFit sheet nested) where
-  -- ---- outputs
+-- The analysis of a query starts with no definition.
+abbrev pub start : Sheet → List Scope → ℕ → List Tree → Run → State
+start sheet parents q outputs r =
+    record { scope = gatherLocalVars sheet parents (stmtsOf sheet q) outputs; firstUses = []; definitions = []; run = r }
 
-  adds-output : (t : Tree) → Step sheet 0 (λ s. analyzeOutputExpr sheet nested parents s t)
+module _ (sheet : Sheet) (nested : Nested) (parents : List Scope) (keeps : KeepsFit sheet nested) where
+  -- ---- outputs: nothing is added
+
+  pub adds-analyze-output-expr : (t : Tree) → Step sheet 0 (λ s. analyzeOutputExpr sheet nested parents s t)
   unfolding analyzeOutputExpr outputCompr
-  adds-output t = turn-fold-none sheet (outputCompr sheet nested parents)
-      (λ e s. turn sheet (adds-compr sheet nested parents keeps (outputScope (s .scope) ∷ parents) e ⨾ adds-propagate sheet e ⨾ end) s) (comprs t)
+  adds-analyze-output-expr t = turn-fold-none sheet (outputCompr sheet nested parents)
+      (λ e s. turn sheet (adds-analyze-compr sheet nested parents keeps (outputScope (s .scope) ∷ parents) e ⨾ adds-propagate sheet e ⨾ end) s)
+      (comprs t)
 
   output-sound : (s : State) (t : Tree) → Sound (analyzeOutputExpr sheet nested parents s t) → Sound s
   unfolding analyzeOutputExpr outputCompr
@@ -44,11 +47,7 @@ module _ (sheet : Sheet) (nested : Nested) (parents : List Scope) (keeps : Keeps
 
   -- ---- a query
 
-  -- At the start no definition is recorded.
-  abbrev pub start : ℕ → List Tree → Run → State
-  start q outputs r =
-      record { scope = gatherLocalVars sheet parents (stmtsOf sheet q) outputs; firstUses = []; definitions = []; run = r }
-
+  -- The schedule that a query enters fits.
   query-fits : (q : ℕ) (outputs : List Tree) (r : Run) → AllFit sheet r → AllFit sheet (analyzeQuery sheet nested parents q outputs r)
   unfolding analyzeQuery scheduled
   query-fits q outputs r h = go (after .run .fault) refl
@@ -57,16 +56,16 @@ module _ (sheet : Sheet) (nested : Nested) (parents : List Scope) (keeps : Keeps
       stmts = stmtsOf sheet q
 
       body : State
-      body = processStmts sheet nested parents 0 stmts (start q outputs r)
+      body = processStmts sheet nested parents 0 stmts (start sheet parents q outputs r)
 
       after : State
       after = foldl (analyzeOutputExpr sheet nested parents) body outputs
 
       out : Adds sheet 0 body after
-      out = turn-fold-none sheet (analyzeOutputExpr sheet nested parents) adds-output outputs body
+      out = turn-fold-none sheet (analyzeOutputExpr sheet nested parents) adds-analyze-output-expr outputs body
 
-      all : Adds sheet (total weight stmts + 0) (start q outputs r) after
-      all = adds-then sheet (adds-stmts sheet nested parents keeps stmts 0 (start q outputs r)) out
+      all : Adds sheet (total weight stmts + 0) (start sheet parents q outputs r) after
+      all = adds-then sheet (adds-process-stmts sheet nested parents keeps stmts 0 (start sheet parents q outputs r)) out
 
       this : QuerySchedule
       this = record { query = q; scope = after .scope; count = length stmts; definitions = after .definitions }
@@ -74,7 +73,7 @@ module _ (sheet : Sheet) (nested : Nested) (parents : List Scope) (keeps : Keeps
       each : Sound after → (j : ℕ) → j < length stmts → Recorded j (after .definitions)
       each e j l =
           recorded-stays sheet out
-          (recorded-stmts sheet nested parents keeps stmts 0 (start q outputs r)
+          (recorded-stmts sheet nested parents keeps stmts 0 (start sheet parents q outputs r)
           (fold-sound (analyzeOutputExpr sheet nested parents) output-sound outputs body e) j (omega arith) (omega arith))
 
       fits : Sound after → Fits sheet this
@@ -91,13 +90,14 @@ module _ (sheet : Sheet) (nested : Nested) (parents : List Scope) (keeps : Keeps
 
   -- Nor is there more at any time before: after any number of statements, and wherever a fault stopped them.
   pub query-during : (q : ℕ) (outputs : List Tree) (r : Run) (k : ℕ)
-      → length (processStmts sheet nested parents 0 (take k (stmtsOf sheet q)) (start q outputs r) .definitions) ≤ total weight (stmtsOf sheet q)
+      → length (processStmts sheet nested parents 0 (take k (stmtsOf sheet q)) (start sheet parents q outputs r) .definitions) ≤ total weight (stmtsOf sheet q)
   query-during q outputs r k =
-      let a = adds-stmts sheet nested parents keeps (take k (stmtsOf sheet q)) 0 (start q outputs r) in
+      let a = adds-process-stmts sheet nested parents keeps (take k (stmtsOf sheet q)) 0 (start sheet parents q outputs r) in
       omega (arith, ap length (a .appended), a .few, total-take weight k (stmtsOf sheet q))
 
 -- ---- the analysis of a sheet
 
+-- At every level the schedules fit.
 pub analyze-fits : (levels : ℕ) (sheet : Sheet) → KeepsFit sheet (analyze levels sheet)
 unfolding analyze
 analyze-fits zero sheet ps q outputs r h = h
@@ -109,32 +109,3 @@ pub snippet-fits : (sheet : Sheet) → AllFit sheet (analyzeQuerySnippet sheet)
 unfolding analyzeQuerySnippet
 snippet-fits sheet =
     analyze-fits deepest sheet [] 1 [] (record { schedules = []; fault = sound }) (λ a m. absurd (List·Memᴰ·not-nil m))
-
--- ---- what is read off
-
-module _ (sheet : Sheet) (q : ℕ) where
-  schedule-fits : (a : QuerySchedule) → scheduleIn sheet q ≡ some a → Fits sheet a × (a .query ≡ q)
-  unfolding scheduleIn
-  schedule-fits a e =
-      let r = find-some (λ (b : QuerySchedule). eqb (b .query) q) (analyzeQuerySnippet sheet .schedules) e in
-      (snippet-fits sheet a (r .0), eqb-true (a .query) q (r .1))
-
-  -- A query records at most as many definitions as it weighs.
-  pub recorded-at-most : length (recorded sheet q) ≤ total weight (stmtsOf sheet q)
-  unfolding recorded
-  recorded-at-most = go (scheduleIn sheet q) refl
-    where
-      go : (x : Option QuerySchedule) → scheduleIn sheet q ≡ x → length (definitionsIn x) ≤ total weight (stmtsOf sheet q)
-      go none e = omega arith
-      go (some a) e =
-          let r = schedule-fits a e in
-          subst (λ (p : ℕ). length (a .definitions) ≤ total weight (stmtsOf sheet p)) (r .1) (r .0 .at-most)
-
-  -- A query that is analysed has a definition for each of its statements.
-  pub recorded-at-least : (a : QuerySchedule) → scheduleIn sheet q ≡ some a → (j : ℕ) → j < length (stmtsOf sheet q)
-      → Recorded j (recorded sheet q)
-  unfolding recorded
-  recorded-at-least a e j l =
-      let r = schedule-fits a e in
-      let n : a .count ≡ length (stmtsOf sheet q) = r .0 .whole ∙ ap (λ (p : ℕ). length (stmtsOf sheet p)) (r .1) in
-      rw e (r .0 .at-least j (omega arith))

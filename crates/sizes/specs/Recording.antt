@@ -10,7 +10,7 @@ use Rattle.uses.specs.Uses.{define}
 use Rattle.analysis.specs.States.{Fault, sound, undefined, usedBefore, lengths, indexVariable, State, addDefinitions, ifSound, inTurn}
 use Rattle.analysis.specs.Using.{recordOne}
 use Rattle.sizes.specs.Adds.{Recorded, Adds, Step, adds-none, adds-then, adds-at-most, step-if}
-use Rattle.sizes.specs.Using.{adds-one}
+use Rattle.sizes.specs.Using.{adds-record-one}
 
 infixr 5 _⨟_
 -- What is recorded stays so when definitions are put behind.
@@ -18,9 +18,11 @@ pub recorded-append : {j : ℕ} {defs : List Definition} (more : List Definition
 recorded-append more r = record { one = r .one; listed = Memᴰ·append-left more (r .listed); statement = r .statement }
 
 module _ (sheet : Sheet) where
+  -- So it stays along with any steps.
   pub recorded-stays : {j n : ℕ} {s t : State} → Adds sheet n s t → Recorded j (s .definitions) → Recorded j (t .definitions)
   recorded-stays {j} a r = subst (λ (l : List Definition). Recorded j l) (sym (a .appended)) (recorded-append (a .more) r)
 
+-- A definition of statement i is one.
 pub recorded-one : (i x : ℕ) (used : List ℕ) (s : State) → Recorded i (recordOne i x used s .definitions)
 unfolding recordOne addDefinitions define
 recorded-one i x used s =
@@ -30,6 +32,8 @@ module _ (sheet : Sheet) (i : ℕ) where
   -- From s to t, at most n definitions are added; or one more, and then there is one of statement i.
   abbrev pub AddsFor : ℕ → State → State → Type 0
   AddsFor n s t = Adds sheet n s t ⊎ (Adds sheet (suc n) s t × Recorded i (t .definitions))
+
+  -- ---- as `adds-at-most`, `adds-then` and `step-if`
 
   pub for-at-most : {m : ℕ} {s t : State} (n : ℕ) → AddsFor m s t → m ≤ n → AddsFor n s t
   for-at-most n (inl a) l = inl (adds-at-most sheet n a l)
@@ -50,15 +54,19 @@ module _ (sheet : Sheet) (i : ℕ) where
   for-if {n} f s a (lengths l c) = inl (adds-at-most sheet n (adds-none sheet s) (omega arith))
   for-if {n} f s a indexVariable = inl (adds-at-most sheet n (adds-none sheet s) (omega arith))
 
+  -- ---- steps
+
   -- A definition as the last step.
   pub for-one : (x : ℕ) (used : List ℕ) (s : State) → AddsFor 0 s (recordOne i x used s)
-  for-one x used s = inr (adds-one sheet i x used s, recorded-one i x used s)
+  for-one x used s = inr (adds-record-one sheet i x used s, recorded-one i x used s)
 
   -- Steps of which the last is so.
   pub data TurnsFor : ℕ → List (State → State) → Type 0 where
     lastly : {n : ℕ} {f : State → State} → ((s : State) → AddsFor n s (f s)) → TurnsFor n (f ∷ [])
-    _⨟_ : {m n : ℕ} {f : State → State} {steps : List (State → State)} → Step sheet m f → TurnsFor n steps → TurnsFor (m + n) (f ∷ steps)
+    _⨟_ : {m n : ℕ} {f : State → State} {steps : List (State → State)} → Step sheet m f → TurnsFor n steps
+        → TurnsFor (m + n) (f ∷ steps)
 
+  -- They do so up to the first fault.
   pub turn-for : {n : ℕ} {steps : List (State → State)} → TurnsFor n steps → (s : State) → AddsFor n s (inTurn steps s)
   turn-for (lastly {f = f} g) s = for-if f s (g s) (s .run .fault)
   turn-for (_⨟_ {f = f} g h) s = for-then (step-if sheet f g (s .run .fault) s) (turn-for h (ifSound (s .run .fault) f s))

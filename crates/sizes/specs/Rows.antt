@@ -173,7 +173,8 @@ module _ (c : Counts) (x : Special) (t : List ℕ) where
   weight-few st = omega (arith, literal-few st, size-chain (treeAt sheet (st .with)))
 
   stmts-row : (most r : ℕ) → total weight (stmtsFrom sheet most (suc r))
-      ≤ weight (stmtOf (getD (sheet .statements) r noStatement)) + total weight (stmtsFrom sheet most (getD (sheet .statements) r noStatement .next))
+      ≤ weight (stmtOf (getD (sheet .statements) r noStatement))
+      + total weight (stmtsFrom sheet most (getD (sheet .statements) r noStatement .next))
   unfolding stmtsFrom stmtOf
   stmts-row zero r = omega arith
   stmts-row (suc most) r = omega (arith, stmts-more sheet most (getD (sheet .statements) r noStatement .next))
@@ -215,6 +216,7 @@ module _ (c : Counts) (x : Special) (t : List ℕ) where
   unfolding sheetOf
   no-queries q h = List·getD-eq-default (rowsTo (firstAt t) (c .queries)) 0 (omega (arith, length-rows (firstAt t) (c .queries)))
 
+  -- A query weighs what its statements do.
   pub weight-query : (q : ℕ) → 1 ≤ q → q ≤ c .queries → total weight (stmtsOf sheet q) ≡ weightFrom (firstAt t q)
   weight-query zero a b = absurd (omega arith)
   weight-query (suc q) a b = weight-from (suc q) ∙ ap weightFrom (row-queries q b)

@@ -19,9 +19,9 @@ use Rattle.sizes.specs.Sizes.{total, size}
 use Rattle.sizes.specs.Lists.{length-filter, total-append, total-filter}
 use Rattle.sizes.specs.Leaves.{patternVars, bracketVars, vars-append, brackets-fit, leaves-fit}
 use Rattle.sizes.specs.Adds.{Adds, Step, adds-none, adds-at-most, step-at-most, end, _⨾_, turn, turn-fold, adds-first-uses, adds-definitions, adds-fail}
-use Rattle.sizes.specs.Using.{adds-used}
+use Rattle.sizes.specs.Using.{adds-gather-used-vars}
 use Rattle.sizes.specs.Recording.{AddsFor, for-at-most, for-one, lastly, _⨟_, turn-for}
-use Rattle.sizes.specs.Comprs.{KeepsFit, adds-comprs, adds-expr}
+use Rattle.sizes.specs.Comprs.{KeepsFit, adds-process-comprs, adds-use-expr}
 
 -- ---- how many
 
@@ -48,38 +48,39 @@ pattern-few key value =
     )
 
 module _ (sheet : Sheet) (nested : Nested) (parents : List Scope) (keeps : KeepsFit sheet nested) (i : ℕ) (m : Mods) where
-  adds-non-var : (e : Tree) → Step sheet (bracketVars e) (λ s. processNonVar sheet nested parents i m s e)
+  pub adds-process-non-var : (e : Tree) → Step sheet (bracketVars e) (λ s. processNonVar sheet nested parents i m s e)
   unfolding processNonVar
-  adds-non-var e =
+  adds-process-non-var e =
       step-at-most sheet (bracketVars e)
-      (turn sheet (adds-used sheet i [] e
+      (turn sheet (adds-gather-used-vars sheet i [] e
       ⨾ (λ t. failed t (indexDefinitions sheet (t .scope) [] i e))
-      ⨾ adds-comprs sheet nested parents keeps (comprs e ++ m .comprs)
+      ⨾ adds-process-comprs sheet nested parents keeps (comprs e ++ m .comprs)
       ⨾ end)) (omega arith)
     where
       failed : (t : State) (defs : List Definition) → Adds sheet 0 t (failIfSome defs t)
       failed t [] = adds-none sheet t
       failed t (d ∷ defs) = adds-fail sheet indexVariable t
 
-  adds-names : (names : List Row) (collection : Tree)
+  pub adds-some-vars : (names : List Row) (collection : Tree)
       → Step sheet (length names) (λ t. addDefinitions (map (λ (w : Row). define i (w .name) (allUsed sheet [] m collection t)) names) t)
-  adds-names names collection t =
+  adds-some-vars names collection t =
       adds-at-most sheet (length names)
       (adds-definitions sheet (map (λ (w : Row). define i (w .name) (allUsed sheet [] m collection t)) names) t)
       (omega (arith, length-map names (λ (w : Row). define i (w .name) (allUsed sheet [] m collection t))))
 
-  pub adds-some-in : (key value collection : Tree) (s : State) → AddsFor sheet i (size key + (size value + size collection)) s
+  -- The variables of the pattern, what all its brackets and the collection's define, and one definition.
+  pub adds-process-some-in : (key value collection : Tree) (s : State) → AddsFor sheet i (size key + (size value + size collection)) s
       (processSomeIn sheet nested parents i m (leaves key ++ leaves value) collection s)
   unfolding processSomeIn
-  adds-some-in key value collection s =
+  adds-process-some-in key value collection s =
       let names = someVarsIn sheet (s .scope) (leaves key ++ leaves value) in
       let others = nonVars sheet (s .scope) (leaves key ++ leaves value) in
       let later : Mods = record { usedVars = []; comprs = m .comprs } in
       for-at-most sheet i (size key + (size value + size collection))
-      (turn-for sheet i (adds-expr sheet nested parents keeps i [] m collection
-      ⨟ adds-names names collection
+      (turn-for sheet i (adds-use-expr sheet nested parents keeps i [] m collection
+      ⨟ adds-some-vars names collection
       ⨟ adds-first-uses sheet (map spanOf names)
-      ⨟ turn-fold sheet bracketVars (processNonVar sheet nested parents i m) adds-non-var others
+      ⨟ turn-fold sheet bracketVars (processNonVar sheet nested parents i m) adds-process-non-var others
       ⨟ lastly (λ t. for-one sheet i 0 (concatMap (λ e. allUsed sheet [] later e t) others) t)) s)
       (omega (
         arith,

@@ -19,11 +19,13 @@ unfoldable pub sumTo : (ℕ → ℕ) → ℕ → ℕ
 sumTo g zero = 0
 sumTo g (suc n) = sumTo g n + g (suc n)
 
+-- More at each row is more.
 pub sum-mono : (g h : ℕ → ℕ) (n : ℕ) → ((r : ℕ) → 1 ≤ r → r ≤ n → g r ≤ h r) → sumTo g n ≤ sumTo h n
 unfolding sumTo
 sum-mono g h zero l = omega arith
 sum-mono g h (suc n) l = omega (arith, sum-mono g h n (λ r a b. l r a (omega arith)), l (suc n) (omega arith) (omega arith))
 
+-- Sums add up.
 pub sum-add : (g h : ℕ → ℕ) (n : ℕ) → sumTo (λ r. g r + h r) n ≡ sumTo g n + sumTo h n
 unfolding sumTo
 sum-add g h zero = omega arith
@@ -35,6 +37,7 @@ unfolding sumTo
 sum-suc g zero = omega arith
 sum-suc g (suc n) = omega (arith, sum-suc g n)
 
+-- One row is no more than all.
 pub sum-at : (g : ℕ → ℕ) (n r : ℕ) → 1 ≤ r → r ≤ n → g r ≤ sumTo g n
 unfolding sumTo
 sum-at g zero r a b = absurd (omega arith)
@@ -51,6 +54,7 @@ unfoldable pub valued : ℕ → (ℕ → ℕ) → ℕ → ℕ → ℕ
 valued b g zero k = 0
 valued b g (suc n) k = valued b g n k + cond (eqb k (b + suc n)) (g (suc n)) 0
 
+-- A row of the section has its value.
 pub valued-at : (b : ℕ) (g : ℕ → ℕ) (n r : ℕ) → 1 ≤ r → r ≤ n → g r ≤ valued b g n (b + r)
 unfolding valued
 valued-at b g zero r l h = absurd (omega arith)

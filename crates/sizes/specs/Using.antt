@@ -14,7 +14,7 @@ use Rattle.uses.specs.Uses.{define, nameOf, assignedVars, indexVars, readsInput
 use Rattle.analysis.specs.Using.{undefinedAt, gatherUsedVars, usedBeforeAt, checkFirstUse, checkAssigned, recordOne, recordEach}
 use Rattle.sizes.specs.Lists.{length-filter, length-concatMap, total-mono}
 use Rattle.sizes.specs.Leaves.{patternVars, indexCount, bracketVars}
-use Rattle.sizes.specs.Adds.{Step, adds-none, step-at-most, end, _⨾_, turn, turn-fold-none, adds-scope, adds-first-uses, adds-definitions, adds-fail-or}
+use Rattle.sizes.specs.Adds.{Step, adds-none, step-at-most, end, _⨾_, turn, turn-fold-none, adds-set-scope, adds-first-uses, adds-definitions, adds-fail-or}
 
 -- ---- how many names
 
@@ -51,39 +51,41 @@ module _ (sheet : Sheet) (sc : Scope) (extras : List ℕ) (i : ℕ) where
 module _ (sheet : Sheet) where
   -- ---- uses
 
-  pub adds-used : (i : ℕ) (extras : List ℕ) (t : Tree) → Step sheet (bracketVars t) (gatherUsedVars sheet i extras t)
+  -- An expression adds what its brackets define.
+  pub adds-gather-used-vars : (i : ℕ) (extras : List ℕ) (t : Tree) → Step sheet (bracketVars t) (gatherUsedVars sheet i extras t)
   unfolding gatherUsedVars
-  adds-used i extras t s =
+  adds-gather-used-vars i extras t s =
       adds-fail-or sheet (undefinedAt (undefinedVar sheet (s .scope) t)) _
       (step-at-most sheet (bracketVars t)
-      (turn sheet ((λ u. adds-scope sheet (useInput (readsInput sheet t) (u .scope)) u)
+      (turn sheet ((λ u. adds-set-scope sheet (useInput (readsInput sheet t) (u .scope)) u)
       ⨾ adds-first-uses sheet (map spanOf (variablesUsed sheet (s .scope) extras t))
       ⨾ adds-definitions sheet (indexDefinitions sheet (s .scope) extras i t)
       ⨾ end))
       (omega (arith, index-few sheet (s .scope) extras i t))) s
 
-  -- ---- first uses
+  -- ---- first uses: nothing is added
 
-  pub adds-check : (w : Row) → Step sheet 0 (λ s. checkFirstUse s w)
+  pub adds-check-first-use : (w : Row) → Step sheet 0 (λ s. checkFirstUse s w)
   unfolding checkFirstUse
-  adds-check w s =
+  adds-check-first-use w s =
       turn sheet (adds-fail-or sheet (usedBeforeAt (spanIn (s .firstUses) (w .name)) w) (λ t. t) (adds-none sheet) ⨾ end) s
 
   pub adds-check-assigned : (check : Bool) (t : Tree) → Step sheet 0 (checkAssigned check t)
   unfolding checkAssigned
-  adds-check-assigned true t s = turn-fold-none sheet checkFirstUse adds-check (filter (λ w. isLocal (s .scope) (w .name)) (vars (leaves t))) s
+  adds-check-assigned true t s =
+      turn-fold-none sheet checkFirstUse adds-check-first-use (filter (λ w. isLocal (s .scope) (w .name)) (vars (leaves t))) s
   adds-check-assigned false t s = adds-none sheet s
 
   -- ---- definitions
 
-  pub adds-one : (i x : ℕ) (used : List ℕ) → Step sheet 1 (recordOne i x used)
+  pub adds-record-one : (i x : ℕ) (used : List ℕ) → Step sheet 1 (recordOne i x used)
   unfolding recordOne
-  adds-one i x used = adds-definitions sheet (define i x used ∷ [])
+  adds-record-one i x used = adds-definitions sheet (define i x used ∷ [])
 
   -- A definition for each name, or one.
-  pub adds-each : (i : ℕ) (names : List ℕ) (used : ℕ → List ℕ) → Step sheet (max 1 (length names)) (recordEach i names used)
+  pub adds-record-each : (i : ℕ) (names : List ℕ) (used : ℕ → List ℕ) → Step sheet (max 1 (length names)) (recordEach i names used)
   unfolding recordEach
-  adds-each i [] used = adds-one i 0 (used 0)
-  adds-each i (x ∷ names) used =
+  adds-record-each i [] used = adds-record-one i 0 (used 0)
+  adds-record-each i (x ∷ names) used =
       step-at-most sheet (max 1 (suc (length names))) (adds-definitions sheet (map (λ y. define i y (used y)) (x ∷ names)))
       (omega (arith, length-map names (λ y. define i y (used y))))
