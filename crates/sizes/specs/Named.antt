@@ -1,0 +1,178 @@
+-- In an accepted sheet, what a row names is worth what its parts are.
+use mathlib.Core.Path.{_≡_, refl, ap, _∙_, subst}
+use mathlib.Core.Bool.{Bool, true, false, cond}
+use mathlib.Core.List.{List, List·Memᴰ, List·Memᴰ·head, List·Memᴰ·tail}
+use mathlib.Core.Logic.{_⊎_, inl, inr}
+use Prim.Native.Nat.{ℕ, _/_, _≤_, _<_}
+use native.Mathlib.Omega.{arith}
+use borrow.Author.Tests.{le-leb, lt-ltb}
+use Rattle.basics.specs.Truth.{not-both, lt-cases}
+use Rattle.records.specs.declared.Counts.{Counts}
+use Rattle.records.specs.Layout.{exprAt, statementAt, firstAt}
+use Rattle.spelling.specs.declared.Special.{Special}
+use Rattle.fields.specs.declared.Field.{Field}
+use Rattle.fields.specs.Fields.{expressions, statements, fieldFrom, first, second, third, chainOrNone, statementOrNone, kindFields, formFields, limitOf}
+use Rattle.naming.specs.Entries.{Entry, queryRow, statementRow, exprRow, rowIn, target, nextField, exprEntry, statementEntry, exprEntries, statementEntries, queryEntries}
+use Rattle.naming.specs.Namings.{entryNaming}
+use Rattle.naming.specs.Faults.{isMember}
+use Rattle.naming.specs.Origins.{targetOf}
+use Rattle.accepted.specs.Accepted.{Accepted}
+use Rattle.accepted.specs.Rows.{fine-expr-row, fine-statement-row, fine-query-row}
+use Rattle.sizes.specs.Sums.{valued, valued-at, worth}
+use Rattle.sizes.specs.Worth.{rowWorth, entry-worth, queryWorth, statementWorth, exprWorth}
+use Rattle.sizes.specs.Listed.{comprKind, kind-holds, form-holds}
+use Rattle.sizes.specs.Rows.{sizeAt, size-none, partsAt, weightFrom, weight-none, wholesAt}
+
+module _ (c : Counts) (k : ℕ) where
+  -- The row that a field in range names.
+  target-row : (e : Entry) → 1 ≤ e .value → e .value ≤ limitOf c (e .field .section) → targetOf c e ≡ rowIn (e .field .section) (e .value)
+  unfolding target
+  target-row e a b = rw (lt-ltb 0 (e .value) a, le-leb (e .value) (limitOf c (e .field .section)) b)
+
+  module _ (g : ℕ → ℕ) (none : g 0 ≡ 0) (e : Entry) (within : e .value ≤ limitOf c (e .field .section)) where
+    -- A field that holds an expression, or nothing.
+    expr-field : (e .field .section ≡ expressions) ⊎ (e .field .section ≡ 0)
+        → g (e .value) ≤ worth (valued 160 g (c .exprs)) (entryNaming c k e)
+    expr-field s = go s (lt-cases 0 (e .value))
+      where
+        go : (e .field .section ≡ expressions) ⊎ (e .field .section ≡ 0) → (0 < e .value) ⊎ (e .value ≤ 0)
+            → g (e .value) ≤ worth (valued 160 g (c .exprs)) (entryNaming c k e)
+        go h (inr l) = let z : e .value ≡ 0 = omega arith in omega (arith, none, ap g z)
+        go (inr h) (inl l) = let z : e .value ≤ 0 = subst (λ (i : ℕ). e .value ≤ limitOf c i) h within in absurd (omega arith)
+        go (inl h) (inl l) =
+            let high : e .value ≤ c .exprs = subst (λ (i : ℕ). e .value ≤ limitOf c i) h within in
+            let to : targetOf c e ≡ exprRow (e .value) = target-row e l within ∙ ap (λ (i : ℕ). rowIn i (e .value)) h in
+            omega (
+              arith,
+              entry-worth c (valued 160 g (c .exprs)) k e (exprRow (e .value)) to (omega arith),
+              valued-at 160 g (c .exprs) (e .value) l high,
+            )
+
+    -- A field that holds a statement.
+    statement-field : e .field .section ≡ statements → g (e .value) ≤ worth (valued 32 g (c .statements)) (entryNaming c k e)
+    statement-field h = go (lt-cases 0 (e .value))
+      where
+        go : (0 < e .value) ⊎ (e .value ≤ 0) → g (e .value) ≤ worth (valued 32 g (c .statements)) (entryNaming c k e)
+        go (inr l) = let z : e .value ≡ 0 = omega arith in omega (arith, none, ap g z)
+        go (inl l) =
+            let high : e .value ≤ c .statements = subst (λ (i : ℕ). e .value ≤ limitOf c i) h within in
+            let to : targetOf c e ≡ statementRow (e .value) = target-row e l within ∙ ap (λ (i : ℕ). rowIn i (e .value)) h in
+            omega (
+              arith,
+              entry-worth c (valued 32 g (c .statements)) k e (statementRow (e .value)) to (omega arith),
+              valued-at 32 g (c .statements) (e .value) l high,
+            )
+
+next-holds : (b : Bool) → (nextField b .section ≡ expressions) ⊎ (nextField b .section ≡ 0)
+unfolding fieldFrom
+next-holds true = inl refl
+next-holds false = inr refl
+
+with-holds : fieldFrom chainOrNone .section ≡ expressions
+unfolding fieldFrom
+with-holds = refl
+
+statement-holds : fieldFrom statementOrNone .section ≡ statements
+unfolding fieldFrom
+statement-holds = refl
+
+module _ (c : Counts) (x : Special) (t : List ℕ) where
+  -- Each expression is worth the size of its tree, and each statement the weight from it on.
+  unfoldable pub exprValue : ℕ → ℕ
+  exprValue = valued 160 (sizeAt c x t) (c .exprs)
+
+  unfoldable pub statementValue : ℕ → ℕ
+  statementValue = valued 32 (weightFrom c x t) (c .statements)
+
+  module _ (ok : Accepted c t) where
+    -- ---- the fields of an expression
+
+    module _ (r : ℕ) (low : 1 ≤ r) (high : r ≤ c .exprs) where
+      expr-part : (f : Field) (v : ℕ) → List·Memᴰ (exprEntry c t r f v) (exprEntries c t (isMember c t r) r)
+          → (f .section ≡ expressions) ⊎ (f .section ≡ 0)
+          → sizeAt c x t v ≤ worth exprValue (entryNaming c (exprRow r) (exprEntry c t r f v))
+      unfolding exprValue
+      expr-part f v m h =
+          expr-field c (exprRow r) (sizeAt c x t) (size-none c x t) (exprEntry c t r f v)
+          (fine-expr-row c t r (ok .fine-expr r low high) .fields m .in-range) h
+
+      -- The third is an expression where the row is no comprehension.
+      third-part : (f : Field) (v : ℕ) → List·Memᴰ (exprEntry c t r f v) (exprEntries c t (isMember c t r) r) → (compr : Bool)
+          → (compr ≡ true) ⊎ ((f .section ≡ expressions) ⊎ (f .section ≡ 0))
+          → sizeAt c x t (cond compr 0 v) ≤ worth exprValue (entryNaming c (exprRow r) (exprEntry c t r f v))
+      third-part f v m true h = omega (arith, size-none c x t)
+      third-part f v m false (inl p) = absurd (not-both p refl)
+      third-part f v m false (inr h) = expr-part f v m h
+
+      -- What an expression names is worth at least its parts.
+      pub expr-worth : partsAt c x t r ≤ exprWorth c exprValue t r
+      unfolding partsAt exprWorth rowWorth exprEntries
+      expr-worth =
+          let e = exprAt t r in
+          let fs = kindFields (e .kind) in
+          let holds = kind-holds (e .kind) (fine-expr-row c t r (ok .fine-expr r low high) .kind-high) in
+          omega (
+            arith,
+            expr-part (fieldFrom (fs / first)) (e .first) (List·Memᴰ·tail (List·Memᴰ·head refl)) (holds .in-first),
+            expr-part (fieldFrom (fs / second)) (e .second) (List·Memᴰ·tail (List·Memᴰ·tail (List·Memᴰ·head refl))) (holds .in-second),
+            third-part (fieldFrom (fs / third)) (e .third) (List·Memᴰ·tail (List·Memᴰ·tail (List·Memᴰ·tail (List·Memᴰ·head refl))))
+                (comprKind (e .kind)) (holds .in-third),
+            expr-part (nextField (isMember c t r)) (e .next)
+                (List·Memᴰ·tail (List·Memᴰ·tail (List·Memᴰ·tail (List·Memᴰ·tail (List·Memᴰ·head refl))))) (next-holds (isMember c t r)),
+          )
+
+    -- ---- the fields of a statement
+
+    module _ (s : ℕ) (low : 1 ≤ s) (high : s ≤ c .statements) where
+      whole-part : (f : Field) (v : ℕ) → List·Memᴰ (statementEntry c t s f v) (statementEntries c t s)
+          → (f .section ≡ expressions) ⊎ (f .section ≡ 0)
+          → sizeAt c x t v ≤ worth exprValue (entryNaming c (statementRow s) (statementEntry c t s f v))
+      unfolding exprValue
+      whole-part f v m h =
+          expr-field c (statementRow s) (sizeAt c x t) (size-none c x t) (statementEntry c t s f v)
+          (fine-statement-row c t s (ok .fine-statement s low high) .fields m .in-range) h
+
+      -- So is what a statement names of the expressions.
+      pub statement-worth : wholesAt c x t s ≤ statementWorth c exprValue t s
+      unfolding wholesAt statementWorth rowWorth statementEntries
+      statement-worth =
+          let st = statementAt t s in
+          let fs = formFields (st .form) in
+          let holds = form-holds (st .form) (fine-statement-row c t s (ok .fine-statement s low high) .form-high) in
+          omega (
+            arith,
+            whole-part (fieldFrom (fs / first)) (st .first) (List·Memᴰ·tail (List·Memᴰ·head refl)) (holds .in-first),
+            whole-part (fieldFrom (fs / second)) (st .second) (List·Memᴰ·tail (List·Memᴰ·tail (List·Memᴰ·head refl))) (holds .in-second),
+            whole-part (fieldFrom (fs / third)) (st .third) (List·Memᴰ·tail (List·Memᴰ·tail (List·Memᴰ·tail (List·Memᴰ·head refl)))) (holds .in-third),
+            whole-part (fieldFrom chainOrNone) (st .with)
+                (List·Memᴰ·tail (List·Memᴰ·tail (List·Memᴰ·tail (List·Memᴰ·tail (List·Memᴰ·head refl))))) (inl with-holds),
+          )
+
+      next-part : (f : Field) (v : ℕ) → List·Memᴰ (statementEntry c t s f v) (statementEntries c t s) → f .section ≡ statements
+          → weightFrom c x t v ≤ worth statementValue (entryNaming c (statementRow s) (statementEntry c t s f v))
+      unfolding statementValue
+      next-part f v m h =
+          statement-field c (statementRow s) (weightFrom c x t) (weight-none c x t) (statementEntry c t s f v)
+          (fine-statement-row c t s (ok .fine-statement s low high) .fields m .in-range) h
+
+      -- And of the statements.
+      pub next-worth : weightFrom c x t (statementAt t s .next) ≤ statementWorth c statementValue t s
+      unfolding statementWorth rowWorth statementEntries
+      next-worth =
+          omega (
+            arith,
+            next-part (fieldFrom statementOrNone) (statementAt t s .next)
+                (List·Memᴰ·tail (List·Memᴰ·tail (List·Memᴰ·tail (List·Memᴰ·tail (List·Memᴰ·tail (List·Memᴰ·head refl)))))) statement-holds,
+          )
+
+    -- ---- the field of a query
+
+    pub query-worth : (q : ℕ) → 1 ≤ q → q ≤ c .queries → weightFrom c x t (firstAt t q) ≤ queryWorth c statementValue t q
+    unfolding queryWorth rowWorth queryEntries statementValue
+    query-worth q low high =
+        let e : Entry = record { field = fieldFrom statementOrNone; value = firstAt t q; place = queryRow q } in
+        omega (
+          arith,
+          statement-field c (queryRow q) (weightFrom c x t) (weight-none c x t) e
+              (fine-query-row c t q (ok .fine-query q low high) .fields {e = e} (List·Memᴰ·head refl) .in-range) statement-holds,
+        )

@@ -1,0 +1,107 @@
+-- A statement adds at most what it weighs, and at least one definition.
+use mathlib.Core.Path.{_≡_, refl, subst}
+use mathlib.Core.List.{List, [], _∷_, _++_, foldl, List·Memᴰ, List·Memᴰ·not-nil}
+use mathlib.Core.Logic.{inl, inr}
+use Prim.Native.Nat.{ℕ, suc, _+_}
+use native.Mathlib.Omega.{arith}
+use Rattle.turns.specs.Definitions.{Definition, ofStatement}
+use Rattle.turns.specs.Statements.{mem-statement}
+use Rattle.trees.specs.Sheet.{Sheet}
+use Rattle.trees.specs.Trees.{Tree, chain}
+use Rattle.trees.specs.Traverse.{vars}
+use Rattle.trees.specs.Statements.{Literal, someVars, someIn, expr, notExpr, every, Stmt}
+use Rattle.scopes.specs.Scopes.{Scope, noScope, addLocal}
+use Rattle.analysis.specs.States.{Fault, sound, undefined, usedBefore, lengths, indexVariable, State, ifSound, inTurn}
+use Rattle.analysis.specs.Using.{gatherUsedVars, checkFirstUse, unlessSome, atLeastOne}
+use Rattle.analysis.specs.Comprs.{Nested, Mods}
+use Rattle.analysis.specs.Exprs.{processPlainExpr}
+use Rattle.analysis.specs.Statements.{modsOf, processEvery, processLiteral, processStmt, processStmts}
+use Rattle.sizes.specs.Sizes.{total, size, literalSize, weight}
+use Rattle.sizes.specs.Lists.{total-mono}
+use Rattle.sizes.specs.Leaves.{bracketVars, brackets-fit}
+use Rattle.sizes.specs.Adds.{Recorded, Adds, Step, adds-none, adds-then, adds-at-most, step-at-most, step-if, end, _⨾_, turn, turn-fold, turn-fold-none, adds-set-run}
+use Rattle.sizes.specs.Using.{adds-gather-used-vars, adds-check-first-use, adds-record-one}
+use Rattle.sizes.specs.Recording.{AddsFor, for-at-most, for-after, for-if}
+use Rattle.sizes.specs.Comprs.{KeepsFit}
+use Rattle.sizes.specs.Exprs.{adds-process-plain-expr, adds-process-expr, adds-process-call}
+use Rattle.sizes.specs.SomeIn.{adds-process-some-in}
+
+-- A statement with a definition is not without.
+recorded-some : (j : ℕ) (defs : List Definition) → Recorded j defs → ofStatement j defs ≡ [] → ⊥
+recorded-some j defs r e =
+    List·Memᴰ·not-nil (subst (λ (l : List Definition). List·Memᴰ (r .one) l) e (mem-statement j defs (r .listed) (r .statement)))
+
+module _ (sheet : Sheet) (i : ℕ) where
+  -- The definition of a statement that recorded none is the one beyond what its expressions make.
+  adds-least : {n : ℕ} {s t : State} → AddsFor sheet i n s t → (l : List Definition) → ofStatement i (t .definitions) ≡ l
+      → Adds sheet (suc n) s (unlessSome l i t)
+  adds-least {n} {s} {t} (inl a) [] e = adds-at-most sheet (suc n) (adds-then sheet a (adds-record-one sheet i 0 [] t)) (omega arith)
+  adds-least {n} (inl a) (d ∷ l) e = adds-at-most sheet (suc n) a (omega arith)
+  adds-least {n} {s} {t} (inr a) [] e = absurd (recorded-some i (t .definitions) (a .1) e)
+  adds-least (inr a) (d ∷ l) e = a .0
+
+  adds-for : {n : ℕ} {s t : State} → AddsFor sheet i n s t → Adds sheet (suc n) s t
+  adds-for {n} (inl a) = adds-at-most sheet (suc n) a (omega arith)
+  adds-for (inr a) = a .0
+
+  adds-at-least-one : {n : ℕ} {s t : State} → AddsFor sheet i n s t → (x : Fault) → Adds sheet (suc n) s (ifSound x (atLeastOne i) t)
+  unfolding atLeastOne
+  adds-at-least-one {n} {s} {t} a sound = adds-least a (ofStatement i (t .definitions)) refl
+  adds-at-least-one a (undefined l c) = adds-for a
+  adds-at-least-one a (usedBefore l c) = adds-for a
+  adds-at-least-one a (lengths l c) = adds-for a
+  adds-at-least-one a indexVariable = adds-for a
+
+module _ (sheet : Sheet) (nested : Nested) (parents : List Scope) (keeps : KeepsFit sheet nested) where
+  pub adds-process-every : (i : ℕ) (m : Mods) (key value domain : Tree) (query : ℕ) (s : State)
+      → AddsFor sheet i (size key + (size value + size domain)) s (processEvery sheet nested parents i m key value domain query s)
+  unfolding processEvery
+  adds-process-every i m key value domain query s =
+      for-at-most sheet i (size key + (size value + size domain))
+      (for-after sheet i
+      (for-if sheet i (processPlainExpr sheet nested parents i m domain) s
+      (adds-process-plain-expr sheet nested parents keeps i m domain s) (s .run .fault))
+      (turn sheet ((λ t. adds-set-run sheet t _
+      (keeps (foldl addLocal noScope (vars (chain key ++ chain value)) ∷ (t .scope ∷ parents)) query [] (t .run))) ⨾ end)
+      (ifSound (s .run .fault) (processPlainExpr sheet nested parents i m domain) s)))
+      (omega arith)
+
+  -- A literal adds at most as many as its expressions, or one more, which is then the statement's.
+  pub adds-process-literal : (i : ℕ) (m : Mods) (l : Literal) (s : State)
+      → AddsFor sheet i (literalSize l) s (processLiteral sheet nested parents i m l s)
+  unfolding processLiteral
+  adds-process-literal i m (someVars vs) s =
+      inl (adds-at-most sheet (size vs) (turn-fold-none sheet checkFirstUse (adds-check-first-use sheet) (vars (chain vs)) s) (omega arith))
+  adds-process-literal i m (someIn key value collection) s = adds-process-some-in sheet nested parents keeps i m key value collection s
+  adds-process-literal i m (expr e) s = adds-process-call sheet nested parents keeps i m e s
+  adds-process-literal i m (notExpr e) s = adds-process-expr sheet nested parents keeps i m e s
+  adds-process-literal i m (every key value domain query) s = adds-process-every i m key value domain query s
+
+  pub adds-with-mods : (i : ℕ) (mods : List Tree)
+      → Step sheet (total size mods) (λ t. foldl (λ u e. inTurn (gatherUsedVars sheet i [] e ∷ []) u) t mods)
+  adds-with-mods i mods =
+      step-at-most sheet (total size mods)
+      (turn-fold sheet bracketVars (λ u e. inTurn (gatherUsedVars sheet i [] e ∷ []) u)
+      (λ e. step-at-most sheet (bracketVars e) (turn sheet (adds-gather-used-vars sheet i [] e ⨾ end)) (omega arith)) mods)
+      (total-mono bracketVars size brackets-fit mods)
+
+  -- A statement adds at most what it weighs.
+  pub adds-process-stmt : (i : ℕ) (st : Stmt) → Step sheet (weight st) (processStmt sheet nested parents i st)
+  unfolding processStmt weight
+  adds-process-stmt i st s =
+      let mods : State → State = λ t. foldl (λ u e. inTurn (gatherUsedVars sheet i [] e ∷ []) u) t (st .withMods) in
+      let literal : State → State = λ t. processLiteral sheet nested parents i (modsOf sheet (t .scope) (st .withMods)) (st .literal) t in
+      let a = step-if sheet mods (adds-with-mods i (st .withMods)) (s .run .fault) s in
+      let t = ifSound (s .run .fault) mods s in
+      let b = for-if sheet i literal t (adds-process-literal i (modsOf sheet (t .scope) (st .withMods)) (st .literal) t) (t .run .fault) in
+      let u = ifSound (t .run .fault) literal t in
+      adds-at-most sheet (suc (literalSize (st .literal) + total size (st .withMods)))
+      (adds-then sheet a (adds-at-least-one sheet i b (u .run .fault))) (omega arith)
+
+  -- Statements add at most what they weigh, wherever a fault stops them.
+  pub adds-process-stmts : (stmts : List Stmt) (i : ℕ) → Step sheet (total weight stmts) (processStmts sheet nested parents i stmts)
+  unfolding processStmts
+  adds-process-stmts [] i s = adds-none sheet s
+  adds-process-stmts (st ∷ stmts) i s =
+      adds-then sheet (step-if sheet (processStmt sheet nested parents i st) (adds-process-stmt i st) (s .run .fault) s)
+      (adds-process-stmts stmts (suc i) (inTurn (processStmt sheet nested parents i st ∷ []) s))
