@@ -31,6 +31,20 @@ uint64_t nokchbem_schedule(const uint64_t *definitions, size_t definitions_len, 
                            uint16_t *order, size_t order_len, uint16_t *reached,
                            size_t reached_len);
 
+/* A definition as a record: a statement, the name that it defines, and the set of names that it
+ * uses, each as in a row of four words. */
+struct nokchbem_definition {
+    uint16_t statement;
+    uint16_t name;
+    uint64_t used[2];
+};
+
+/* As nokchbem_schedule, but the definitions are records: returns and leaves what that does for
+ * their rows. More than 640 records are refused with number 8. */
+uint64_t nokchbem_schedule_records(const struct nokchbem_definition *records, size_t records_len,
+                                   size_t statements, uint16_t *order, size_t order_len,
+                                   uint16_t *reached, size_t reached_len);
+
 /* The entries that `tables` and `work` have at least. */
 #define NOKCHBEM_TABLES_LENGTH 8192
 #define NOKCHBEM_WORK_LENGTH 8192

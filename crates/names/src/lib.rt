@@ -17,7 +17,8 @@ pub const WORDS: usize = 2;
 // How many names there are.
 pub const CAPACITY: usize = 64 * WORDS;
 
-// The name n is bit n % 64 of word n / 64.
+// The name n is bit n % 64 of word n / 64. Laid out for C: it is part of what an exported call takes.
+#[repr(C)]
 pub struct Names {
     pub words: [u64; WORDS],
 }

@@ -4,6 +4,8 @@ use mathlib.Core.List.{List}
 use Prim.Native.Nat.{ℕ}
 use lib.ListN.{replicate}
 use Rattle.schedule.specs.Call.{refusal, number, result, orderBuffer, reachedBuffer}
+use Rattle.definitions.specs.declared.Definition.{Definition}
+use Rattle.definitions.specs.Rows.{rowsOf}
 use Rattle.sheet.specs.declared.Outcome.{Outcome}
 use Rattle.sheet.specs.Verdict as Verdict
 use Rattle.sheet.specs.Verdict.{verdict, leftTables}
@@ -13,6 +15,10 @@ pub record ScheduleCall (definitions : List ℕ) (statements room marks r : ℕ)
   pub returned : r ≡ number (result definitions statements room marks)
   pub ordered : orderAfter ≡ orderBuffer definitions statements room marks
   pub marked : reachedAfter ≡ reachedBuffer definitions statements room marks
+
+-- `nokchbem_schedule_records`: the same, of the rows that the records are.
+abbrev pub RecordsCall : List Definition → ℕ → ℕ → ℕ → ℕ → List ℕ → List ℕ → Type 0
+RecordsCall records statements room marks r orderAfter reachedAfter = ScheduleCall (rowsOf records) statements room marks r orderAfter reachedAfter
 
 -- An outcome of the reader as one number: 0 where the sheet is read.
 abbrev pub readNumber : Outcome → ℕ

@@ -1,10 +1,15 @@
 // The exported calls, with C linkage. A slice passes as a pointer and a length.
 
+use definitions::Definition;
+use rows::DEFINITIONS;
 ghost use mathlib.Core.Path.{_≡_};
+ghost use mathlib.Core.List.{List};
 ghost use Prim.Native.Nat.{_≤_};
 ghost use lib.ListN.{length};
 ghost use Rattle.schedule.specs.Call.{refusal};
-ghost use Rattle.nokchbem.specs.Calls.{ScheduleCall, ReadCall};
+ghost use Rattle.definitions.specs.declared.Definition.{Definition};
+ghost use Rattle.definitions.specs.Copies.{CopyOf};
+ghost use Rattle.nokchbem.specs.Calls.{ScheduleCall, RecordsCall, ReadCall};
 
 // A refusal and its position as one number.
 fn pack(number: u64, line: usize, col: usize) -> u64
@@ -29,6 +34,38 @@ pub extern "C" fn nokchbem_schedule(
     ensures { λ r. ⌜ ScheduleCall (now (definitions .entry)) statements (length (now (order .entry))) (length (now (reached .entry))) r (now (order .exit)) (now (reached .exit)) ⌝ }
 {
     schedule::number_of(schedule::schedule(definitions, statements, order, reached))
+}
+
+// The call below, over a copy of its records.
+fn schedule_copy(
+    all: [Definition; DEFINITIONS],
+    len: usize,
+    statements: usize,
+    order: &mut [u16],
+    reached: &mut [u16],
+) -> u64
+    ensures { λ r. ⌜ ((records : List Definition) → length records ≡ len → CopyOf all records → RecordsCall records statements (length (now (order .entry))) (length (now (reached .entry))) r (now (order .exit)) (now (reached .exit))) ⌝ }
+{
+    schedule::number_of(definitions::schedule_copy(all, len, statements, order, reached))
+}
+
+// The same as `nokchbem_schedule`, of definitions that are records. More than 640 of them are refused as more than 640 rows are.
+#[no_mangle]
+pub extern "C" fn nokchbem_schedule_records(
+    records: &[Definition],
+    statements: usize,
+    order: &mut [u16],
+    reached: &mut [u16],
+) -> u64
+    ensures { λ r. ⌜ RecordsCall (now (records .entry)) statements (length (now (order .entry))) (length (now (reached .entry))) r (now (order .exit)) (now (reached .exit)) ⌝ }
+{
+    schedule_copy(
+        definitions::copied(records),
+        records.len(),
+        statements,
+        order,
+        reached,
+    )
 }
 
 // Reads a sheet, and answers whether it passes questions 1 to 6.

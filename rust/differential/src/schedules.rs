@@ -1,20 +1,56 @@
-//! The proved scheduler and the original's `schedule` on the same lists.
+//! The proved scheduler, by both of its calls, and the original's `schedule` on the same lists.
 
+use nokchbem::{Definition, Refusal};
 use oracle::NotAtHand;
-use sheets::lists::{List, Scheduled};
+use sheets::lists::{List, Scheduled, ROW};
 use sheets::rng::Rng;
 
 /// What a buffer holds before a call: a contract says what it holds after, whatever stood there.
 const JUNK: u16 = 0xABCD;
 
-/// The proved scheduler's answer, from buffers that are longer than needed and full of junk.
+/// The rows as records: none where they are not whole, or where a statement or a name is more than a
+/// record holds.
+pub fn records(rows: &[u64]) -> Option<Vec<Definition>> {
+    let record = |row: &[u64]| match *row {
+        [statement, name, low, high] => Some(Definition {
+            statement: statement.try_into().ok()?,
+            name: name.try_into().ok()?,
+            used: [low, high],
+        }),
+        _ => None,
+    };
+    rows.chunks(ROW).map(record).collect()
+}
+
+/// The flat call, and the call over records wherever the rows can be records.
 ///
 /// # Panics
-/// Where it refuses the list, or leaves something but zeros after the last entry.
+/// Where the two do not return and leave the same.
+pub fn both_calls(
+    rows: &[u64],
+    statements: usize,
+    order: &mut [u16],
+    reached: &mut [u16],
+) -> Result<bool, Refusal> {
+    let (mut other_order, mut other_reached) = (order.to_vec(), reached.to_vec());
+    let result = nokchbem::schedule(rows, statements, order, reached);
+    if let Some(records) = records(rows) {
+        let other =
+            nokchbem::schedule_records(&records, statements, &mut other_order, &mut other_reached);
+        let equal = other == result && other_order == order && other_reached == reached;
+        assert!(equal, "{other:?} is not {result:?}, or the buffers differ: {statements} statements, {records:?}");
+    }
+    result
+}
+
+/// The proved scheduler's answer, by both calls, from buffers that are longer than needed and full of junk.
+///
+/// # Panics
+/// Where the calls differ, refuse the list, or leave something but zeros after the last entry.
 pub fn schedule(list: &List) -> Scheduled {
     let count = usize::from(list.statements);
     let (mut order, mut reached) = (vec![JUNK; count + 3], vec![JUNK; count + 2]);
-    let placed = nokchbem::schedule(&list.rows(), count, &mut order, &mut reached)
+    let placed = both_calls(&list.rows(), count, &mut order, &mut reached)
         .unwrap_or_else(|refusal| panic!("{refusal}: {list:?}"));
     assert_eq!(order.split_off(count), [0; 3], "zeros after the order");
     assert_eq!(reached.split_off(count), [0; 2], "zeros after the marks");

@@ -1,7 +1,7 @@
 //! The exported scheduler: its examples, its refusals, equality with the original, and the
 //! statements on plain walks by execution.
 
-use differential::schedules::{compare_random, compare_small, schedule};
+use differential::schedules::{both_calls, compare_random, compare_small, records, schedule};
 use differential::walks::{relist, Walk};
 use nokchbem::Refusal;
 use sheets::examples;
@@ -45,7 +45,7 @@ fn random_lists_come_out_as_the_original_has_them() {
 /// Calls with buffers of these lengths, full of junk; a refusal must leave zeros.
 fn call(rows: &[u64], statements: usize, room: usize, marks: usize) -> Result<bool, Refusal> {
     let (mut order, mut reached) = (vec![7; room], vec![7; marks]);
-    let result = nokchbem::schedule(rows, statements, &mut order, &mut reached);
+    let result = both_calls(rows, statements, &mut order, &mut reached);
     if result.is_err() {
         assert!(order.iter().chain(&reached).all(|&entry| entry == 0));
     }
@@ -78,7 +78,15 @@ fn the_one_question_is_asked_at_its_edges() {
     assert_eq!(call(&full, 1, 1, 1), Ok(true), "640 definitions");
     let over = row(0, 0).repeat(641);
     assert_eq!(call(&over, 1, 1, 1), REFUSED, "641 definitions");
+    let many = row(0, 0).repeat(100_000);
+    assert_eq!(call(&many, 1, 1, 1), REFUSED, "any number of them");
     assert_eq!(call(&full[..2559], 1, 1, 1), REFUSED, "639 and a part");
+    let name = u64::from(u16::MAX);
+    assert_eq!(
+        call(&row(0, name), 1, 1, 1),
+        REFUSED,
+        "a record's last name"
+    );
 }
 
 #[test]
@@ -97,14 +105,22 @@ fn the_longest_rounds_are_placed() {
 
 #[test]
 fn a_small_stack_is_enough() {
-    let worst = List::longest_rounds(128, 5);
-    let thread = std::thread::Builder::new().stack_size(64 << 10);
-    let call = move || {
+    let rows = List::longest_rounds(128, 5).rows();
+    let records = records(&rows).expect("small numbers");
+    let flat = move || {
         let (mut order, mut reached) = ([0; 128], [0; 128]);
-        nokchbem::schedule(&worst.rows(), 128, &mut order, &mut reached)
+        nokchbem::schedule(&rows, 128, &mut order, &mut reached)
     };
-    let placed = thread.spawn(call).expect("a thread").join();
-    assert_eq!(placed.expect("no overflow"), Ok(true));
+    let over_records = move || {
+        let (mut order, mut reached) = ([0; 128], [0; 128]);
+        nokchbem::schedule_records(&records, 128, &mut order, &mut reached)
+    };
+    let stack = |kib: usize| std::thread::Builder::new().stack_size(kib << 10);
+    let calls = [stack(64).spawn(flat), stack(128).spawn(over_records)];
+    for call in calls {
+        let placed = call.expect("a thread").join();
+        assert_eq!(placed.expect("no overflow"), Ok(true));
+    }
 }
 
 #[test]

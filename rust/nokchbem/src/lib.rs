@@ -36,10 +36,30 @@ impl fmt::Display for Refusal {
 
 impl std::error::Error for Refusal {}
 
+/// A definition as a record: a statement, the name that it defines (0 is the empty one), and the set
+/// of names that it uses (name n is bit n % 64 of word n / 64).
+#[repr(C)]
+#[derive(Clone, Copy, Debug, Default, PartialEq, Eq)]
+pub struct Definition {
+    pub statement: u16,
+    pub name: u16,
+    pub used: [u64; 2],
+}
+
 extern "C" {
     fn nokchbem_schedule(
         definitions: *const u64,
         definitions_len: usize,
+        statements: usize,
+        order: *mut u16,
+        order_len: usize,
+        reached: *mut u16,
+        reached_len: usize,
+    ) -> u64;
+
+    fn nokchbem_schedule_records(
+        records: *const Definition,
+        records_len: usize,
         statements: usize,
         order: *mut u16,
         order_len: usize,
@@ -82,6 +102,34 @@ pub fn schedule(
             reached.len(),
         )
     };
+    placed(result)
+}
+
+/// As [`schedule`], but the definitions are records: answers and leaves what that does for their
+/// rows.
+pub fn schedule_records(
+    records: &[Definition],
+    statements: usize,
+    order: &mut [u16],
+    reached: &mut [u16],
+) -> Result<bool, Refusal> {
+    // SAFETY: as in `schedule`; a `Definition` is laid out as the library's own.
+    let result = unsafe {
+        nokchbem_schedule_records(
+            records.as_ptr(),
+            records.len(),
+            statements,
+            order.as_mut_ptr(),
+            order.len(),
+            reached.as_mut_ptr(),
+            reached.len(),
+        )
+    };
+    placed(result)
+}
+
+/// The mark placed, or a refusal: what both scheduler's calls return.
+fn placed(result: u64) -> Result<bool, Refusal> {
     match result {
         0 => Ok(false),
         1 => Ok(true),

@@ -1,0 +1,61 @@
+-- Before each turn the words hold the rows of the records so far.
+use mathlib.Core.Path.{_≡_, refl, ap, subst, _∙_}
+use Prim.Native.Nat.{ℕ, _≤_, _<_, _-_, _+_, _*_}
+use lib.ListN.{length, getD, take}
+use native.Mathlib.Omega.{arith}
+use borrow.Author.Needs.{needs}
+use Rattle.definitions.specs.Rows.{rowsOf}
+use Rattle.definitions.specs.Copies.{noRecord}
+use Rattle.definitions.specs.Puts.{put-length, rows-next}
+use Rattle.definitions.proofs.rows_of.Statement.{statement}
+use Rattle.definitions.proofs.rows_of.Tie as tie
+use Rattle.definitions.proofs.rows_of.Reads as reads
+use Rattle.definitions.proofs.rows_of.Lts as lts
+use Rattle.definitions.proofs.put_row.Reads as put-row-reads
+
+abbrev Inv-loop : tie.InvT-loop
+Inv-loop len all words₀ i₀ words i = (i ≤ len) × (length words ≡ 2560) × (take (4 * i) words ≡ rowsOf (take i all))
+
+abbrev μ-loop : tie.MeasureT-loop
+μ-loop len all words₀ i₀ words i = len - i
+
+loop-holds : tie.Need-loop-holds Inv-loop μ-loop
+loop-holds c = (search needs, refl, refl)
+
+mul-put-row : tie.Need-mul-put-row Inv-loop μ-loop
+mul-put-row c = search needs
+
+array-copy-out-put-row : tie.Need-array-copy-out-put-row Inv-loop μ-loop
+array-copy-out-put-row c = search needs
+
+put-row-requires : tie.Need-put-row-requires Inv-loop μ-loop
+put-row-requires c κs = search needs
+
+add-i : tie.Need-add-i Inv-loop μ-loop
+add-i c = search needs
+
+loop-less : tie.Need-loop-less Inv-loop μ-loop
+loop-less c = search needs
+
+loop-again : tie.Need-loop-again Inv-loop μ-loop
+loop-again c =
+    let l = c .before .before .before .before in
+    let a = l .before .args in
+    let e = c .put-row .ensures in
+    let room : 4 * l .loop .i + 3 < length (l .loop .words) = search needs in (
+      search needs,
+      ap length e ∙ put-length (l .loop .words) (l .loop .i) (getD (a .t1) (l .loop .i) noRecord) ∙ l .loop .inv .1,
+      ap (take (4 * (l .loop .i + 1))) e ∙ rows-next (a .t1) (l .loop .words) (l .loop .i) (search needs) room (l .loop .inv .2),
+    )
+
+returns : tie.Need-returns Inv-loop μ-loop
+returns c =
+    let l = c .before in
+    let a = l .before .args in
+    let e : l .loop .i ≡ a .len = omega (arith, l .loop .inv .0, c .loop-test .left) in
+    subst (λ (k : ℕ). take (4 * k) (l .loop .words) ≡ rowsOf (take k (a .t1))) e (l .loop .inv .2)
+
+pub rows-of-spec : {M : Type 1} → statement M
+rows-of-spec =
+    tie.close
+    (tie.spec Inv-loop μ-loop loop-holds mul-put-row array-copy-out-put-row put-row-requires add-i loop-less loop-again returns)
