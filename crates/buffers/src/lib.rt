@@ -18,8 +18,8 @@ pub fn clear(buffer: &mut [u16])
 pub fn clear_words(buffer: &mut [u64])
     ensures { λ _. ⌜ now (buffer .exit) ≡ replicate (length (now (buffer .entry))) 0 ⌝ }
 {
-    for i in 0..buffer.len() {
-        buffer[i] = 0;
+    for at in 0..buffer.len() {
+        buffer[at] = 0;
     }
 }
 

@@ -9,7 +9,8 @@ use native.Mathlib.Omega.{arith}
 use lib.Dec.{eqb}
 use lib.ListN.{length}
 use Rattle.basics.specs.Lists.{filter}
-use Rattle.trees.specs.Sheet.{Sheet, Row}
+use Rattle.trees.specs.declared.Row.{Row}
+use Rattle.trees.specs.Sheet.{Sheet}
 use Rattle.trees.specs.Kinds.{isArray, isAssign, isColEq}
 use Rattle.trees.specs.Trees.{Tree, nil, node, rowOf, firstOf, secondOf, chain}
 use Rattle.trees.specs.Paths.{getExtraArg}

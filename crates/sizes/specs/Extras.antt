@@ -13,7 +13,8 @@ use Rattle.basics.specs.Truth.{bool-cases, and-left, and-right}
 use Rattle.basics.specs.Lists.{all, filter, ascending}
 use Rattle.basics.specs.Ranges.{range, range-ascending, filter-none}
 use Rattle.records.specs.declared.Builtin.{Builtin}
-use Rattle.trees.specs.Sheet.{Sheet, Row, nameBound, isInput, isSpecial}
+use Rattle.trees.specs.declared.Row.{Row}
+use Rattle.trees.specs.Sheet.{Sheet, nameBound, isInput, isSpecial}
 use Rattle.trees.specs.Kinds.{isCall}
 use Rattle.trees.specs.Trees.{Tree, nil, node, chain}
 use Rattle.trees.specs.Traverse.{leaves, vars}

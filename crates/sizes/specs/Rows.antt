@@ -13,7 +13,8 @@ use Rattle.records.specs.declared.Counts.{Counts}
 use Rattle.records.specs.declared.Statement.{Statement}
 use Rattle.records.specs.Layout.{exprAt, statementAt, firstAt}
 use Rattle.spelling.specs.declared.Special.{Special}
-use Rattle.trees.specs.Sheet.{Row, Sheet, rowAt, rowsTo, sheetOf}
+use Rattle.trees.specs.declared.Row.{Row}
+use Rattle.trees.specs.Sheet.{Sheet, rowAt, rowsTo, sheetOf}
 use Rattle.trees.specs.Trees.{Tree, noRow, thirdOf, decode, treeAt, chain}
 use Rattle.trees.specs.Statements.{Literal, Stmt, noStatement, literalOf, stmtsFrom, stmtsOf}
 use Rattle.sizes.specs.Sizes.{total, size, literalSize, weight}

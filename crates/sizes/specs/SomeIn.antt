@@ -6,7 +6,8 @@ use native.Mathlib.Omega.{arith}
 use lib.ListN.{length, length-map}
 use Rattle.turns.specs.Definitions.{Definition}
 use Rattle.trees.specs.Lists.{concatMap}
-use Rattle.trees.specs.Sheet.{Sheet, Row, isInput}
+use Rattle.trees.specs.declared.Row.{Row}
+use Rattle.trees.specs.Sheet.{Sheet, isInput}
 use Rattle.trees.specs.Kinds.{isVar}
 use Rattle.trees.specs.Trees.{Tree, rowOf}
 use Rattle.trees.specs.Traverse.{leaves, vars, comprs}

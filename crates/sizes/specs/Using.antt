@@ -5,7 +5,8 @@ use Prim.Native.Nat.{ℕ, suc, _≤_, max}
 use native.Mathlib.Omega.{arith}
 use lib.ListN.{length, length-map}
 use Rattle.basics.specs.Lists.{filter}
-use Rattle.trees.specs.Sheet.{Sheet, Row}
+use Rattle.trees.specs.declared.Row.{Row}
+use Rattle.trees.specs.Sheet.{Sheet}
 use Rattle.trees.specs.Kinds.{isRefBrack}
 use Rattle.trees.specs.Trees.{Tree, rowOf, firstOf, secondOf}
 use Rattle.trees.specs.Traverse.{traverse, leaves, vars}

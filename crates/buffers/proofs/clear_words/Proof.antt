@@ -9,11 +9,11 @@ use Rattle.buffers.proofs.clear_words.Statement.{statement}
 use Rattle.buffers.proofs.clear_words.Tie as tie
 
 abbrev Inv-loop : tie.InvT-loop
-Inv-loop buffer₀ i₀ i-end buffer i =
-    (i ≤ length buffer₀) × (length buffer ≡ length buffer₀) × (buffer ≡ clearedTo buffer₀ i)
+Inv-loop buffer₀ at₀ at-end buffer at =
+    (at ≤ length buffer₀) × (length buffer ≡ length buffer₀) × (buffer ≡ clearedTo buffer₀ at)
 
 abbrev μ-loop : tie.MeasureT-loop
-μ-loop buffer₀ i₀ i-end buffer i = length buffer₀ - i
+μ-loop buffer₀ at₀ at-end buffer at = length buffer₀ - at
 
 loop-holds : tie.Need-loop-holds Inv-loop μ-loop
 loop-holds c = (search needs, refl, refl)
@@ -24,8 +24,8 @@ mul-buffer c = search needs
 slice-write-buffer : tie.Need-slice-write-buffer Inv-loop μ-loop
 slice-write-buffer c = search needs
 
-add-i : tie.Need-add-i Inv-loop μ-loop
-add-i c = search needs
+add-at : tie.Need-add-at Inv-loop μ-loop
+add-at c = search needs
 
 loop-less : tie.Need-loop-less Inv-loop μ-loop
 loop-less c = search needs
@@ -34,7 +34,7 @@ loop-again : tie.Need-loop-again Inv-loop μ-loop
 loop-again c =
     let loop = c .before .loop in
     let before = c .before .before .args .buffer .now in
-    (omega arith, length-set (loop .buffer) (loop .i) 0 ∙ loop .inv .1, clear-more before (loop .buffer) (loop .i) (omega arith) (loop .inv .2))
+    (omega arith, length-set (loop .buffer) (loop .at) 0 ∙ loop .inv .1, clear-more before (loop .buffer) (loop .at) (omega arith) (loop .inv .2))
 
 same-length : tie.Need-same-length Inv-loop μ-loop
 same-length c = search needs
@@ -42,7 +42,7 @@ same-length c = search needs
 returns : tie.Need-returns Inv-loop μ-loop
 returns c =
     let loop = c .before .loop in
-    clear-all (c .before .before .args .buffer .now) (loop .buffer) (loop .i) (omega arith) (loop .inv .2)
+    clear-all (c .before .before .args .buffer .now) (loop .buffer) (loop .at) (omega arith) (loop .inv .2)
 
 pub clear-words-spec : {M : Type 1} → statement M
 clear-words-spec =
@@ -53,7 +53,7 @@ clear-words-spec =
     loop-holds
     mul-buffer
     slice-write-buffer
-    add-i
+    add-at
     loop-less
     loop-again
     same-length
