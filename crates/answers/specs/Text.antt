@@ -1,30 +1,12 @@
 -- The text of an answer, byte for byte: sections as a sheet has them.
-use mathlib.Core.Bool.{Bool, cond}
 use mathlib.Core.List.{List, [], _∷_, _++_}
-use Prim.Native.Nat.{ℕ, zero, suc, _+_, _/_, _%_}
+use Prim.Native.Nat.{ℕ}
 use Prim.Native.String.{String}
-use lib.Dec.{ltb}
-use Rattle.text.specs.Bytes.{newline, space, bytes}
+use Rattle.text.specs.Bytes.{newline, bytes}
+use Rattle.writer.specs.Decimal.{line}
 use Rattle.trees.specs.Lists.{concatMap}
 use Rattle.analysis.specs.States.{QuerySchedule}
 use Rattle.answers.specs.Rows.{queryRows, placeRows, setRows, rowsOf}
-
--- A number in decimal, with at most so many digits.
-unfoldable pub digits : ℕ → ℕ → List ℕ
-digits zero n = []
-digits (suc most) n =
-    let front = digits most (n / 10) in
-    cond (ltb n 10) ((48 + n) ∷ []) (front ++ ((48 + n % 10) ∷ []))
-
--- A value, which is at most 65,535.
-abbrev pub decimal : ℕ → List ℕ
-decimal n = digits 5 n
-
--- A row as a line: one space between the values.
-abbrev pub line : List ℕ → List ℕ
-line [] = newline ∷ []
-line (x ∷ []) = decimal x ++ (newline ∷ [])
-line (x ∷ (y ∷ row)) = decimal x ++ (space ∷ line (y ∷ row))
 
 -- A section: the line of names, the rows, an empty line.
 unfoldable pub section : String → List (List ℕ) → List ℕ

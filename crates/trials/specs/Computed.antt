@@ -43,7 +43,8 @@ use Rattle.analysis.specs.SomeIn.{someVarsIn, nonVars, processNonVar, processSo
 use Rattle.analysis.specs.Statements.{modsOf, processEvery, processLiteral, processStmt, processStmts}
 use Rattle.analysis.specs.Queries.{outputScope, scheduled, outputCompr, analyzeOutputExpr, analyzeQuery, analyze, analyzeQuerySnippet, scheduleIn, recorded}
 use Rattle.answers.specs.Rows.{rowsOf}
-use Rattle.answers.specs.Text.{digits, section, answerText, refusalText}
+use Rattle.writer.specs.Decimal.{digits}
+use Rattle.answers.specs.Text.{section, answerText, refusalText}
 use Rattle.answers.specs.Call.{Result, analysed, sheetIn, result}
 
 -- The sheet in bytes.
