@@ -5,3 +5,7 @@ pub mod Exprs
 pub mod SomeIn
 pub mod Statements
 pub mod Queries
+pub mod Own
+pub mod Steps
+pub mod ExprSteps
+pub mod StatementSteps

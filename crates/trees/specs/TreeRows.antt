@@ -29,7 +29,7 @@ module _ (q : Row → Bool) where
     pub third : allRows c ≡ true
     pub next : allRows n ≡ true
 
-  parts : (w : Row) (a b c n : Tree) → allRows (node w a b c n) ≡ true → Parts w a b c n
+  pub parts : (w : Row) (a b c n : Tree) → allRows (node w a b c n) ≡ true → Parts w a b c n
   parts w a b c n h =
       let h1 = and-right (q w) _ h in
       let h2 = and-right (allRows a) _ h1 in
@@ -46,7 +46,7 @@ module _ (q : Row → Bool) where
   whole w a b c n p =
       and-intro _ _ (p .row) (and-intro _ _ (p .first) (and-intro _ _ (p .second) (and-intro _ _ (p .third) (p .next))))
 
-  alone : (w : Row) (a b c n : Tree) → Parts w a b c n → allRows (node w a b c nil) ≡ true
+  pub alone : (w : Row) (a b c n : Tree) → Parts w a b c n → allRows (node w a b c nil) ≡ true
   alone w a b c n p =
       whole w a b c nil (record { row = p .row; first = p .first; second = p .second; third = p .third; next = refl })
 
