@@ -9,3 +9,6 @@ pub mod Own
 pub mod Steps
 pub mod ExprSteps
 pub mod StatementSteps
+pub mod Schedules
+pub mod OwnNames
+pub mod Named

@@ -56,7 +56,7 @@ pub grows-flag : (b : Bool) (a : Scope) → Grows a (useInput b a)
 unfolding owns useInput
 grows-flag b a x e = e
 
-grows-input : (y : ℕ) (a : Scope) → Grows a (addInput a y)
+pub grows-input : (y : ℕ) (a : Scope) → Grows a (addInput a y)
 unfolding owns addInput
 grows-input y a x e = e
 

@@ -50,6 +50,12 @@ module _ (q : Row → Bool) where
   alone w a b c n p =
       whole w a b c nil (record { row = p .row; first = p .first; second = p .second; third = p .third; next = refl })
 
+  -- A test that every row passes.
+  pub any-rows : ((w : Row) → q w ≡ true) → (t : Tree) → allRows t ≡ true
+  any-rows f nil = refl
+  any-rows f (node w a b c n) =
+      whole w a b c n (record { row = f w; first = any-rows f a; second = any-rows f b; third = any-rows f c; next = any-rows f n })
+
   -- ---- what the walks meet
 
   pub chain-rows : (t : Tree) → allRows t ≡ true → all allRows (chain t) ≡ true

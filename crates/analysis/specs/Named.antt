@@ -1,0 +1,109 @@
+-- Demand 3 for every query of every sheet whose names lie below the bound: what a query recorded is named below it, so that the theorems
+-- about the turn rule hold of it.
+use mathlib.Core.Path.{_≡_, refl, sym, ap, _∙_, subst}
+use mathlib.Core.Bool.{Bool, true, false, cond, _||_}
+use mathlib.Core.List.{List, [], _∷_, List·Memᴰ, List·Memᴰ·head, List·Memᴰ·tail, List·Memᴰ·not-nil}
+use mathlib.Core.Logic.{_⊎_, inl, inr, ⊎-elim, _↔_}
+use mathlib.Core.Option.{Option, none, some}
+use Prim.Native.Nat.{ℕ, _<_}
+use native.Mathlib.Omega.{arith}
+use lib.Dec.{eqb, ltb}
+use borrow.Author.Tests.{eqb-true, ltb-true}
+use Rattle.basics.specs.Truth.{bool-cases, not-both, and-left, or-cases}
+use Rattle.basics.specs.Lists.{all, elem}
+use Rattle.basics.specs.Members.{all-mem}
+use Rattle.basics.specs.Ranges.{range}
+use Rattle.turns.specs.Definitions.{Definition, Named}
+use Rattle.turns.specs.PlainWalk.{plainWalk, WalkEnded, canBeWalked}
+use Rattle.turns.specs.Turns.{placed, order, reached}
+use Rattle.turns.specs.Relisting.{Bijection, Permutes, Relisted}
+use Rattle.turns.specs.Theorems.{OrderOfAll, ended-takes-reached, relisted-reached, placed-order, placed-iff, unplaced-order}
+use Rattle.trees.specs.Lists.{find}
+use Rattle.trees.specs.Sheet.{Sheet, Row, nameBound}
+use Rattle.trees.specs.Trees.{Tree}
+use Rattle.trees.specs.Statements.{stmtsOf}
+use Rattle.trees.specs.StatementRows.{stmts-rows}
+use Rattle.scopes.specs.Scopes.{Scope, owns}
+use Rattle.scopes.specs.Below.{nameBelow, Below, unscoped-below, input-below, flag-below, gathered-below}
+use Rattle.analysis.specs.States.{QuerySchedule, Run, scheduleOf}
+use Rattle.analysis.specs.Queries.{analyzeQuerySnippet, scheduleIn, definitionsIn, recorded}
+use Rattle.analysis.specs.Own.{ownDefinition}
+use Rattle.analysis.specs.Steps.{Kept}
+use Rattle.analysis.specs.Schedules.{Each, every-schedule}
+use Rattle.analysis.specs.OwnNames.{OwnNames, own-names}
+
+-- The names of all rows lie below the bound.
+abbrev pub NamesBelow : Sheet → Type 0
+NamesBelow sheet = all nameBelow (sheet .exprs) ≡ true
+
+below-kept : Kept (λ sc defs. Below sc)
+below-kept = record {
+  input = λ sc defs x b. input-below sc x b;
+  flag = λ sc defs f b. flag-below sc f b;
+  extra = λ sc defs x l b. unscoped-below sc x l b;
+  recorded = λ sc defs new e b. b;
+}
+
+-- ---- the names of recorded definitions
+
+own-below : (sc : Scope) → Below sc → (d : Definition) → ownDefinition sc d ≡ true → d .var < nameBound
+unfolding ownDefinition
+own-below sc b d h =
+    ltb-true (d .var) nameBound
+    (⊎-elim (λ (e : eqb (d .var) 0 ≡ true). ap (λ (x : ℕ). ltb x nameBound) (eqb-true (d .var) 0 e)) (λ (e : owns sc (d .var) ≡ true). b (d .var) e)
+    (or-cases (eqb (d .var) 0) (owns sc (d .var)) (and-left (eqb (d .var) 0 || owns sc (d .var)) (all (owns sc) (d .used)) h)))
+
+-- The schedule found for a query stands in the table.
+found-in : (l : List QuerySchedule) (q : ℕ) (a : QuerySchedule) → scheduleOf l q ≡ some a → List·Memᴰ a l
+found-in [] q a e = absurd (none-some a e)
+  where
+    none-some : (a : QuerySchedule) → none ≡ some a → ⊥
+    none-some a e = let z : _≡_ {A = ℕ} 0 1 = cc in omega arith
+found-in (b ∷ l) q a e = go (bool-cases (eqb (b .query) q)) (λ g. found-in l q a g)
+  where
+    go : (eqb (b .query) q ≡ true) ⊎ (eqb (b .query) q ≡ false) → (scheduleOf l q ≡ some a → List·Memᴰ a l) → List·Memᴰ a (b ∷ l)
+    go (inl h) ih = let f : some b ≡ some a = rw h at e in let s : b ≡ a = cc in List·Memᴰ·head (sym s)
+    go (inr h) ih = List·Memᴰ·tail (ih (rw h at e))
+
+module _ (sheet : Sheet) (names : NamesBelow sheet) where
+  below : Each (λ sc defs. Below sc) (analyzeQuerySnippet sheet .schedules)
+  below =
+      every-schedule sheet nameBelow names refl (λ sc defs. Below sc) below-kept
+      (λ parents q outputs h. gathered-below sheet parents (stmtsOf sheet q) (stmts-rows nameBelow sheet names refl q) outputs h)
+
+  -- Every name that a query defines is below the bound.
+  pub recorded-named : (q : ℕ) → Named (recorded sheet q) nameBound
+  unfolding recorded scheduleIn
+  recorded-named q = go (scheduleOf (analyzeQuerySnippet sheet .schedules) q) refl
+    where
+      go : (o : Option QuerySchedule) → scheduleOf (analyzeQuerySnippet sheet .schedules) q ≡ o → Named (definitionsIn o) nameBound
+      go none e d m = absurd (List·Memᴰ·not-nil m)
+      go (some a) e d m =
+          let i = found-in (analyzeQuerySnippet sheet .schedules) q a e in
+          own-below (a .scope) (below a i) d (all-mem (ownDefinition (a .scope)) (a .definitions) (own-names sheet a i) m)
+
+  -- ---- demand 3, of query q with n statements
+
+  module _ (q n : ℕ) where
+    -- Every plain walk that has ended took exactly the statements marked reached.
+    pub reached-taken : (picks : List ℕ) → WalkEnded (recorded sheet q) n (plainWalk (recorded sheet q) n picks)
+        → (i : ℕ) → elem i (plainWalk (recorded sheet q) n picks) ≡ reached (recorded sheet q) n nameBound i
+    reached-taken = ended-takes-reached (recorded sheet q) n nameBound (recorded-named q)
+
+    -- Placed exactly if some order of all statements, each once, can be walked.
+    pub placed-walkable : (placed (recorded sheet q) n nameBound ≡ true)
+        ↔ ((o : List ℕ) × OrderOfAll n o × (canBeWalked (recorded sheet q) n o ≡ true))
+    placed-walkable = placed-iff (recorded sheet q) n nameBound (recorded-named q)
+
+    -- If placed, the order handed out is such an order; if not, it is the written one.
+    pub order-placed : placed (recorded sheet q) n nameBound ≡ true
+        → OrderOfAll n (order (recorded sheet q) n nameBound) × (canBeWalked (recorded sheet q) n (order (recorded sheet q) n nameBound) ≡ true)
+    order-placed = placed-order (recorded sheet q) n nameBound (recorded-named q)
+
+    pub order-unplaced : placed (recorded sheet q) n nameBound ≡ false → order (recorded sheet q) n nameBound ≡ range 0 n
+    order-unplaced = unplaced-order (recorded sheet q) n nameBound
+
+    -- However statements are relisted, names exchanged, and definitions listed and repeated: the statements reached move along.
+    pub reached-relisted : (π ρ : Bijection) (defs : List Definition) → Permutes n π → Relisted (π .to) (ρ .to) (recorded sheet q) defs
+        → (m : ℕ) → Named defs m → (i : ℕ) → reached (recorded sheet q) n nameBound i ≡ reached defs n m (π .to i)
+    reached-relisted π ρ defs p r m named i = relisted-reached π ρ n (recorded sheet q) defs p r nameBound m (recorded-named q) named i
