@@ -68,87 +68,87 @@ module _ (sheet : Sheet) (nested : Nested) (parents : List Scope) (test : Row �
     (R : List QuerySchedule → Type 0) (k : Kept S)
     (keeps : (ps : List Scope) (q : ℕ) (outs : List Tree) (r : Run) → all (allRows test) outs ≡ true → R (r .schedules) → R (nested ps q outs r .schedules))
   where
-  pub good-compr : (sc : Scope) (ps : List Scope) (e : Tree) → allRows test e ≡ true → Good S R sc (analyzeCompr sheet nested parents ps e)
-  unfolding analyzeCompr
-  good-compr sc ps e t s o h = go (scheduleOf (s .run .schedules) (rowOf e .third))
-    where
-      go : (a : Option QuerySchedule) → Keeps S R s (unlessScheduled a (λ u. setRun (nested ps (rowOf e .third) (outputsOf e) (u .run)) u) s)
-      go none = good-run S R s (nested ps (rowOf e .third) (outputsOf e) (s .run)) o (keeps ps (rowOf e .third) (outputsOf e) (s .run) (outputs-rows test e t) (o .table))
-      go (some a) = good-same S R sc s o h
-
-  pub good-comprs : (sc : Scope) (cs : List Tree) → all (allRows test) cs ≡ true → Good S R sc (processComprs sheet nested parents cs)
-  unfolding processComprs processCompr
-  good-comprs sc cs t =
-      good-fold S R sc (allRows test) (processCompr sheet nested parents)
-      (λ e q s o h. good-then S R sc (analyzeCompr sheet nested parents (s .scope ∷ parents) e) (propagate e ∷ useCompr e ∷ []) (good-compr sc (s .scope ∷ parents) e q)
-      (good-then S R sc (propagate e) (useCompr e ∷ []) (good-propagate S R k sc e)
-      (good-then S R sc (useCompr e) [] (good-use-compr S R k sc e) (good-end S R sc))) s o h) cs t
-
-  pub good-expr : (sc : Scope) (i : ℕ) (extras : List ℕ) (m : Mods) → all (allRows test) (m .comprs) ≡ true
-      → (t : Tree) → allRows test t ≡ true → Good S R sc (useExpr sheet nested parents i extras m t)
-  unfolding useExpr
-  good-expr sc i extras m mt t h =
-      let cs = comprs t ++ m .comprs in
-      good-then S R sc (gatherUsedVars sheet i extras t) (processComprs sheet nested parents cs ∷ []) (good-used S R k sheet sc i extras t)
-      (good-then S R sc (processComprs sheet nested parents cs) []
-      (good-comprs sc cs (all-append (allRows test) (comprs t) (m .comprs) (comprs-rows test t h) mt)) (good-end S R sc))
-
-  -- The names of the modifiers being own from a scope on.
-  module _ (sc : Scope) (i : ℕ) (m : Mods) (mt : all (allRows test) (m .comprs) ≡ true) (own : all (owns sc) (m .usedVars) ≡ true) where
-    good-way : (check : Bool) (target source : Tree) → allRows test source ≡ true → Good S R sc (assignOneWay sheet nested parents i m check target source)
-    unfolding assignOneWay
-    good-way check target source h =
-        let used : State → ℕ → List ℕ = λ t x. filter (λ y. not (eqb y x)) (allUsed sheet [] m source t) in
-        let last : State → State = λ t. recordEach i (assignedVars (t .scope) target) (used t) t in
-        good-then S R sc (useExpr sheet nested parents i [] m source) (checkAssigned check target ∷ last ∷ []) (good-expr sc i [] m mt source h)
-        (good-then S R sc (checkAssigned check target) (last ∷ []) (good-check-assigned S R k sc check target)
-        (good-then S R sc last []
-        (λ t o g. good-each S R k i (assignedVars (t .scope) target) (used t) t o (assigned-own (t .scope) target)
-        (λ x. all-filter (owns (t .scope)) (λ y. not (eqb y x)) (allUsed sheet [] m source t) (all-used-own sheet sc [] m source t g own)))
-        (good-end S R sc)))
-
-    good-pairing : (check : Bool) (j : Pairing) → pairingRows test j ≡ true → Good S R sc (λ s. assignPairing sheet nested parents i m check s j)
-    unfolding assignPairing
-    good-pairing check (pair lhs rhs) h =
-        good-then S R sc (assignOneWay sheet nested parents i m check lhs rhs) (assignOneWay sheet nested parents i m false rhs lhs ∷ [])
-        (good-way check lhs rhs (and-right (allRows test lhs) _ h))
-        (good-then S R sc (assignOneWay sheet nested parents i m false rhs lhs) [] (good-way false rhs lhs (and-left _ (allRows test rhs) h)) (good-end S R sc))
-    good-pairing check (mismatch v) h = good-then S R sc (fail (lengths (v .line) (v .col))) [] (good-fail S R sc (lengths (v .line) (v .col))) (good-end S R sc)
-
-    pub good-plain : (e : Tree) → allRows test e ≡ true → Good S R sc (processPlainExpr sheet nested parents i m e)
-    unfolding processPlainExpr
-    good-plain e h =
-        let last : State → State = λ t. recordOne i 0 (allUsed sheet [] m e t) t in
-        good-then S R sc (useExpr sheet nested parents i [] m e) (last ∷ []) (good-expr sc i [] m mt e h)
-        (good-then S R sc last [] (λ t o g. good-one S R k i 0 (allUsed sheet [] m e t) t o refl (all-used-own sheet sc [] m e t g own)) (good-end S R sc))
-
-    pub good-process-expr : (e : Tree) → allRows test e ≡ true → Good S R sc (processExpr sheet nested parents i m e)
-    unfolding processExpr processAssignExpr
-    good-process-expr e t s o h = go (isAssign (rowOf e))
+    pub good-compr : (sc : Scope) (ps : List Scope) (e : Tree) → allRows test e ≡ true → Good S R sc (analyzeCompr sheet nested parents ps e)
+    unfolding analyzeCompr
+    good-compr sc ps e t s o h = go (scheduleOf (s .run .schedules) (rowOf e .third))
       where
-        go : (b : Bool) → Keeps S R s (cond b (foldl (assignPairing sheet nested parents i m (isColEq (rowOf e))) s (pairings (firstOf e) (secondOf e))) (processPlainExpr sheet nested parents i m e s))
-        go true =
-            good-fold S R sc (pairingRows test) (assignPairing sheet nested parents i m (isColEq (rowOf e))) (good-pairing (isColEq (rowOf e)))
-            (pairings (firstOf e) (secondOf e)) (pairings-rows test (firstOf e) (secondOf e) (first-rows test e t) (second-rows test e t)) s o h
-        go false = good-plain e t s o h
+        go : (a : Option QuerySchedule) → Keeps S R s (unlessScheduled a (λ u. setRun (nested ps (rowOf e .third) (outputsOf e) (u .run)) u) s)
+        go none = good-run S R s (nested ps (rowOf e .third) (outputsOf e) (s .run)) o (keeps ps (rowOf e .third) (outputsOf e) (s .run) (outputs-rows test e t) (o .table))
+        go (some a) = good-same S R sc s o h
 
-  pub good-extra : (sc : Scope) (i : ℕ) (m : Mods) → all (allRows test) (m .comprs) ≡ true → all (owns sc) (m .usedVars) ≡ true
-      → (e arg : Tree) → allRows test e ≡ true → Good S R sc (processExtraArg sheet nested parents i m e arg)
-  unfolding processExtraArg extraVars
-  good-extra sc i m mt own e arg t s o h =
-      let extras = extraVars sheet nested parents arg in
-      let b = foldl addUnscoped (s .scope) extras in
-      let first = good-scope S R k s b o (extras-kept S R k extras (elements-below _) (s .scope) (s .definitions) (o .here)) (grows-unscoped extras (s .scope)) in
-      let ownB = all-weaken (owns sc) (owns b) (λ x q. grows-unscoped extras (s .scope) x (h x q)) (m .usedVars) own in
-      let f : State → State = λ u. recordEach i extras (λ x. allUsed sheet extras m e u) u in
-      let r = good-then S R b (useExpr sheet nested parents i extras m e) (f ∷ []) (good-expr b i extras m mt e t)
-      (good-then S R b f []
-      (λ u p g. good-each S R k i extras (λ x. allUsed sheet extras m e u) u p (all-weaken (owns b) (owns (u .scope)) g extras (all-unscoped extras (s .scope)))
-      (λ x. all-used-own sheet b extras m e u g ownB)) (good-end S R b))
-      (setScope b s) (first .holds) (scope-is b s) in
-      record { holds = r .holds; grows = λ x q. r .grows x (first .grows x q) }
+    pub good-comprs : (sc : Scope) (cs : List Tree) → all (allRows test) cs ≡ true → Good S R sc (processComprs sheet nested parents cs)
+    unfolding processComprs processCompr
+    good-comprs sc cs t =
+        good-fold S R sc (allRows test) (processCompr sheet nested parents)
+        (λ e q s o h. good-then S R sc (analyzeCompr sheet nested parents (s .scope ∷ parents) e) (propagate e ∷ useCompr e ∷ []) (good-compr sc (s .scope ∷ parents) e q)
+        (good-then S R sc (propagate e) (useCompr e ∷ []) (good-propagate S R k sc e)
+        (good-then S R sc (useCompr e) [] (good-use-compr S R k sc e) (good-end S R sc))) s o h) cs t
 
-  pub good-call : (sc : Scope) (i : ℕ) (m : Mods) → all (allRows test) (m .comprs) ≡ true → all (owns sc) (m .usedVars) ≡ true
-      → (x : Option Tree) (e : Tree) → allRows test e ≡ true → Good S R sc (processCall sheet nested parents x i m e)
-  good-call sc i m mt own none e t = good-process-expr sc i m mt own e t
-  good-call sc i m mt own (some arg) e t = good-extra sc i m mt own e arg t
+    pub good-expr : (sc : Scope) (i : ℕ) (extras : List ℕ) (m : Mods) → all (allRows test) (m .comprs) ≡ true
+        → (t : Tree) → allRows test t ≡ true → Good S R sc (useExpr sheet nested parents i extras m t)
+    unfolding useExpr
+    good-expr sc i extras m mt t h =
+        let cs = comprs t ++ m .comprs in
+        good-then S R sc (gatherUsedVars sheet i extras t) (processComprs sheet nested parents cs ∷ []) (good-used S R k sheet sc i extras t)
+        (good-then S R sc (processComprs sheet nested parents cs) []
+        (good-comprs sc cs (all-append (allRows test) (comprs t) (m .comprs) (comprs-rows test t h) mt)) (good-end S R sc))
+
+    -- The names of the modifiers being own from a scope on.
+    module _ (sc : Scope) (i : ℕ) (m : Mods) (mt : all (allRows test) (m .comprs) ≡ true) (own : all (owns sc) (m .usedVars) ≡ true) where
+      good-way : (check : Bool) (target source : Tree) → allRows test source ≡ true → Good S R sc (assignOneWay sheet nested parents i m check target source)
+      unfolding assignOneWay
+      good-way check target source h =
+          let used : State → ℕ → List ℕ = λ t x. filter (λ y. not (eqb y x)) (allUsed sheet [] m source t) in
+          let last : State → State = λ t. recordEach i (assignedVars (t .scope) target) (used t) t in
+          good-then S R sc (useExpr sheet nested parents i [] m source) (checkAssigned check target ∷ last ∷ []) (good-expr sc i [] m mt source h)
+          (good-then S R sc (checkAssigned check target) (last ∷ []) (good-check-assigned S R k sc check target)
+          (good-then S R sc last []
+          (λ t o g. good-each S R k i (assignedVars (t .scope) target) (used t) t o (assigned-own (t .scope) target)
+          (λ x. all-filter (owns (t .scope)) (λ y. not (eqb y x)) (allUsed sheet [] m source t) (all-used-own sheet sc [] m source t g own)))
+          (good-end S R sc)))
+
+      good-pairing : (check : Bool) (j : Pairing) → pairingRows test j ≡ true → Good S R sc (λ s. assignPairing sheet nested parents i m check s j)
+      unfolding assignPairing
+      good-pairing check (pair lhs rhs) h =
+          good-then S R sc (assignOneWay sheet nested parents i m check lhs rhs) (assignOneWay sheet nested parents i m false rhs lhs ∷ [])
+          (good-way check lhs rhs (and-right (allRows test lhs) _ h))
+          (good-then S R sc (assignOneWay sheet nested parents i m false rhs lhs) [] (good-way false rhs lhs (and-left _ (allRows test rhs) h)) (good-end S R sc))
+      good-pairing check (mismatch v) h = good-then S R sc (fail (lengths (v .line) (v .col))) [] (good-fail S R sc (lengths (v .line) (v .col))) (good-end S R sc)
+
+      pub good-plain : (e : Tree) → allRows test e ≡ true → Good S R sc (processPlainExpr sheet nested parents i m e)
+      unfolding processPlainExpr
+      good-plain e h =
+          let last : State → State = λ t. recordOne i 0 (allUsed sheet [] m e t) t in
+          good-then S R sc (useExpr sheet nested parents i [] m e) (last ∷ []) (good-expr sc i [] m mt e h)
+          (good-then S R sc last [] (λ t o g. good-one S R k i 0 (allUsed sheet [] m e t) t o refl (all-used-own sheet sc [] m e t g own)) (good-end S R sc))
+
+      pub good-process-expr : (e : Tree) → allRows test e ≡ true → Good S R sc (processExpr sheet nested parents i m e)
+      unfolding processExpr processAssignExpr
+      good-process-expr e t s o h = go (isAssign (rowOf e))
+        where
+          go : (b : Bool) → Keeps S R s (cond b (foldl (assignPairing sheet nested parents i m (isColEq (rowOf e))) s (pairings (firstOf e) (secondOf e))) (processPlainExpr sheet nested parents i m e s))
+          go true =
+              good-fold S R sc (pairingRows test) (assignPairing sheet nested parents i m (isColEq (rowOf e))) (good-pairing (isColEq (rowOf e)))
+              (pairings (firstOf e) (secondOf e)) (pairings-rows test (firstOf e) (secondOf e) (first-rows test e t) (second-rows test e t)) s o h
+          go false = good-plain e t s o h
+
+    pub good-extra : (sc : Scope) (i : ℕ) (m : Mods) → all (allRows test) (m .comprs) ≡ true → all (owns sc) (m .usedVars) ≡ true
+        → (e arg : Tree) → allRows test e ≡ true → Good S R sc (processExtraArg sheet nested parents i m e arg)
+    unfolding processExtraArg extraVars
+    good-extra sc i m mt own e arg t s o h =
+        let extras = extraVars sheet nested parents arg in
+        let b = foldl addUnscoped (s .scope) extras in
+        let first = good-scope S R k s b o (extras-kept S R k extras (elements-below _) (s .scope) (s .definitions) (o .here)) (grows-unscoped extras (s .scope)) in
+        let ownB = all-weaken (owns sc) (owns b) (λ x q. grows-unscoped extras (s .scope) x (h x q)) (m .usedVars) own in
+        let f : State → State = λ u. recordEach i extras (λ x. allUsed sheet extras m e u) u in
+        let r = good-then S R b (useExpr sheet nested parents i extras m e) (f ∷ []) (good-expr b i extras m mt e t)
+        (good-then S R b f []
+        (λ u p g. good-each S R k i extras (λ x. allUsed sheet extras m e u) u p (all-weaken (owns b) (owns (u .scope)) g extras (all-unscoped extras (s .scope)))
+        (λ x. all-used-own sheet b extras m e u g ownB)) (good-end S R b))
+        (setScope b s) (first .holds) (scope-is b s) in
+        record { holds = r .holds; grows = λ x q. r .grows x (first .grows x q) }
+
+    pub good-call : (sc : Scope) (i : ℕ) (m : Mods) → all (allRows test) (m .comprs) ≡ true → all (owns sc) (m .usedVars) ≡ true
+        → (x : Option Tree) (e : Tree) → allRows test e ≡ true → Good S R sc (processCall sheet nested parents x i m e)
+    good-call sc i m mt own none e t = good-process-expr sc i m mt own e t
+    good-call sc i m mt own (some arg) e t = good-extra sc i m mt own e arg t

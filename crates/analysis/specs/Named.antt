@@ -1,23 +1,17 @@
--- Demand 3 for every query of every sheet whose names lie below the bound: what a query recorded is named below it, so that the theorems
--- about the turn rule hold of it.
+-- What a query records is named below the bound, in every sheet whose names lie below it: what the theorems about the turn rule ask for.
 use mathlib.Core.Path.{_≡_, refl, sym, ap, _∙_, subst}
 use mathlib.Core.Bool.{Bool, true, false, cond, _||_}
 use mathlib.Core.List.{List, [], _∷_, List·Memᴰ, List·Memᴰ·head, List·Memᴰ·tail, List·Memᴰ·not-nil}
-use mathlib.Core.Logic.{_⊎_, inl, inr, ⊎-elim, _↔_}
+use mathlib.Core.Logic.{_⊎_, inl, inr, ⊎-elim}
 use mathlib.Core.Option.{Option, none, some}
 use Prim.Native.Nat.{ℕ, _<_}
 use native.Mathlib.Omega.{arith}
 use lib.Dec.{eqb, ltb}
 use borrow.Author.Tests.{eqb-true, ltb-true}
 use Rattle.basics.specs.Truth.{bool-cases, not-both, and-left, or-cases}
-use Rattle.basics.specs.Lists.{all, elem}
+use Rattle.basics.specs.Lists.{all}
 use Rattle.basics.specs.Members.{all-mem}
-use Rattle.basics.specs.Ranges.{range}
 use Rattle.turns.specs.Definitions.{Definition, Named}
-use Rattle.turns.specs.PlainWalk.{plainWalk, WalkEnded, canBeWalked}
-use Rattle.turns.specs.Turns.{placed, order, reached}
-use Rattle.turns.specs.Relisting.{Bijection, Permutes, Relisted}
-use Rattle.turns.specs.Theorems.{OrderOfAll, ended-takes-reached, relisted-reached, placed-order, placed-iff, unplaced-order}
 use Rattle.trees.specs.Lists.{find}
 use Rattle.trees.specs.Sheet.{Sheet, Row, nameBound}
 use Rattle.trees.specs.Trees.{Tree}
@@ -81,29 +75,3 @@ module _ (sheet : Sheet) (names : NamesBelow sheet) where
       go (some a) e d m =
           let i = found-in (analyzeQuerySnippet sheet .schedules) q a e in
           own-below (a .scope) (below a i) d (all-mem (ownDefinition (a .scope)) (a .definitions) (own-names sheet a i) m)
-
-  -- ---- demand 3, of query q with n statements
-
-  module _ (q n : ℕ) where
-    -- Every plain walk that has ended took exactly the statements marked reached.
-    pub reached-taken : (picks : List ℕ) → WalkEnded (recorded sheet q) n (plainWalk (recorded sheet q) n picks)
-        → (i : ℕ) → elem i (plainWalk (recorded sheet q) n picks) ≡ reached (recorded sheet q) n nameBound i
-    reached-taken = ended-takes-reached (recorded sheet q) n nameBound (recorded-named q)
-
-    -- Placed exactly if some order of all statements, each once, can be walked.
-    pub placed-walkable : (placed (recorded sheet q) n nameBound ≡ true)
-        ↔ ((o : List ℕ) × OrderOfAll n o × (canBeWalked (recorded sheet q) n o ≡ true))
-    placed-walkable = placed-iff (recorded sheet q) n nameBound (recorded-named q)
-
-    -- If placed, the order handed out is such an order; if not, it is the written one.
-    pub order-placed : placed (recorded sheet q) n nameBound ≡ true
-        → OrderOfAll n (order (recorded sheet q) n nameBound) × (canBeWalked (recorded sheet q) n (order (recorded sheet q) n nameBound) ≡ true)
-    order-placed = placed-order (recorded sheet q) n nameBound (recorded-named q)
-
-    pub order-unplaced : placed (recorded sheet q) n nameBound ≡ false → order (recorded sheet q) n nameBound ≡ range 0 n
-    order-unplaced = unplaced-order (recorded sheet q) n nameBound
-
-    -- However statements are relisted, names exchanged, and definitions listed and repeated: the statements reached move along.
-    pub reached-relisted : (π ρ : Bijection) (defs : List Definition) → Permutes n π → Relisted (π .to) (ρ .to) (recorded sheet q) defs
-        → (m : ℕ) → Named defs m → (i : ℕ) → reached (recorded sheet q) n nameBound i ≡ reached defs n m (π .to i)
-    reached-relisted π ρ defs p r m named i = relisted-reached π ρ n (recorded sheet q) defs p r nameBound m (recorded-named q) named i

@@ -46,28 +46,28 @@ module _ (sheet : Sheet) (test : Row → Bool) (rows : all test (sheet .exprs) �
     (S : Scope → List Definition → Type 0) (k : Kept S)
     (start : (parents : List Scope) (q : ℕ) (outputs : List Tree) → all (allRows test) outputs ≡ true → S (gatherLocalVars sheet parents (stmtsOf sheet q) outputs) [])
   where
-  query-keeps : (nested : Nested)
-      → ((ps : List Scope) (q : ℕ) (outs : List Tree) (r : Run) → all (allRows test) outs ≡ true → Each S (r .schedules) → Each S (nested ps q outs r .schedules))
-      → (parents : List Scope) (q : ℕ) (outputs : List Tree) (r : Run) → all (allRows test) outputs ≡ true → Each S (r .schedules)
-      → Each S (analyzeQuery sheet nested parents q outputs r .schedules)
-  unfolding analyzeQuery
-  query-keeps nested keeps parents q outputs r h e =
-      let stmts = stmtsOf sheet q in
-      let first : State = record { scope = gatherLocalVars sheet parents stmts outputs; firstUses = []; definitions = []; run = r } in
-      let a = good-stmts sheet nested parents test S (Each S) k keeps (first .scope) stmts (stmts-rows test sheet rows none q) 0 first
-      (record { here = start parents q outputs h; table = e }) (λ x g. g) in
-      let t = processStmts sheet nested parents 0 stmts first in
-      let b = good-outputs sheet nested parents test S (Each S) k keeps (t .scope) outputs h t (a .holds) (λ x g. g) in
-      let s = foldl (analyzeOutputExpr sheet nested parents) t outputs in
-      finished S q (length stmts) s (b .holds) (s .run .fault)
+    query-keeps : (nested : Nested)
+        → ((ps : List Scope) (q : ℕ) (outs : List Tree) (r : Run) → all (allRows test) outs ≡ true → Each S (r .schedules) → Each S (nested ps q outs r .schedules))
+        → (parents : List Scope) (q : ℕ) (outputs : List Tree) (r : Run) → all (allRows test) outputs ≡ true → Each S (r .schedules)
+        → Each S (analyzeQuery sheet nested parents q outputs r .schedules)
+    unfolding analyzeQuery
+    query-keeps nested keeps parents q outputs r h e =
+        let stmts = stmtsOf sheet q in
+        let first : State = record { scope = gatherLocalVars sheet parents stmts outputs; firstUses = []; definitions = []; run = r } in
+        let a = good-stmts sheet nested parents test S (Each S) k keeps (first .scope) stmts (stmts-rows test sheet rows none q) 0 first
+        (record { here = start parents q outputs h; table = e }) (λ x g. g) in
+        let t = processStmts sheet nested parents 0 stmts first in
+        let b = good-outputs sheet nested parents test S (Each S) k keeps (t .scope) outputs h t (a .holds) (λ x g. g) in
+        let s = foldl (analyzeOutputExpr sheet nested parents) t outputs in
+        finished S q (length stmts) s (b .holds) (s .run .fault)
 
-  analyze-keeps : (n : ℕ) (parents : List Scope) (q : ℕ) (outputs : List Tree) (r : Run) → all (allRows test) outputs ≡ true → Each S (r .schedules)
-      → Each S (analyze n sheet parents q outputs r .schedules)
-  unfolding analyze
-  analyze-keeps zero parents q outputs r h e = e
-  analyze-keeps (suc n) parents q outputs r h e =
-      query-keeps (λ ps q outs r. analyze n sheet ps q outs r) (λ ps q outs r g d. analyze-keeps n ps q outs r g d) parents q outputs r h e
+    analyze-keeps : (n : ℕ) (parents : List Scope) (q : ℕ) (outputs : List Tree) (r : Run) → all (allRows test) outputs ≡ true → Each S (r .schedules)
+        → Each S (analyze n sheet parents q outputs r .schedules)
+    unfolding analyze
+    analyze-keeps zero parents q outputs r h e = e
+    analyze-keeps (suc n) parents q outputs r h e =
+        query-keeps (λ ps q outs r. analyze n sheet ps q outs r) (λ ps q outs r g d. analyze-keeps n ps q outs r g d) parents q outputs r h e
 
-  pub every-schedule : Each S (analyzeQuerySnippet sheet .schedules)
-  unfolding analyzeQuerySnippet
-  every-schedule = analyze-keeps deepest [] 1 [] (record { schedules = []; fault = sound }) refl (λ a m. absurd (List·Memᴰ·not-nil m))
+    pub every-schedule : Each S (analyzeQuerySnippet sheet .schedules)
+    unfolding analyzeQuerySnippet
+    every-schedule = analyze-keeps deepest [] 1 [] (record { schedules = []; fault = sound }) refl (λ a m. absurd (List·Memᴰ·not-nil m))

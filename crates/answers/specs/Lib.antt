@@ -1,3 +1,4 @@
 pub mod Rows
 pub mod Text
 pub mod Call
+pub mod ReadNames
