@@ -1,7 +1,7 @@
--- Every statement of a query that is analysed records at least one definition.
+-- A query's statements that end without a fault have a definition each.
 use mathlib.Core.Path.{_≡_, refl, sym, ap, _∙_, subst}
 use mathlib.Core.Bool.{Bool, true, false, cond}
-use mathlib.Core.List.{List, [], _∷_, _++_, foldl, List·Memᴰ, List·Memᴰ·cases-cons, List·Memᴰ·not-nil}
+use mathlib.Core.List.{List, [], _∷_, _++_, foldl}
 use mathlib.Core.Logic.{_⊎_, inl, inr, ⊎-elim}
 use Prim.Native.Nat.{ℕ, zero, suc, _+_, _≤_, _<_}
 use native.Mathlib.Omega.{arith}
@@ -9,27 +9,24 @@ use lib.Dec.{eqb}
 use lib.ListN.{length}
 use borrow.Author.Tests.{eq-eqb}
 use Rattle.basics.specs.Truth.{bool-cases, eq-cases, not-both}
-use Rattle.basics.specs.Lists.{all}
-use Rattle.records.specs.Layout.{deepest}
 use Rattle.turns.specs.Definitions.{Definition, ofStatement}
 use Rattle.turns.specs.PlainWalk.{some}
 use Rattle.trees.specs.ListLaws.{all-always}
 use Rattle.trees.specs.Sheet.{Sheet, Row}
 use Rattle.trees.specs.Trees.{Tree}
-use Rattle.trees.specs.Statements.{Stmt, stmtsOf}
+use Rattle.trees.specs.Statements.{Stmt}
 use Rattle.trees.specs.TreeRows.{allRows, any-rows}
 use Rattle.trees.specs.StatementRows.{stmtRows, any-stmt}
 use Rattle.scopes.specs.Scopes.{Scope}
-use Rattle.scopes.specs.GatherLocals.{gatherLocalVars}
 use Rattle.uses.specs.Uses.{define}
-use Rattle.analysis.specs.States.{Fault, sound, undefined, usedBefore, lengths, indexVariable, QuerySchedule, Run, State, addDefinitions, ifSound, inTurn}
+use Rattle.analysis.specs.States.{QuerySchedule, Run, State, addDefinitions, ifSound, inTurn}
 use Rattle.analysis.specs.Using.{gatherUsedVars, recordOne, unlessSome, atLeastOne}
 use Rattle.analysis.specs.Comprs.{Nested}
 use Rattle.analysis.specs.Statements.{modsOf, processLiteral, processStmt, processStmts}
-use Rattle.analysis.specs.Queries.{scheduled, analyzeOutputExpr, analyzeQuery, analyze, analyzeQuerySnippet}
+use Rattle.analysis.specs.Queries.{analyzeOutputExpr}
 use Rattle.analysis.specs.Steps.{Kept, Holds, Keeps}
 use Rattle.analysis.specs.StatementSteps.{good-stmts, good-outputs}
-use Rattle.analysis.specs.Faulty.{isSound, soundState, if-faulty, if-sound, sound-before, stmts-faulty, outputs-faulty}
+use Rattle.analysis.specs.Faulty.{isSound, soundState, if-faulty, if-sound, sound-before, stmts-faulty}
 
 -- Has statement i a definition on the list?
 abbrev pub has : ℕ → List Definition → Bool
@@ -108,7 +105,7 @@ module _ (sheet : Sheet) (nested : Nested) (parents : List Scope) where
       good-stmts sheet nested parents (λ w. true) (Has j) Nothing (has-kept j) (λ ps q outs r a b. tt) (s .scope) stmts
       (all-always (stmtRows (λ w. true)) (any-stmt (λ w. true) (λ w. refl)) stmts) i s (record { here = h; table = tt }) (λ x e. e) .holds .here
 
-  outputs-keep : (j : ℕ) (outputs : List Tree) (s : State) → has j (s .definitions) ≡ true
+  pub outputs-keep : (j : ℕ) (outputs : List Tree) (s : State) → has j (s .definitions) ≡ true
       → has j (foldl (analyzeOutputExpr sheet nested parents) s outputs .definitions) ≡ true
   outputs-keep j outputs s h =
       good-outputs sheet nested parents (λ w. true) (Has j) Nothing (has-kept j) (λ ps q outs r a b. tt) (s .scope) outputs
@@ -116,7 +113,7 @@ module _ (sheet : Sheet) (nested : Nested) (parents : List Scope) where
 
   -- ---- all statements of a query
 
-  stmts-recorded : (stmts : List Stmt) (i : ℕ) (s : State) → soundState (processStmts sheet nested parents i stmts s) ≡ true
+  pub stmts-recorded : (stmts : List Stmt) (i : ℕ) (s : State) → soundState (processStmts sheet nested parents i stmts s) ≡ true
       → (j : ℕ) → i ≤ j → j < i + length stmts → has j (processStmts sheet nested parents i stmts s .definitions) ≡ true
   unfolding processStmts
   stmts-recorded [] i s h j a b = absurd (omega arith)
@@ -141,60 +138,3 @@ module _ (sheet : Sheet) (nested : Nested) (parents : List Scope) where
           → has j (processStmts sheet nested parents (suc i) stmts t .definitions) ≡ true
       go (inl e) ih = subst (λ (m : ℕ). has m (processStmts sheet nested parents (suc i) stmts t .definitions) ≡ true) e (stmts-keep i (suc i) stmts t here)
       go (inr ne) ih = ih (omega arith) (omega arith)
-
--- ---- the table
-
--- Each statement of a schedule has a definition.
-abbrev pub Complete : List QuerySchedule → Type 0
-Complete l = (a : QuerySchedule) → List·Memᴰ a l → (i : ℕ) → i < a .count → has i (a .definitions) ≡ true
-
-complete-cons : (a : QuerySchedule) (l : List QuerySchedule) → ((i : ℕ) → i < a .count → has i (a .definitions) ≡ true) → Complete l → Complete (a ∷ l)
-complete-cons a l h c b m =
-    ⊎-elim (λ (e : b ≡ a). subst (λ (d : QuerySchedule). (i : ℕ) → i < d .count → has i (d .definitions) ≡ true) (sym e) h)
-    (λ (t : List·Memᴰ b l). c b t) (List·Memᴰ·cases-cons m)
-
-finished : (q n : ℕ) (s : State) → Complete (s .run .schedules) → (f : Fault) → (isSound f ≡ true → (i : ℕ) → i < n → has i (s .definitions) ≡ true)
-    → Complete (ifSound f (scheduled q n s) (s .run) .schedules)
-unfolding scheduled
-finished q n s c sound h = complete-cons _ (s .run .schedules) (h refl) c
-finished q n s c (undefined l k) h = c
-finished q n s c (usedBefore l k) h = c
-finished q n s c (lengths l k) h = c
-finished q n s c indexVariable h = c
-
-abbrev Any : Scope → List Definition → Type 0
-Any sc defs = Unit {0}
-
-any-kept : Kept Any
-any-kept = record { input = λ sc defs x h. tt; flag = λ sc defs b h. tt; extra = λ sc defs x l h. tt; recorded = λ sc defs new e h. tt }
-
-module _ (sheet : Sheet) where
-  query-complete : (nested : Nested)
-      → ((ps : List Scope) (q : ℕ) (outs : List Tree) (r : Run) → all (allRows (λ w. true)) outs ≡ true → Complete (r .schedules) → Complete (nested ps q outs r .schedules))
-      → (parents : List Scope) (q : ℕ) (outputs : List Tree) (r : Run) → Complete (r .schedules) → Complete (analyzeQuery sheet nested parents q outputs r .schedules)
-  unfolding analyzeQuery
-  query-complete nested keeps parents q outputs r c =
-      let stmts = stmtsOf sheet q in
-      let first : State = record { scope = gatherLocalVars sheet parents stmts outputs; firstUses = []; definitions = []; run = r } in
-      let t = processStmts sheet nested parents 0 stmts first in
-      let a = good-stmts sheet nested parents (λ w. true) Any Complete any-kept keeps (first .scope) stmts
-      (all-always (stmtRows (λ w. true)) (any-stmt (λ w. true) (λ w. refl)) stmts) 0 first (record { here = tt; table = c }) (λ x e. e) in
-      let b = good-outputs sheet nested parents (λ w. true) Any Complete any-kept keeps (t .scope) outputs
-      (all-always (allRows (λ w. true)) (any-rows (λ w. true) (λ w. refl)) outputs) t (a .holds) (λ x e. e) in
-      let s = foldl (analyzeOutputExpr sheet nested parents) t outputs in
-      finished q (length stmts) s (b .holds .table) (s .run .fault)
-      (λ e i l. outputs-keep sheet nested parents i outputs t
-      (stmts-recorded sheet nested parents stmts 0 first
-      (sound-before (λ u. foldl (analyzeOutputExpr sheet nested parents) u outputs) t (outputs-faulty sheet nested parents outputs t) e) i (omega arith) (omega arith)))
-
-  analyze-complete : (n : ℕ) (parents : List Scope) (q : ℕ) (outputs : List Tree) (r : Run) → Complete (r .schedules)
-      → Complete (analyze n sheet parents q outputs r .schedules)
-  unfolding analyze
-  analyze-complete zero parents q outputs r c = c
-  analyze-complete (suc n) parents q outputs r c =
-      query-complete (λ ps q outs r. analyze n sheet ps q outs r) (λ ps q outs r h d. analyze-complete n ps q outs r d) parents q outputs r c
-
-  -- Of every sheet, and every query that is analysed.
-  pub every-statement : Complete (analyzeQuerySnippet sheet .schedules)
-  unfolding analyzeQuerySnippet
-  every-statement = analyze-complete deepest [] 1 [] (record { schedules = []; fault = sound }) (λ a m. absurd (List·Memᴰ·not-nil m))

@@ -2,3 +2,4 @@ pub mod Rows
 pub mod Text
 pub mod Call
 pub mod ReadNames
+pub mod NeverAnalysed

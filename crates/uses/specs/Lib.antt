@@ -1,2 +1,7 @@
 pub mod Uses
 pub mod FirstUses
+pub mod Repeats
+pub mod RustWalk
+pub mod OnceLists
+pub mod Takers
+pub mod SameAnswers
