@@ -8,3 +8,6 @@ pub mod Statements
 pub mod ListLaws
 pub mod TreeRows
 pub mod StatementRows
+pub mod RowWalks
+pub mod TableRows
+pub mod OrderedRows
