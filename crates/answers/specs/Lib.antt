@@ -3,3 +3,4 @@ pub mod Text
 pub mod Call
 pub mod ReadNames
 pub mod NeverAnalysed
+pub mod ReadSheet

@@ -10,4 +10,5 @@ pub mod TreeRows
 pub mod StatementRows
 pub mod RowWalks
 pub mod TableRows
+pub mod StatementWalks
 pub mod OrderedRows

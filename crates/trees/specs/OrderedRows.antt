@@ -12,16 +12,19 @@ use Rattle.basics.specs.Truth.{bool-cases, and-left, and-right, or-cases}
 use Rattle.basics.specs.Lists.{all, all-elem}
 use Rattle.basics.specs.Ranges.{range, elem-range}
 use Rattle.records.specs.declared.Counts.{Counts}
-use Rattle.records.specs.Layout.{exprAt}
+use Rattle.records.specs.declared.Statement.{Statement}
+use Rattle.records.specs.Layout.{exprAt, statementAt}
 use Rattle.fields.specs.declared.Field.{Field}
 use Rattle.fields.specs.Fields.{expressions, fieldFrom, first, second, third, kinds, kindFields, limitOf}
-use Rattle.accepted.specs.Facts.{Onward, Part, ExprFacts, SheetFacts}
+use Rattle.accepted.specs.Facts.{Onward, Part, ExprFacts, StatementFacts, SheetFacts}
 use Rattle.spelling.specs.declared.Special.{Special}
 use Rattle.trees.specs.Sheet.{Sheet, Row, rowAt, sheetOf}
 use Rattle.trees.specs.Kinds.{isCompr}
 use Rattle.trees.specs.Trees.{thirdOf}
 use Rattle.trees.specs.RowWalks.{rowIn, After, FieldsAfter, Ordered}
-use Rattle.trees.specs.TableRows.{exprs-length, expr-row}
+use Rattle.trees.specs.Statements.{noStatement}
+use Rattle.trees.specs.StatementWalks.{statementIn, Onwards}
+use Rattle.trees.specs.TableRows.{exprs-length, expr-row, statements-length, statement-row}
 
 -- The field holds an expression or nothing.
 isPart : ℕ → Bool
@@ -114,3 +117,23 @@ module _ (c : Counts) (x : Special) (t : List ℕ) where
     next = λ z. absurd (z refl);
   }
   ordered facts (suc k) h = fields-after facts (suc k) (omega arith) (subst (λ (m : ℕ). suc k ≤ m) (exprs-length c x t) h)
+
+  -- So are its statements.
+  pub onwards : SheetFacts c t → Onwards (sheetOf c x t .statements)
+  onwards facts zero h z = absurd (z refl)
+  onwards facts (suc k) h z = go (facts .statement (suc k) (omega arith) b .next)
+    where
+      b : suc k ≤ c .statements
+      b = subst (λ (m : ℕ). suc k ≤ m) (statements-length c x t) h
+
+      q : statementIn (sheetOf c x t .statements) (suc k) ≡ statementAt t (suc k)
+      q = statement-row c x t k noStatement (omega (arith, b))
+
+      next : ℕ
+      next = statementIn (sheetOf c x t .statements) (suc k) .next
+
+      go : Onward c t (c .statements) (suc k) (statementAt t (suc k) .next) → (suc k < next) × (next ≤ length (sheetOf c x t .statements))
+      go (inl n) = absurd (z (ap (λ (w : Statement). w .next) q ∙ n))
+      go (inr n) =
+          subst (λ (w : Statement). (suc k < w .next) × (w .next ≤ length (sheetOf c x t .statements))) (sym q)
+          (n .0, subst (λ (m : ℕ). statementAt t (suc k) .next ≤ m) (sym (statements-length c x t)) (n .1))
