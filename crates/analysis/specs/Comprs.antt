@@ -30,6 +30,7 @@ pub record Mods : Type 0 where
 abbrev pub comprScope : State → Tree → Scope
 comprScope s e = scopeIn (scheduleOf (s .run .schedules) (rowOf e .third))
 
+-- The inputs of the query, ascending.
 unfoldable pub comprInputs : State → Tree → List ℕ
 comprInputs s e = elements (comprScope s e .inputs)
 
@@ -65,6 +66,7 @@ module _ (sheet : Sheet) (nested : Nested) (parents : List Scope) where
       unlessScheduled (scheduleOf (s .run .schedules) (rowOf e .third))
       (λ t. setRun (nested ps (rowOf e .third) (outputsOf e) (t .run)) t) s
 
+  -- One comprehension: its query is analysed, and what it takes rises.
   unfoldable pub processCompr : State → Tree → State
   processCompr s e = inTurn (analyzeCompr (s .scope ∷ parents) e ∷ propagate e ∷ useCompr e ∷ []) s
 

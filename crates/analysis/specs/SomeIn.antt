@@ -30,6 +30,7 @@ failIfSome [] s = s
 failIfSome (d ∷ defs) s = fail indexVariable s
 
 module _ (sheet : Sheet) (nested : Nested) (parents : List Scope) where
+  -- A part of the pattern that is no variable, in statement i.
   unfoldable pub processNonVar : ℕ → Mods → State → Tree → State
   processNonVar i m s e =
       inTurn (gatherUsedVars sheet i [] e

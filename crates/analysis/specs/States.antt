@@ -38,28 +38,35 @@ pub record State : Type 0 where
 
 -- ---- the table
 
+-- The schedule of a query, if it has one (`schedule_table.get_checked`).
 abbrev pub scheduleOf : List QuerySchedule → ℕ → Option QuerySchedule
 scheduleOf schedules q = find (λ (a : QuerySchedule). eqb (a .query) q) schedules
 
+-- The scope of a schedule.
 abbrev pub scopeIn : Option QuerySchedule → Scope
 scopeIn none = noScope
 scopeIn (some a) = a .scope
 
 -- ---- changes of one part
 
+-- Another scope.
 unfoldable pub setScope : Scope → State → State
 setScope sc s = record { scope = sc; firstUses = s .firstUses; definitions = s .definitions; run = s .run }
 
+-- Uses at these places, in order.
 unfoldable pub addFirstUses : List Span → State → State
 addFirstUses spans s =
     record { scope = s .scope; firstUses = foldl addFirstUse (s .firstUses) spans; definitions = s .definitions; run = s .run }
 
+-- Definitions recorded behind the others.
 unfoldable pub addDefinitions : List Definition → State → State
 addDefinitions defs s = record { scope = s .scope; firstUses = s .firstUses; definitions = s .definitions ++ defs; run = s .run }
 
+-- Another whole.
 unfoldable pub setRun : Run → State → State
 setRun r s = record { scope = s .scope; firstUses = s .firstUses; definitions = s .definitions; run = r }
 
+-- `bail!`.
 unfoldable pub fail : Fault → State → State
 fail f s = setRun (record { schedules = s .run .schedules; fault = f }) s
 

@@ -15,6 +15,7 @@ use Rattle.analysis.specs.States.{Fault, undefined, usedBefore, State, s
 
 -- ---- uses
 
+-- 11 at a variable.
 abbrev pub undefinedAt : Option Row → Option Fault
 undefinedAt none = none
 undefinedAt (some w) = some (undefined (w .line) (w .col))
@@ -32,6 +33,7 @@ gatherUsedVars sheet i extras t s =
 
 -- ---- first uses
 
+-- 12 at a use that stands before the variable w.
 abbrev pub usedBeforeAt : Option Span → Row → Option Fault
 usedBeforeAt none w = none
 usedBeforeAt (some p) w = cond (isBefore (some p) w) (some (usedBefore (p .line) (p .col))) none
@@ -46,6 +48,7 @@ checkAssigned check t s = cond check (foldl checkFirstUse s (filter (λ w. isLoc
 
 -- ---- definitions of statement i
 
+-- A definition of x (`definitions.push`).
 unfoldable pub recordOne : ℕ → ℕ → List ℕ → State → State
 recordOne i x used s = addDefinitions (define i x used ∷ []) s
 
@@ -54,6 +57,7 @@ unfoldable pub recordEach : ℕ → List ℕ → (ℕ → List ℕ) → State �
 recordEach i [] used s = recordOne i 0 (used 0) s
 recordEach i (x ∷ names) used s = addDefinitions (map (λ y. define i y (used y)) (x ∷ names)) s
 
+-- A definition of the empty name where the list is empty.
 abbrev pub unlessSome : List Definition → ℕ → State → State
 unlessSome [] i s = recordOne i 0 [] s
 unlessSome (d ∷ defs) i s = s

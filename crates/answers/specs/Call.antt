@@ -77,6 +77,7 @@ leftBy tables work room (answered text) = record {
   answer = text ++ replicate (room - length text) 0;
 }
 
+-- All that the call leaves.
 unfoldable pub left : List ℕ → ℕ → ℕ → ℕ → Left
 left s tables work room = leftBy tables work room (result s tables work room)
 

@@ -17,6 +17,7 @@ module _ (sheet : Sheet) (parents : List Scope) where
   gatherExtraArg none s = s
   gatherExtraArg (some e) s = gatherVars sheet parents false s e
 
+  -- `Literal::Expr` and `Literal::NotExpr`: an assignment binds; any other expression is read, and its extra argument binds.
   unfoldable pub gatherExpr : Scope → Tree → Scope
   gatherExpr s e =
       cond (isAssign (rowOf e)) (gatherVars sheet parents false s e) (gatherExtraArg (getExtraArg sheet e) (gatherRead sheet parents s e))

@@ -14,6 +14,7 @@ pub record Span : Type 0 where
   pub line : ℕ
   pub col : ℕ
 
+-- A variable's span.
 abbrev pub spanOf : Row → Span
 spanOf w = record { name = w .name; line = w .line; col = w .col }
 
@@ -34,12 +35,15 @@ noScope = record { locals = []; unscoped = empty; inputs = empty; usesInput = fa
 
 -- ---- what a gathering step adds
 
+-- `scope.locals.insert`.
 unfoldable pub addLocal : Scope → Row → Scope
 addLocal s w = record { locals = spanOf w ∷ s .locals; unscoped = s .unscoped; inputs = s .inputs; usesInput = s .usesInput }
 
+-- `scope.unscoped.insert`.
 unfoldable pub addUnscoped : Scope → ℕ → Scope
 addUnscoped s x = record { locals = s .locals; unscoped = insert (s .unscoped) x; inputs = s .inputs; usesInput = s .usesInput }
 
+-- `scope.inputs.insert`.
 unfoldable pub addInput : Scope → ℕ → Scope
 addInput s x = record { locals = s .locals; unscoped = s .unscoped; inputs = insert (s .inputs) x; usesInput = s .usesInput }
 
@@ -62,6 +66,7 @@ removeShadowed s = record {
 
 -- ---- what is asked of a scope
 
+-- `scope.locals.contains_key`.
 abbrev pub isLocal : Scope → ℕ → Bool
 isLocal s x = isSome (spanIn (s .locals) x)
 

@@ -36,6 +36,7 @@ abbrev pub own : Row → Tree → List Event
 own w e = cond (isVar w) (seen w ∷ []) (cond (isCompr w) (met e ∷ []) [])
 
 module _ (sheet : Sheet) (s : Scope) (extras : List ℕ) (i : ℕ) where
+  -- The names that an event adds to `used_vars`.
   abbrev pub usedIn : Event → List ℕ
   usedIn (seen w) = cond (isUse sheet s extras w) (w .name ∷ []) []
   usedIn (met e) = []
@@ -46,10 +47,12 @@ module _ (sheet : Sheet) (s : Scope) (extras : List ℕ) (i : ℕ) where
   abbrev pub indexed : List Event → ℕ → List Event
   indexed k x = defined (define i x (concatMap usedIn k)) ∷ used x ∷ []
 
+  -- At an expression, where its fields' walks are a, b and c: a bracket's own names come first, each after another walk of what is indexed.
   abbrev pub rustNode : Bool → List Event → Enters → List ℕ → List Event → List Event → List Event → List Event
   rustNode true o en xs a b c = concatMap (λ x. a ++ indexed a x) xs ++ (a ++ (b ++ c))
   rustNode false o en xs a b c = o ++ entered en a b c
 
+  -- The same without the repeats.
   abbrev pub onceNode : Bool → List Event → Enters → List ℕ → List Event → List Event → List Event → List Event
   onceNode true o en xs a b c = a ++ (concatMap (indexed a) xs ++ (b ++ c))
   onceNode false o en xs a b c = o ++ entered en a b c
