@@ -4,3 +4,4 @@ pub mod Call
 pub mod ReadNames
 pub mod NeverAnalysed
 pub mod ReadSheet
+pub mod Decimals
