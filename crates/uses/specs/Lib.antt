@@ -4,4 +4,5 @@ pub mod Repeats
 pub mod RustWalk
 pub mod OnceLists
 pub mod Takers
+pub mod MoreTakers
 pub mod SameAnswers

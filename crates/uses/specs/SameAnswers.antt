@@ -18,7 +18,8 @@ use Rattle.uses.specs.Uses.{isUndefined, undefinedVar, isUse, usedVars, 
 use Rattle.uses.specs.FirstUses.{addFirstUse}
 use Rattle.uses.specs.RustWalk.{Event, seen, met, used, defined, usedIn, rust, once, same, same-used}
 use Rattle.uses.specs.OnceLists.{seenIn, metIn, definedIn, vars-once, comprs-once, uses-once, defs-once, elem-any}
-use Rattle.uses.specs.Takers.{keepFirst, faultStep, firstStep, comprStep, defStep, same-fault, same-firsts, same-comprs, same-defs}
+use Rattle.uses.specs.Takers.{keepFirst, faultStep, firstStep, same-fault, same-firsts}
+use Rattle.uses.specs.MoreTakers.{comprStep, defStep, same-comprs, same-defs}
 
 -- A query that is not on a list yet comes in front.
 abbrev pub addNew : List ℕ → ℕ → List ℕ
