@@ -1,6 +1,6 @@
 -- Every statement of a query that is analysed records at least one definition.
 use mathlib.Core.Path.{_≡_, refl, sym, subst}
-use mathlib.Core.Bool.{Bool, true}
+use mathlib.Core.Bool.{true}
 use mathlib.Core.List.{List, [], _∷_, foldl, List·Memᴰ, List·Memᴰ·cases-cons, List·Memᴰ·not-nil}
 use mathlib.Core.Logic.{⊎-elim}
 use Prim.Native.Nat.{ℕ, zero, suc, _<_}
@@ -21,7 +21,7 @@ use Rattle.analysis.specs.States.{Fault, sound, undefined, usedBefore, l
 use Rattle.analysis.specs.Comprs.{Nested}
 use Rattle.analysis.specs.Statements.{processStmts}
 use Rattle.analysis.specs.Queries.{scheduled, analyzeOutputExpr, analyzeQuery, analyze, analyzeQuerySnippet}
-use Rattle.analysis.specs.Steps.{Kept, Holds, Keeps}
+use Rattle.analysis.specs.Steps.{Kept}
 use Rattle.analysis.specs.StatementSteps.{good-stmts, good-outputs}
 use Rattle.analysis.specs.Faulty.{isSound, sound-before, outputs-faulty}
 use Rattle.analysis.specs.EachStatement.{has, stmts-recorded, outputs-keep}

@@ -1,9 +1,9 @@
 -- A query's statements that end without a fault have a definition each.
-use mathlib.Core.Path.{_≡_, refl, sym, ap, _∙_, subst}
-use mathlib.Core.Bool.{Bool, true, false, cond}
+use mathlib.Core.Path.{_≡_, refl, ap, _∙_, subst}
+use mathlib.Core.Bool.{Bool, true, false}
 use mathlib.Core.List.{List, [], _∷_, _++_, foldl}
-use mathlib.Core.Logic.{_⊎_, inl, inr, ⊎-elim}
-use Prim.Native.Nat.{ℕ, zero, suc, _+_, _≤_, _<_}
+use mathlib.Core.Logic.{_⊎_, inl, inr}
+use Prim.Native.Nat.{ℕ, suc, _+_, _≤_, _<_}
 use native.Mathlib.Omega.{arith}
 use lib.Dec.{eqb}
 use lib.ListN.{length}
@@ -12,19 +12,19 @@ use Rattle.basics.specs.Truth.{bool-cases, eq-cases, not-both}
 use Rattle.turns.specs.Definitions.{Definition, ofStatement}
 use Rattle.turns.specs.PlainWalk.{some}
 use Rattle.trees.specs.ListLaws.{all-always}
-use Rattle.trees.specs.Sheet.{Sheet, Row}
+use Rattle.trees.specs.Sheet.{Sheet}
 use Rattle.trees.specs.Trees.{Tree}
 use Rattle.trees.specs.Statements.{Stmt}
 use Rattle.trees.specs.TreeRows.{allRows, any-rows}
 use Rattle.trees.specs.StatementRows.{stmtRows, any-stmt}
 use Rattle.scopes.specs.Scopes.{Scope}
 use Rattle.uses.specs.Uses.{define}
-use Rattle.analysis.specs.States.{QuerySchedule, Run, State, addDefinitions, ifSound, inTurn}
+use Rattle.analysis.specs.States.{QuerySchedule, State, addDefinitions, ifSound, inTurn}
 use Rattle.analysis.specs.Using.{gatherUsedVars, recordOne, unlessSome, atLeastOne}
 use Rattle.analysis.specs.Comprs.{Nested}
 use Rattle.analysis.specs.Statements.{modsOf, processLiteral, processStmt, processStmts}
 use Rattle.analysis.specs.Queries.{analyzeOutputExpr}
-use Rattle.analysis.specs.Steps.{Kept, Holds, Keeps}
+use Rattle.analysis.specs.Steps.{Kept}
 use Rattle.analysis.specs.StatementSteps.{good-stmts, good-outputs}
 use Rattle.analysis.specs.Faulty.{isSound, soundState, if-faulty, if-sound, sound-before, stmts-faulty}
 

@@ -2,7 +2,7 @@
 -- rows pass goes along, so that it is known of a nested query's outputs.
 use mathlib.Core.Path.{_≡_, refl}
 use mathlib.Core.Bool.{Bool, true, false, cond, not, _&&_}
-use mathlib.Core.List.{List, [], _∷_, _++_, map, foldl}
+use mathlib.Core.List.{List, [], _∷_, _++_, foldl}
 use mathlib.Core.Option.{Option, none, some}
 use Prim.Native.Nat.{ℕ}
 use lib.Dec.{eqb, ltb}
@@ -16,16 +16,16 @@ use Rattle.trees.specs.Sheet.{Sheet, Row, nameBound}
 use Rattle.trees.specs.Kinds.{isArray, isAssign, isColEq}
 use Rattle.trees.specs.Trees.{Tree, nil, node, rowOf, firstOf, secondOf, chain, outputsOf}
 use Rattle.trees.specs.Traverse.{comprs}
-use Rattle.trees.specs.TreeRows.{allRows, Parts, parts, alone, comprs-rows, outputs-rows, first-rows, second-rows}
+use Rattle.trees.specs.TreeRows.{allRows, parts, alone, comprs-rows, outputs-rows, first-rows, second-rows}
 use Rattle.scopes.specs.NameSets.{NameSet, contains, elements}
 use Rattle.scopes.specs.Scopes.{Scope, owns, addUnscoped}
 use Rattle.uses.specs.Uses.{assignedVars}
-use Rattle.analysis.specs.States.{lengths, QuerySchedule, Run, State, scheduleOf, setScope, setRun, fail, inTurn}
+use Rattle.analysis.specs.States.{lengths, QuerySchedule, Run, State, scheduleOf, setScope, setRun, fail}
 use Rattle.analysis.specs.Using.{gatherUsedVars, checkAssigned, recordOne, recordEach}
 use Rattle.analysis.specs.Comprs.{Nested, Mods, propagate, useCompr, allUsed, unlessScheduled, analyzeCompr, processCompr, processComprs, useExpr}
 use Rattle.analysis.specs.Exprs.{Pairing, pair, mismatch, pairings, assignOneWay, assignPairing, processAssignExpr, processPlainExpr, processExpr, extraVars, processExtraArg, processCall}
 use Rattle.analysis.specs.Own.{Grows, grows-unscoped, all-unscoped, assigned-own, all-used-own}
-use Rattle.analysis.specs.Steps.{Kept, Holds, Keeps, Good, good-same, good-end, good-then, good-fold, good-run, good-fail, good-scope, extras-kept, good-used, good-propagate, good-use-compr, good-one, good-each, good-check-assigned}
+use Rattle.analysis.specs.Steps.{Kept, Keeps, Good, good-same, good-end, good-then, good-fold, good-run, good-fail, good-scope, extras-kept, good-used, good-propagate, good-use-compr, good-one, good-each, good-check-assigned}
 
 -- Names that a set lists lie below the bound.
 pub elements-below : (s : NameSet) → all (λ x. ltb x nameBound) (elements s) ≡ true

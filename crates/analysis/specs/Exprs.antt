@@ -1,6 +1,6 @@
 -- Plain expressions, assignments and extra arguments (scheduler.rs, `process_expr`, `process_assign_expr`, and `Literal::Expr` of
 -- `analyze_query`).
-use mathlib.Core.Bool.{Bool, true, false, cond, not, _&&_}
+use mathlib.Core.Bool.{Bool, false, cond, not, _&&_}
 use mathlib.Core.List.{List, [], _∷_, _++_, foldl}
 use mathlib.Core.Option.{Option, none, some}
 use Prim.Native.Nat.{ℕ}

@@ -1,5 +1,5 @@
 -- After a fault nothing more is done: so what ends without a fault had none before.
-use mathlib.Core.Path.{_≡_, refl, sym, ap, _∙_}
+use mathlib.Core.Path.{_≡_, refl, ap, _∙_}
 use mathlib.Core.Bool.{Bool, true, false}
 use mathlib.Core.List.{List, [], _∷_, foldl}
 use mathlib.Core.Logic.{⊎-elim}
@@ -10,7 +10,7 @@ use Rattle.trees.specs.Trees.{Tree}
 use Rattle.trees.specs.Traverse.{comprs}
 use Rattle.trees.specs.Statements.{Stmt}
 use Rattle.scopes.specs.Scopes.{Scope}
-use Rattle.analysis.specs.States.{Fault, sound, undefined, usedBefore, lengths, indexVariable, Run, State, ifSound, inTurn}
+use Rattle.analysis.specs.States.{Fault, sound, undefined, usedBefore, lengths, indexVariable, State, ifSound, inTurn}
 use Rattle.analysis.specs.Comprs.{Nested, propagate, analyzeCompr}
 use Rattle.analysis.specs.Statements.{processStmt, processStmts}
 use Rattle.analysis.specs.Queries.{outputScope, outputCompr, analyzeOutputExpr}

@@ -1,6 +1,6 @@
 -- What a query records is named below the bound, in every sheet whose names lie below it: what the theorems about the turn rule ask for.
-use mathlib.Core.Path.{_≡_, refl, sym, ap, _∙_, subst}
-use mathlib.Core.Bool.{Bool, true, false, cond, _||_}
+use mathlib.Core.Path.{_≡_, refl, sym, ap}
+use mathlib.Core.Bool.{true, false, _||_}
 use mathlib.Core.List.{List, [], _∷_, List·Memᴰ, List·Memᴰ·head, List·Memᴰ·tail, List·Memᴰ·not-nil}
 use mathlib.Core.Logic.{_⊎_, inl, inr, ⊎-elim}
 use mathlib.Core.Option.{Option, none, some}
@@ -8,23 +8,21 @@ use Prim.Native.Nat.{ℕ, _<_}
 use native.Mathlib.Omega.{arith}
 use lib.Dec.{eqb, ltb}
 use borrow.Author.Tests.{eqb-true, ltb-true}
-use Rattle.basics.specs.Truth.{bool-cases, not-both, and-left, or-cases}
+use Rattle.basics.specs.Truth.{bool-cases, and-left, or-cases}
 use Rattle.basics.specs.Lists.{all}
 use Rattle.basics.specs.Members.{all-mem}
 use Rattle.turns.specs.Definitions.{Definition, Named}
-use Rattle.trees.specs.Lists.{find}
-use Rattle.trees.specs.Sheet.{Sheet, Row, nameBound}
-use Rattle.trees.specs.Trees.{Tree}
+use Rattle.trees.specs.Sheet.{Sheet, nameBound}
 use Rattle.trees.specs.Statements.{stmtsOf}
 use Rattle.trees.specs.StatementRows.{stmts-rows}
 use Rattle.scopes.specs.Scopes.{Scope, owns}
 use Rattle.scopes.specs.Below.{nameBelow, Below, unscoped-below, input-below, flag-below, gathered-below}
-use Rattle.analysis.specs.States.{QuerySchedule, Run, scheduleOf}
+use Rattle.analysis.specs.States.{QuerySchedule, scheduleOf}
 use Rattle.analysis.specs.Queries.{analyzeQuerySnippet, scheduleIn, definitionsIn, recorded}
 use Rattle.analysis.specs.Own.{ownDefinition}
 use Rattle.analysis.specs.Steps.{Kept}
 use Rattle.analysis.specs.Schedules.{Each, every-schedule}
-use Rattle.analysis.specs.OwnNames.{OwnNames, own-names}
+use Rattle.analysis.specs.OwnNames.{own-names}
 
 -- The names of all rows lie below the bound.
 abbrev pub NamesBelow : Sheet → Type 0

@@ -1,13 +1,12 @@
 -- Every name in a recorded definition is the empty name, or one that the query's own answer lists as local or unscoped.
 use mathlib.Core.Path.{_≡_, refl}
-use mathlib.Core.Bool.{Bool, true}
-use mathlib.Core.List.{List, [], List·Memᴰ}
+use mathlib.Core.Bool.{true}
+use mathlib.Core.List.{List}
 use Rattle.basics.specs.Lists.{all}
 use Rattle.turns.specs.Definitions.{Definition}
 use Rattle.trees.specs.ListLaws.{all-append, all-weaken, all-always}
 use Rattle.trees.specs.Sheet.{Sheet, Row}
 use Rattle.scopes.specs.Scopes.{Scope, addUnscoped, addInput, useInput}
-use Rattle.analysis.specs.States.{QuerySchedule, Run}
 use Rattle.analysis.specs.Queries.{analyzeQuerySnippet}
 use Rattle.analysis.specs.Own.{ownDefinition, Grows, own-grows, grows-flag, grows-input, grows-one}
 use Rattle.analysis.specs.Steps.{Kept}

@@ -1,6 +1,6 @@
 -- The analysis of a query depends on the scopes around it only by which variables exist in them.
 use mathlib.Core.Path.{_≡_, refl, ap, _∙_, fun-ext}
-use mathlib.Core.Bool.{Bool, true, false, cond, not}
+use mathlib.Core.Bool.{Bool, false, cond, not}
 use mathlib.Core.List.{List, [], _∷_, _++_, map, foldl}
 use mathlib.Core.Option.{Option, none, some}
 use Prim.Native.Nat.{ℕ, zero, suc}
@@ -16,7 +16,6 @@ use Rattle.trees.specs.Paths.{getExtraArg}
 use Rattle.trees.specs.Statements.{Literal, someVars, someIn, expr, notExpr, every, Stmt, stmtsOf}
 use Rattle.scopes.specs.NameSets.{elements}
 use Rattle.scopes.specs.Scopes.{Scope, noScope, spanOf, addLocal, addUnscoped}
-use Rattle.scopes.specs.Gather.{gatherAssignedVars}
 use Rattle.scopes.specs.GatherLocals.{gatherLocalVars}
 use Rattle.scopes.specs.SameParents.{SameParents, same-below, foldl-same, assigned-same, gathered-same}
 use Rattle.uses.specs.Uses.{define, assignedVars, indexDefinitions}

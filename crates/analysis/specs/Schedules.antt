@@ -20,7 +20,7 @@ use Rattle.analysis.specs.States.{Fault, sound, undefined, usedBefore, l
 use Rattle.analysis.specs.Comprs.{Nested}
 use Rattle.analysis.specs.Statements.{processStmts}
 use Rattle.analysis.specs.Queries.{scheduled, analyzeOutputExpr, analyzeQuery, analyze, analyzeQuerySnippet}
-use Rattle.analysis.specs.Steps.{Kept, Holds, Keeps}
+use Rattle.analysis.specs.Steps.{Kept, Holds}
 use Rattle.analysis.specs.StatementSteps.{good-stmts, good-outputs}
 
 -- Each schedule on the list has S.

@@ -1,5 +1,5 @@
 -- `some .. in ..` (scheduler.rs, `gather_some_vars`, and `Literal::SomeIn` of `analyze_query`).
-use mathlib.Core.Bool.{Bool, not, _||_, _&&_}
+use mathlib.Core.Bool.{not, _||_, _&&_}
 use mathlib.Core.List.{List, [], _∷_, _++_, map, foldl}
 use Prim.Native.Nat.{ℕ}
 use Rattle.basics.specs.Lists.{filter}

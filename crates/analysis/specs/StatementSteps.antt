@@ -1,12 +1,11 @@
 -- What the analysis of a query's statements and outputs keeps, if the analysis of nested queries keeps R.
 use mathlib.Core.Path.{_≡_, refl}
-use mathlib.Core.Bool.{Bool, true, false, not, _||_, _&&_}
+use mathlib.Core.Bool.{Bool, true, not, _||_, _&&_}
 use mathlib.Core.List.{List, [], _∷_, _++_, map, foldl}
-use mathlib.Core.Option.{Option}
 use Prim.Native.Nat.{ℕ, suc}
 use lib.Dec.{eqb}
-use Rattle.basics.specs.Truth.{and-intro, and-left, and-right, or-right}
-use Rattle.basics.specs.Lists.{all, filter}
+use Rattle.basics.specs.Truth.{and-left, and-right, or-right}
+use Rattle.basics.specs.Lists.{all}
 use Rattle.turns.specs.Definitions.{Definition}
 use Rattle.trees.specs.Lists.{concatMap}
 use Rattle.trees.specs.ListLaws.{all-append, all-weaken, all-kept, all-filter, all-map, all-concatMap, concatMap-always}

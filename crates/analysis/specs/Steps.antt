@@ -1,7 +1,7 @@
 -- What the steps of a query's analysis keep: a property S of its scope and its definitions that each change keeps, and a property R of
 -- the schedules. Here: steps that analyse no nested query.
 use mathlib.Core.Path.{_≡_, refl}
-use mathlib.Core.Bool.{Bool, true, false, cond, not, _||_}
+use mathlib.Core.Bool.{Bool, true, false, not, _||_}
 use mathlib.Core.List.{List, [], _∷_, _++_, map, foldl}
 use mathlib.Core.Option.{Option, none, some}
 use Prim.Native.Nat.{ℕ}
@@ -18,7 +18,7 @@ use Rattle.uses.specs.Uses.{define, readsInput, undefinedVar, variablesUsed, in
 use Rattle.analysis.specs.States.{Fault, sound, undefined, usedBefore, lengths, indexVariable, QuerySchedule, Run, State, setScope, addFirstUses, addDefinitions, setRun, fail, ifSound, inTurn, failOr}
 use Rattle.analysis.specs.Using.{undefinedAt, gatherUsedVars, usedBeforeAt, checkFirstUse, checkAssigned, recordOne, recordEach, unlessSome, atLeastOne}
 use Rattle.analysis.specs.Comprs.{comprScope, comprInputs, comprsUse, propagate, useCompr}
-use Rattle.analysis.specs.Own.{ownDefinition, Grows, own-grows, define-own, grows-flag, grows-inputs, grows-unscoped, index-own}
+use Rattle.analysis.specs.Own.{ownDefinition, Grows, own-grows, define-own, grows-flag, grows-inputs, index-own}
 
 -- Each change keeps S: names are added to the inputs or, from an extra argument, to unscoped; the flag is set; own definitions are recorded.
 pub record Kept (S : Scope → List Definition → Type 0) : Type 0 where

@@ -1,6 +1,6 @@
 -- The whole call: what it comes to and what it leaves, as functions of the sheet's bytes and of how long the lent buffers are.
-use mathlib.Core.Bool.{Bool, cond}
-use mathlib.Core.List.{List, [], _∷_, _++_}
+use mathlib.Core.Bool.{cond}
+use mathlib.Core.List.{List, _++_}
 use Prim.Native.Nat.{ℕ, _-_}
 use lib.Dec.{leb}
 use lib.ListN.{length, replicate}

@@ -1,6 +1,6 @@
 -- A query that is never analysed has placed 2, input 0 and no other row.
 use mathlib.Core.Path.{_≡_, refl}
-use mathlib.Core.List.{List, [], _∷_}
+use mathlib.Core.List.{[], _∷_}
 use mathlib.Core.Option.{Option, none}
 use Prim.Native.Nat.{ℕ}
 use Rattle.trees.specs.Sheet.{Sheet}

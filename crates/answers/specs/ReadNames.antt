@@ -1,37 +1,35 @@
 -- In every sheet that passes questions 1 to 6, names lie below the bound: so demand 3 holds of each of its queries.
-use mathlib.Core.Path.{_≡_, refl, sym, ap, _∙_, subst}
+use mathlib.Core.Path.{_≡_, refl, sym, subst}
 use mathlib.Core.Bool.{Bool, true, false, cond, _&&_, _||_}
-use mathlib.Core.List.{List, [], _∷_, map}
+use mathlib.Core.List.{List, [], _∷_}
 use mathlib.Core.List.{List·Memᴰ·head}
 use mathlib.Core.Logic.{_⊎_, inl, inr, ⊎-elim}
 use Prim.Native.Nat.{ℕ, zero, suc, _+_, _-_, _≤_, _<_}
 use native.Mathlib.Omega.{arith}
-use lib.Dec.{eqb, leb, ltb}
+use lib.Dec.{eqb, leb}
 use lib.ListN.{getD}
 use borrow.Author.Tests.{eqb-true, lt-ltb, leb-true, le-leb}
 use Rattle.basics.specs.Truth.{bool-cases, lt-cases, and-intro, and-left, and-right, or-cases}
 use Rattle.basics.specs.Lists.{all}
 use Rattle.basics.specs.Ranges.{counted, range}
 use Rattle.text.specs.Sections.{sections}
-use Rattle.text.specs.Counts.{overLine, noQueryLine, countFault}
+use Rattle.text.specs.Counts.{overLine, countFault}
 use Rattle.text.specs.Questions.{shortEnough, formFault, namesFault, countsFault, rowCounts}
 use Rattle.records.specs.declared.Counts.{Counts}
 use Rattle.records.specs.Layout.{exprAt}
 use Rattle.fields.specs.Fields.{fieldFrom, kinds, kindFields, limitOf}
 use Rattle.naming.specs.Entries.{exprEntry, exprEntries}
-use Rattle.naming.specs.Faults.{isMember}
-use Rattle.naming.specs.Lines.{firstLine}
 use Rattle.accepted.specs.Accepted.{Accepted, accepted}
-use Rattle.accepted.specs.Rows.{FineExpr, fine-expr-row}
+use Rattle.accepted.specs.Rows.{fine-expr-row}
 use Rattle.trees.specs.ListLaws.{all-getD, all-map}
-use Rattle.trees.specs.Sheet.{Sheet, Row, rowAt, rowsTo, sheetOf}
+use Rattle.trees.specs.Sheet.{rowAt, rowsTo, sheetOf}
 use Rattle.scopes.specs.Below.{nameBelow}
 use Rattle.analysis.specs.Queries.{recorded}
 use Rattle.analysis.specs.Named.{NamesBelow}
 use Rattle.analysis.specs.PlainWalks.{PlainWalks, plain-walks}
 use Rattle.sheet.specs.declared.Outcome.{Outcome}
 use Rattle.sheet.specs.declared.Outcome.the-variants.{Read, NoRoom, TooLong, BadForm, BadName, BadCount, BadField}
-use Rattle.sheet.specs.Verdict.{countsOf, specialOf, rowTables, fieldsFault, asked, verdict}
+use Rattle.sheet.specs.Verdict.{countsOf, rowTables, fieldsFault, asked, verdict}
 use Rattle.answers.specs.Call.{sheetIn}
 
 -- ---- questions 5 and 6

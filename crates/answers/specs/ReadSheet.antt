@@ -1,13 +1,13 @@
 -- The sheet in the tables that the reader leaves, whose first entries hold counts and special names, is the sheet in the bytes.
-use mathlib.Core.Path.{_≡_, refl, sym, ap, _∙_}
+use mathlib.Core.Path.{_≡_, refl, _∙_}
 use mathlib.Core.List.{List, [], _∷_, map}
 use Prim.Native.Nat.{ℕ, zero, suc, _+_, _-_, _*_, _≤_, _<_}
 use native.Mathlib.Omega.{arith}
 use lib.ListN.{length, getD, set}
 use lib.Seq.{sets}
 use Rattle.basics.specs.Ranges.{counted, range}
-use Rattle.records.specs.Layout.{builtinAt, exprAt, statementAt, firstAt}
-use Rattle.trees.specs.Sheet.{Sheet, rowAt, rowsTo, sheetOf}
+use Rattle.records.specs.Layout.{builtinAt, statementAt, firstAt}
+use Rattle.trees.specs.Sheet.{rowAt, rowsTo, sheetOf}
 use Rattle.sheet.specs.Verdict.{countsOf, specialOf, rowTables, headOf, readTables}
 use Rattle.answers.specs.Call.{sheetIn}
 

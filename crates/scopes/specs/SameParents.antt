@@ -1,6 +1,6 @@
 -- What is gathered depends on the parents only by which variables exist in them.
 use mathlib.Core.Path.{_≡_, refl, ap, _∙_}
-use mathlib.Core.Bool.{Bool, true, false, cond}
+use mathlib.Core.Bool.{Bool, true, false}
 use mathlib.Core.List.{List, [], _∷_, foldl}
 use mathlib.Core.Option.{Option, none, some}
 use Rattle.trees.specs.Sheet.{Sheet, Row}

@@ -1,5 +1,5 @@
 -- A query's scope (traversal.rs, `Scope`), and whether a variable exists in the scopes around it.
-use mathlib.Core.Bool.{Bool, true, false, _||_}
+use mathlib.Core.Bool.{Bool, false, _||_}
 use mathlib.Core.List.{List, [], _∷_, foldl}
 use mathlib.Core.Option.{Option, none, some}
 use Prim.Native.Nat.{ℕ}

@@ -1,25 +1,22 @@
 -- After gathering, a local is neither an input nor unscoped; and an input was found in a scope around the query.
-use mathlib.Core.Path.{_≡_, refl, sym, ap, _∙_}
-use mathlib.Core.Bool.{Bool, true, false, not, cond, _||_, _&&_}
+use mathlib.Core.Path.{_≡_, refl, sym}
+use mathlib.Core.Bool.{true, false}
 use mathlib.Core.List.{List, [], _∷_}
 use mathlib.Core.Logic.{_⊎_, inl, inr, ⊎-elim}
-use mathlib.Core.Option.{Option, none, some}
 use Prim.Native.Nat.{ℕ}
 use lib.Dec.{eqb}
 use borrow.Author.Tests.{eqb-true, eq-eqb}
 use Rattle.basics.specs.Truth.{bool-cases, not-both, or-cases}
-use Rattle.basics.specs.Lists.{all}
 use Rattle.trees.specs.Lists.{isSome}
 use Rattle.trees.specs.ListLaws.{all-always}
 use Rattle.trees.specs.Sheet.{Sheet, Row}
-use Rattle.trees.specs.Trees.{Tree, noRow}
+use Rattle.trees.specs.Trees.{Tree}
 use Rattle.trees.specs.Statements.{Stmt}
 use Rattle.trees.specs.TreeRows.{allRows, any-rows}
 use Rattle.trees.specs.StatementRows.{stmtRows, any-stmt}
 use Rattle.scopes.specs.NameSets.{NameSet, empty, contains, insert, remove}
 use Rattle.scopes.specs.Scopes.{Span, spanIn, Scope, noScope, isLocal, addLocal, addUnscoped, addInput, useInput, removeAll, removeShadowed, varExists}
-use Rattle.scopes.specs.Gather.{gatherVars}
-use Rattle.scopes.specs.GatherLocals.{gatherStmt, gatherLocalVars}
+use Rattle.scopes.specs.GatherLocals.{gatherLocalVars}
 use Rattle.scopes.specs.GatherLaws.{Kept, gathered}
 use Rattle.scopes.specs.Below.{removed-from}
 

@@ -1,12 +1,12 @@
 -- In a sheet that passes question 6 the fields of expressions name later rows: so the laws of walks over rows hold.
 use mathlib.Core.Path.{_≡_, refl, sym, ap, _∙_, subst}
-use mathlib.Core.Bool.{Bool, true, false, cond, _&&_, _||_}
-use mathlib.Core.List.{List, [], _∷_}
+use mathlib.Core.Bool.{Bool, true, false, _&&_, _||_}
+use mathlib.Core.List.{List}
 use mathlib.Core.Logic.{_⊎_, inl, inr, ⊎-elim}
-use Prim.Native.Nat.{ℕ, zero, suc, _+_, _/_, _≤_, _<_}
+use Prim.Native.Nat.{ℕ, zero, suc, _/_, _≤_, _<_}
 use native.Mathlib.Omega.{arith}
 use lib.Dec.{eqb, leb}
-use lib.ListN.{length, getD}
+use lib.ListN.{length}
 use borrow.Author.Tests.{eqb-true}
 use Rattle.basics.specs.Truth.{bool-cases, and-left, and-right, or-cases}
 use Rattle.basics.specs.Lists.{all, all-elem}
@@ -14,14 +14,12 @@ use Rattle.basics.specs.Ranges.{range, elem-range}
 use Rattle.records.specs.declared.Counts.{Counts}
 use Rattle.records.specs.declared.Statement.{Statement}
 use Rattle.records.specs.Layout.{exprAt, statementAt}
-use Rattle.fields.specs.declared.Field.{Field}
 use Rattle.fields.specs.Fields.{expressions, fieldFrom, first, second, third, kinds, kindFields, limitOf}
-use Rattle.accepted.specs.Facts.{Onward, Part, ExprFacts, StatementFacts, SheetFacts}
+use Rattle.accepted.specs.Facts.{Onward, Part, ExprFacts, SheetFacts}
 use Rattle.spelling.specs.declared.Special.{Special}
-use Rattle.trees.specs.Sheet.{Sheet, Row, rowAt, sheetOf}
-use Rattle.trees.specs.Kinds.{isCompr}
+use Rattle.trees.specs.Sheet.{Row, rowAt, sheetOf}
 use Rattle.trees.specs.Trees.{thirdOf}
-use Rattle.trees.specs.RowWalks.{rowIn, After, FieldsAfter, Ordered}
+use Rattle.trees.specs.RowWalks.{rowIn, FieldsAfter, Ordered}
 use Rattle.trees.specs.Statements.{noStatement}
 use Rattle.trees.specs.StatementWalks.{statementIn, Onwards}
 use Rattle.trees.specs.TableRows.{exprs-length, expr-row, statements-length, statement-row}

@@ -1,7 +1,7 @@
 -- A test that all rows of a sheet pass is passed by the rows of its statements' trees.
 use mathlib.Core.Path.{_≡_, refl}
 use mathlib.Core.Bool.{Bool, true, false, cond, _&&_}
-use mathlib.Core.List.{List, [], _∷_}
+use mathlib.Core.List.{_∷_}
 use Prim.Native.Nat.{ℕ, zero, suc}
 use lib.Dec.{eqb}
 use lib.ListN.{length, getD}
@@ -10,7 +10,7 @@ use Rattle.basics.specs.Lists.{all}
 use Rattle.records.specs.declared.Statement.{Statement}
 use Rattle.trees.specs.ListLaws.{all-always}
 use Rattle.trees.specs.Sheet.{Sheet, Row}
-use Rattle.trees.specs.Trees.{Tree, noRow, treeAt, chain}
+use Rattle.trees.specs.Trees.{Tree, noRow, treeAt}
 use Rattle.trees.specs.TreeRows.{allRows, any-rows, chain-rows, tree-rows}
 use Rattle.trees.specs.Statements.{Literal, someVars, someIn, expr, notExpr, every, Stmt, noStatement, literalOf, stmtsFrom, stmtsOf}
 

@@ -1,6 +1,6 @@
 -- The rows of a sheet are those that stand in the tables.
 use mathlib.Core.Path.{_≡_, refl, ap, _∙_}
-use mathlib.Core.List.{List, [], _∷_, map}
+use mathlib.Core.List.{List, _∷_, map}
 use Prim.Native.Nat.{ℕ, zero, suc, _+_, _-_, _≤_, _<_}
 use native.Mathlib.Omega.{arith}
 use lib.ListN.{length, getD}
@@ -10,7 +10,7 @@ use Rattle.records.specs.declared.Builtin.{Builtin}
 use Rattle.records.specs.declared.Statement.{Statement}
 use Rattle.records.specs.Layout.{builtinAt, statementAt, firstAt}
 use Rattle.spelling.specs.declared.Special.{Special}
-use Rattle.trees.specs.Sheet.{Sheet, Row, rowAt, rowsTo, sheetOf}
+use Rattle.trees.specs.Sheet.{rowAt, rowsTo, sheetOf}
 use Rattle.trees.specs.Trees.{noRow}
 use Rattle.trees.specs.RowWalks.{rowIn}
 

@@ -8,7 +8,7 @@ use lib.Dec.{eqb}
 use borrow.Author.Tests.{eq-eqb}
 use Rattle.basics.specs.Truth.{or-left, or-right}
 use Rattle.turns.specs.Definitions.{Definition}
-use Rattle.trees.specs.Lists.{any, isSome}
+use Rattle.trees.specs.Lists.{any}
 use Rattle.trees.specs.Sheet.{Sheet}
 use Rattle.trees.specs.Trees.{Tree, rowOf}
 use Rattle.scopes.specs.Scopes.{Scope}

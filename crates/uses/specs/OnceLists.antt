@@ -13,10 +13,10 @@ use Rattle.turns.specs.Definitions.{Definition}
 use Rattle.trees.specs.Lists.{concatMap, any}
 use Rattle.trees.specs.Sheet.{Sheet, Row}
 use Rattle.trees.specs.Kinds.{isVar, isCompr, isRefBrack}
-use Rattle.trees.specs.Trees.{Tree, nil, node, rowOf, firstOf}
-use Rattle.trees.specs.Traverse.{Enters, nothing, params, fields, enters, entered, traverse, vars, comprs}
+use Rattle.trees.specs.Trees.{Tree, nil, node, rowOf}
+use Rattle.trees.specs.Traverse.{Enters, nothing, enters, entered, traverse, vars, comprs}
 use Rattle.scopes.specs.Scopes.{Scope}
-use Rattle.uses.specs.Uses.{define, assignedVars, indexVars, isUse, usedAt, usedVars, indexDefinitionsAt, indexDefinitions}
+use Rattle.uses.specs.Uses.{define, indexVars, isUse, usedAt, usedVars, indexDefinitionsAt, indexDefinitions}
 use Rattle.uses.specs.Repeats.{concatMap-append, concatMap-entered, any-append, any-swap, any-entered}
 use Rattle.uses.specs.RustWalk.{Event, seen, met, used, defined, usedIn, own, indexed, onceNode, once, define-same}
 

@@ -1,7 +1,7 @@
 -- The repeats of the Rust change nothing: what its walk hands on is what the definitions of `Uses` say.
 use mathlib.Core.Path.{_≡_, refl, sym, ap, _∙_}
-use mathlib.Core.Bool.{Bool, true, false, cond, not, _||_, or-false}
-use mathlib.Core.List.{List, [], _∷_, _++_, map, foldl}
+use mathlib.Core.Bool.{Bool, true, false, cond, _||_, or-false}
+use mathlib.Core.List.{List, [], _∷_, map, foldl}
 use mathlib.Core.Option.{Option, none, some}
 use mathlib.Core.Logic.{_⊎_, inl, inr}
 use Prim.Native.Nat.{ℕ}
@@ -12,13 +12,13 @@ use Rattle.turns.specs.Definitions.{Definition}
 use Rattle.trees.specs.Lists.{concatMap, any, find}
 use Rattle.trees.specs.Sheet.{Sheet, Row}
 use Rattle.trees.specs.Trees.{Tree, rowOf}
-use Rattle.trees.specs.Traverse.{traverse, vars, comprs}
+use Rattle.trees.specs.Traverse.{comprs}
 use Rattle.scopes.specs.Scopes.{Scope, Span, spanOf}
 use Rattle.uses.specs.Uses.{isUndefined, undefinedVar, isUse, usedVars, variablesUsed, indexDefinitions}
 use Rattle.uses.specs.FirstUses.{addFirstUse}
 use Rattle.uses.specs.RustWalk.{Event, seen, met, used, defined, usedIn, rust, once, same, same-used}
 use Rattle.uses.specs.OnceLists.{seenIn, metIn, definedIn, vars-once, comprs-once, uses-once, defs-once, elem-any}
-use Rattle.uses.specs.Takers.{keepFirst, faultStep, firstStep, same-fault, same-firsts}
+use Rattle.uses.specs.Takers.{faultStep, firstStep, same-fault, same-firsts}
 use Rattle.uses.specs.MoreTakers.{comprStep, defStep, same-comprs, same-defs}
 
 -- A query that is not on a list yet comes in front.
