@@ -1,6 +1,6 @@
 -- The whole call: what it comes to and what it leaves, as functions of the sheet's bytes and of how long the lent buffers are.
-use mathlib.Core.Bool.{Bool, cond}
-use mathlib.Core.List.{List, [], _∷_, _++_}
+use mathlib.Core.Bool.{cond}
+use mathlib.Core.List.{List, _++_}
 use Prim.Native.Nat.{ℕ, _-_}
 use lib.Dec.{leb}
 use lib.ListN.{length, replicate}
@@ -77,6 +77,7 @@ leftBy tables work room (answered text) = record {
   answer = text ++ replicate (room - length text) 0;
 }
 
+-- All that the call leaves.
 unfoldable pub left : List ℕ → ℕ → ℕ → ℕ → Left
 left s tables work room = leftBy tables work room (result s tables work room)
 

@@ -12,6 +12,7 @@ use Rattle.scopes.specs.NameSets.{elements}
 use Rattle.scopes.specs.Scopes.{Span, spanIn}
 use Rattle.analysis.specs.States.{QuerySchedule, scheduleOf}
 
+-- A mark as a number.
 abbrev pub mark : Bool → ℕ
 mark b = cond b 1 0
 
@@ -27,6 +28,7 @@ placeRows q (some a) =
     map (λ k. let i = getD (order (a .definitions) (a .count) nameBound) k 0 in
     q ∷ k ∷ i ∷ mark (reached (a .definitions) (a .count) nameBound i) ∷ []) (range 0 (a .count))
 
+-- The row of a local, at its position.
 abbrev pub localRow : ℕ → ℕ → Option Span → List (List ℕ)
 localRow q x none = []
 localRow q x (some p) = (q ∷ 1 ∷ x ∷ p .line ∷ p .col ∷ []) ∷ []

@@ -1,5 +1,5 @@
 -- What the gathering keeps: a property that each addition to a scope keeps is kept by all walks and by the gathering of a whole query.
-use mathlib.Core.Path.{_≡_, refl}
+use mathlib.Core.Path.{_≡_}
 use mathlib.Core.Bool.{Bool, true, false, cond, not, _&&_}
 use mathlib.Core.List.{List, [], _∷_, foldl}
 use mathlib.Core.Logic.{_⊎_, inl, inr}

@@ -3,12 +3,15 @@ use mathlib.Core.Bool.{Bool, _||_, _&&_}
 use lib.Dec.{eqb, leb}
 use Rattle.trees.specs.declared.Row.{Row}
 
+-- A String; a RawString is none.
 abbrev pub isString : Row → Bool
 isString w = eqb (w .kind) 1
 
+-- A Var.
 abbrev pub isVar : Row → Bool
 isVar w = eqb (w .kind) 6
 
+-- An Array.
 abbrev pub isArray : Row → Bool
 isArray w = eqb (w .kind) 7
 
@@ -20,12 +23,15 @@ isPattern w = eqb (w .kind) 7 || eqb (w .kind) 9
 abbrev pub isCompr : Row → Bool
 isCompr w = leb 10 (w .kind) && leb (w .kind) 12
 
+-- A Call.
 abbrev pub isCall : Row → Bool
 isCall w = eqb (w .kind) 13
 
+-- A RefDot, `a.b`.
 abbrev pub isRefDot : Row → Bool
 isRefDot w = eqb (w .kind) 15
 
+-- A RefBrack, `a[b]`.
 abbrev pub isRefBrack : Row → Bool
 isRefBrack w = eqb (w .kind) 16
 

@@ -30,6 +30,7 @@ module _ {A : Type 0} where
   last (x ∷ []) = some x
   last (x ∷ (y ∷ l)) = last (y ∷ l)
 
+  -- Is there a value?
   abbrev pub isSome : Option A → Bool
   isSome none = false
   isSome (some a) = true

@@ -1,5 +1,5 @@
 -- The extra argument of a call (utils.rs, `get_path_string` and `get_extra_arg`).
-use mathlib.Core.Bool.{Bool, cond}
+use mathlib.Core.Bool.{cond}
 use mathlib.Core.List.{List, [], _∷_, _++_}
 use mathlib.Core.Option.{Option, none, some}
 use Prim.Native.Nat.{ℕ, _+_}

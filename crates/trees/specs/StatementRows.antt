@@ -1,7 +1,7 @@
 -- A test that all rows of a sheet pass is passed by the rows of its statements' trees.
 use mathlib.Core.Path.{_≡_, refl}
 use mathlib.Core.Bool.{Bool, true, false, cond, _&&_}
-use mathlib.Core.List.{List, [], _∷_}
+use mathlib.Core.List.{_∷_}
 use Prim.Native.Nat.{ℕ, zero, suc}
 use lib.Dec.{eqb}
 use lib.ListN.{length, getD}
@@ -9,9 +9,10 @@ use Rattle.basics.specs.Truth.{and-intro}
 use Rattle.basics.specs.Lists.{all}
 use Rattle.records.specs.declared.Statement.{Statement}
 use Rattle.trees.specs.declared.Row.{Row}
+use Rattle.trees.specs.ListLaws.{all-always}
 use Rattle.trees.specs.Sheet.{Sheet}
-use Rattle.trees.specs.Trees.{Tree, noRow, treeAt, chain}
-use Rattle.trees.specs.TreeRows.{allRows, chain-rows, tree-rows}
+use Rattle.trees.specs.Trees.{Tree, noRow, treeAt}
+use Rattle.trees.specs.TreeRows.{allRows, any-rows, chain-rows, tree-rows}
 use Rattle.trees.specs.Statements.{Literal, someVars, someIn, expr, notExpr, every, Stmt, noStatement, literalOf, stmtsFrom, stmtsOf}
 
 module _ (q : Row → Bool) where
@@ -24,6 +25,20 @@ module _ (q : Row → Bool) where
 
   abbrev pub stmtRows : Stmt → Bool
   stmtRows st = all (allRows q) (st .withMods) && literalRows (st .literal)
+
+  -- A test that every row passes.
+  pub any-stmt : ((w : Row) → q w ≡ true) → (st : Stmt) → stmtRows st ≡ true
+  any-stmt f st = and-intro _ _ (all-always (allRows q) (any-rows q f) (st .withMods)) (go (st .literal))
+    where
+      rows : (t : Tree) → allRows q t ≡ true
+      rows = any-rows q f
+
+      go : (l : Literal) → literalRows l ≡ true
+      go (someVars vs) = rows vs
+      go (someIn key value collection) = and-intro _ _ (rows key) (and-intro _ _ (rows value) (rows collection))
+      go (expr e) = rows e
+      go (notExpr e) = rows e
+      go (every key value domain query) = and-intro _ _ (rows key) (and-intro _ _ (rows value) (rows domain))
 
   module _ (sheet : Sheet) (h : all q (sheet .exprs) ≡ true) (d : q noRow ≡ true) where
     at : (r : ℕ) → allRows q (treeAt sheet r) ≡ true

@@ -8,6 +8,7 @@ use Rattle.records.specs.declared.Statement.{Statement}
 use Rattle.trees.specs.Sheet.{Sheet}
 use Rattle.trees.specs.Trees.{Tree, treeAt, chain}
 
+-- The five forms of a literal, by the names that the original has for their parts.
 pub data Literal : Type 0 where
   someVars : (vars : Tree) → Literal
   someIn : (key value collection : Tree) → Literal

@@ -30,7 +30,7 @@ module _ (q : Row → Bool) where
     pub third : allRows c ≡ true
     pub next : allRows n ≡ true
 
-  parts : (w : Row) (a b c n : Tree) → allRows (node w a b c n) ≡ true → Parts w a b c n
+  pub parts : (w : Row) (a b c n : Tree) → allRows (node w a b c n) ≡ true → Parts w a b c n
   parts w a b c n h =
       let h1 = and-right (q w) _ h in
       let h2 = and-right (allRows a) _ h1 in
@@ -47,9 +47,15 @@ module _ (q : Row → Bool) where
   whole w a b c n p =
       and-intro _ _ (p .row) (and-intro _ _ (p .first) (and-intro _ _ (p .second) (and-intro _ _ (p .third) (p .next))))
 
-  alone : (w : Row) (a b c n : Tree) → Parts w a b c n → allRows (node w a b c nil) ≡ true
+  pub alone : (w : Row) (a b c n : Tree) → Parts w a b c n → allRows (node w a b c nil) ≡ true
   alone w a b c n p =
       whole w a b c nil (record { row = p .row; first = p .first; second = p .second; third = p .third; next = refl })
+
+  -- A test that every row passes.
+  pub any-rows : ((w : Row) → q w ≡ true) → (t : Tree) → allRows t ≡ true
+  any-rows f nil = refl
+  any-rows f (node w a b c n) =
+      whole w a b c n (record { row = f w; first = any-rows f a; second = any-rows f b; third = any-rows f c; next = any-rows f n })
 
   -- ---- what the walks meet
 

@@ -7,6 +7,7 @@ use Rattle.trees.specs.declared.Row.{Row}
 use Rattle.trees.specs.Sheet.{Sheet}
 use Rattle.trees.specs.Kinds.{isCompr}
 
+-- A row, the trees of its first, second and third field, and the rest of its chain; `nil` where a field is 0.
 pub data Tree : Type 0 where
   nil : Tree
   node : (row : Row) (first second third next : Tree) → Tree
@@ -33,14 +34,17 @@ treeAt sheet r = decode (length (sheet .exprs)) (sheet .exprs) r
 
 -- ---- parts
 
+-- The row of an expression.
 abbrev pub rowOf : Tree → Row
 rowOf nil = noRow
 rowOf (node w a b c n) = w
 
+-- What its first field names.
 abbrev pub firstOf : Tree → Tree
 firstOf nil = nil
 firstOf (node w a b c n) = a
 
+-- What its second field names.
 abbrev pub secondOf : Tree → Tree
 secondOf nil = nil
 secondOf (node w a b c n) = b

@@ -3,7 +3,7 @@ use mathlib.Core.Path.{_≡_, refl}
 use mathlib.Core.Bool.{true}
 use mathlib.Core.List.{List, [], _∷_}
 use Rattle.basics.specs.Lists.{all}
-use Rattle.trials.specs.Trial.{Trial, trial, answers, refuses, passes}
+use Rattle.trials.specs.Trial.{Trial, trial, answers, passes}
 use Rattle.trials.specs.Computed.{computed}
 
 -- Names, built-ins, expressions, statements, queries; then what each query recorded, a row `query statement name used..` for a definition;

@@ -1,11 +1,10 @@
 -- What the call leaves of the worked example, whose text has 114 bytes: question 8.
 use mathlib.Core.Path.{_≡_, refl}
-use mathlib.Core.List.{List, [], _∷_, _++_}
+use mathlib.Core.List.{[], _∷_, _++_}
 use Prim.Native.Nat.{ℕ}
 use lib.ListN.{length, replicate}
 use Rattle.text.specs.Bytes.{bytes}
 use Rattle.answers.specs.Call.{Left, left}
-use Rattle.trials.specs.Trial.{Trial}
 use Rattle.trials.specs.Examples.{worked}
 use Rattle.trials.specs.Computed.{computed}
 

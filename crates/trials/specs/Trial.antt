@@ -21,18 +21,22 @@ pub record Trial : Type 0 where
 
 -- ---- texts, from the rows of their sections
 
+-- A sheet.
 abbrev pub sheetText : String → String → String → String → String → String
 sheetText names builtins exprs statements queries =
     "name\n" ++ names ++ "\narity first second third\n" ++ builtins ++ "\nkind name line col first second third next\n" ++ exprs
     ++ "\nform first second third query with next\n" ++ statements ++ "\nstatement\n" ++ queries ++ "\n"
 
+-- An answer.
 abbrev pub answers : String → String → String → String
 answers queries places sets =
     "query placed input\n" ++ queries ++ "\nquery place index reached\n" ++ places ++ "\nquery set name line col\n" ++ sets ++ "\n"
 
+-- A refusal.
 abbrev pub refuses : String → String
 refuses row = "refusal line col\n" ++ row ++ "\n"
 
+-- A trial by the rows of its sheet, what is recorded, and the text.
 abbrev pub trial : String → String → String → String → String → List (List ℕ) → String → Trial
 trial names builtins exprs statements queries rows text =
     record { sheet = sheetText names builtins exprs statements queries; recorded = rows; answer = text }

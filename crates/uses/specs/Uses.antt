@@ -20,6 +20,7 @@ use Rattle.scopes.specs.Scopes.{Scope, owns}
 unfoldable pub define : ℕ → ℕ → List ℕ → Definition
 define i x used = record { statement = i; var = x; used = filter (λ y. elem y used) (range 0 nameBound) }
 
+-- A variable's name.
 abbrev pub nameOf : Row → ℕ
 nameOf w = w .name
 

@@ -1,0 +1,88 @@
+-- The own names of a gathered scope lie below the bound, if the names of all rows do.
+use mathlib.Core.Path.{_≡_, refl, sym, ap, _∙_}
+use mathlib.Core.Bool.{Bool, true, false, not, _||_}
+use mathlib.Core.List.{List, [], _∷_}
+use mathlib.Core.Logic.{_⊎_, inl, inr, ⊎-elim}
+use Prim.Native.Nat.{ℕ}
+use lib.Dec.{eqb, ltb}
+use borrow.Author.Tests.{eqb-true}
+use Rattle.basics.specs.Truth.{bool-cases, not-both, and-right, or-left, or-right, or-cases}
+use Rattle.basics.specs.Lists.{all}
+use Rattle.trees.specs.declared.Row.{Row}
+use Rattle.trees.specs.Sheet.{Sheet, nameBound}
+use Rattle.trees.specs.Trees.{Tree}
+use Rattle.trees.specs.Statements.{Stmt}
+use Rattle.trees.specs.TreeRows.{allRows}
+use Rattle.trees.specs.StatementRows.{stmtRows}
+use Rattle.scopes.specs.NameSets.{NameSet, empty, contains, insert, remove}
+use Rattle.scopes.specs.Scopes.{Span, Scope, noScope, isLocal, owns, addLocal, addUnscoped, addInput, useInput, removeAll, removeShadowed}
+use Rattle.scopes.specs.GatherLocals.{gatherLocalVars}
+use Rattle.scopes.specs.GatherLaws.{Kept, gathered}
+
+-- A row whose name is below the bound.
+abbrev pub nameBelow : Row → Bool
+nameBelow w = ltb (w .name) nameBound
+
+abbrev pub Below : Scope → Type 0
+Below s = (x : ℕ) → owns s x ≡ true → ltb x nameBound ≡ true
+
+-- ---- the changes
+
+-- An own name of a scope with one more local or unscoped name is that name or was own before.
+local-owns : (s : Scope) (w : Row) (x : ℕ) → owns (addLocal s w) x ≡ true → (w .name ≡ x) ⊎ (owns s x ≡ true)
+unfolding owns addLocal
+local-owns s w x h = go (bool-cases (eqb (w .name) x))
+  where
+    go : (eqb (w .name) x ≡ true) ⊎ (eqb (w .name) x ≡ false) → (w .name ≡ x) ⊎ ((isLocal s x || contains (s .unscoped) x) ≡ true)
+    go (inl e) = inl (eqb-true (w .name) x e)
+    go (inr e) = inr (rw e at h)
+
+pub unscoped-owns : (s : Scope) (y x : ℕ) → owns (addUnscoped s y) x ≡ true → (x ≡ y) ⊎ (owns s x ≡ true)
+unfolding owns addUnscoped contains insert
+unscoped-owns s y x h =
+    ⊎-elim (λ (p : isLocal s x ≡ true). inr (or-left (isLocal s x) (contains (s .unscoped) x) p))
+    (λ (p : (eqb x y || contains (s .unscoped) x) ≡ true).
+    ⊎-elim (λ (e : eqb x y ≡ true). inl (eqb-true x y e)) (λ (e : contains (s .unscoped) x ≡ true). inr (or-right (isLocal s x) (contains (s .unscoped) x) e))
+    (or-cases (eqb x y) (contains (s .unscoped) x) p))
+    (or-cases (isLocal s x) (eqb x y || contains (s .unscoped) x) h)
+
+pub removed-from : (spans : List Span) (u : NameSet) (x : ℕ) → contains (removeAll u spans) x ≡ true → contains u x ≡ true
+unfolding removeAll contains remove
+removed-from [] u x h = h
+removed-from (p ∷ spans) u x h = and-right (not (eqb x (p .name))) (u x) (removed-from spans (remove u (p .name)) x h)
+
+pub unscoped-below : (s : Scope) (y : ℕ) → ltb y nameBound ≡ true → Below s → Below (addUnscoped s y)
+unscoped-below s y l b x h = ⊎-elim (λ (e : x ≡ y). ap (λ (z : ℕ). ltb z nameBound) e ∙ l) (λ (o : owns s x ≡ true). b x o) (unscoped-owns s y x h)
+
+pub input-below : (s : Scope) (y : ℕ) → Below s → Below (addInput s y)
+unfolding owns addInput
+input-below s y b x h = b x h
+
+pub flag-below : (s : Scope) (f : Bool) → Below s → Below (useInput f s)
+unfolding owns useInput
+flag-below s f b x h = b x h
+
+below-kept : (parents : List Scope) → Kept parents nameBelow Below
+below-kept parents = record {
+  local = λ s w l b x h. ⊎-elim (λ (e : w .name ≡ x). ap (λ (z : ℕ). ltb z nameBound) (sym e) ∙ l) (λ (o : owns s x ≡ true). b x o) (local-owns s w x h);
+  unscoped = λ s w l b. unscoped-below s (w .name) l b;
+  input = λ s w e b. input-below s (w .name) b;
+  flag = λ s f b. flag-below s f b;
+}
+
+none-below : Below noScope
+unfolding owns contains empty
+none-below x h = absurd (not-both h refl)
+
+shadowed-below : (s : Scope) → Below s → Below (removeShadowed s)
+unfolding owns removeShadowed
+shadowed-below s b x h =
+    ⊎-elim (λ (p : isLocal s x ≡ true). b x (or-left (isLocal s x) (contains (s .unscoped) x) p))
+    (λ (p : contains (removeAll (s .unscoped) (s .locals)) x ≡ true). b x (or-right (isLocal s x) (contains (s .unscoped) x) (removed-from (s .locals) (s .unscoped) x p)))
+    (or-cases (isLocal s x) (contains (removeAll (s .unscoped) (s .locals)) x) h)
+
+-- ---- the scope of a query
+
+pub gathered-below : (sheet : Sheet) (parents : List Scope) (stmts : List Stmt) → all (stmtRows nameBelow) stmts ≡ true
+    → (outputs : List Tree) → all (allRows nameBelow) outputs ≡ true → Below (gatherLocalVars sheet parents stmts outputs)
+gathered-below sheet parents stmts h outputs g = gathered sheet parents nameBelow refl Below (below-kept parents) none-below shadowed-below stmts h outputs g
