@@ -1,10 +1,6 @@
--- The trial queries of the specification: one list, one fact.
-use mathlib.Core.Path.{_≡_, refl}
-use mathlib.Core.Bool.{true}
+-- The trial queries of the specification.
 use mathlib.Core.List.{List, [], _∷_}
-use Rattle.basics.specs.Lists.{all}
-use Rattle.trials.specs.Trial.{Trial, trial, answers, refuses, passes}
-use Rattle.trials.specs.Computed.{computed}
+use Rattle.trials.specs.Trial.{Trial, trial, answers, refuses}
 
 -- A trial: names, built-ins, expressions, statements, queries; then what each query recorded, a row `query statement name used..` for a
 -- definition; then the answer's rows, section by section, or the refusal.
@@ -46,8 +42,3 @@ trials =
     ((1 ∷ 0 ∷ 0 ∷ 2 ∷ []) ∷ [])
     (answers "1 0 0\n" "1 0 0 0\n" "1 2 2 0 0\n")
     ∷ []
-
--- All of them pass.
-pub trials-pass : all passes trials ≡ true
-unfolding computed
-trials-pass = refl

@@ -1,6 +1,7 @@
 pub mod Computed
 pub mod Trial
 pub mod Examples
+pub mod Specification
 pub mod Assignments
 pub mod ExtraArguments
 pub mod Comprehensions
