@@ -1,0 +1,43 @@
+-- Laws of `concatMap`, `any` and `find`, and of what a walk enters.
+use mathlib.Core.Path.{_≡_, refl, sym, ap, _∙_}
+use mathlib.Core.Bool.{Bool, true, false, cond, _||_, or-assoc, or-false}
+use mathlib.Core.List.{List, [], _∷_, _++_, map, append-assoc}
+use mathlib.Core.Option.{Option, none, some}
+use Prim.Native.Nat.{ℕ}
+use lib.Dec.{eqb}
+use Rattle.basics.specs.Truth.{or-left-comm}
+use Rattle.basics.specs.Lists.{filter, elem}
+use Rattle.trees.specs.Lists.{concatMap, any}
+use Rattle.trees.specs.Traverse.{Enters, nothing, params, fields, entered}
+
+pub concatMap-append : {A B : Type 0} (f : A → List B) (k l : List A) → concatMap f (k ++ l) ≡ concatMap f k ++ concatMap f l
+concatMap-append f [] l = refl
+concatMap-append f (x ∷ k) l = rw (concatMap-append f k l) (sym (append-assoc (f x) (concatMap f k) (concatMap f l)))
+
+pub concatMap-entered : {A B : Type 0} (f : A → List B) (en : Enters) (a b c : List A)
+    → concatMap f (entered en a b c) ≡ entered en (concatMap f a) (concatMap f b) (concatMap f c)
+concatMap-entered f nothing a b c = refl
+concatMap-entered f params a b c = refl
+concatMap-entered f fields a b c =
+    concatMap-append f a (b ++ c) ∙ ap (λ m. concatMap f a ++ m) (concatMap-append f b c)
+
+pub any-append : {A : Type 0} (p : A → Bool) (k l : List A) → any p (k ++ l) ≡ (any p k || any p l)
+any-append p [] l = refl
+any-append p (x ∷ k) l = ap (λ (b : Bool). p x || b) (any-append p k l) ∙ sym (or-assoc (p x) (any p k) (any p l))
+
+-- Of three parts the first two change places.
+pub any-swap : {A : Type 0} (p : A → Bool) (a b c : List A) → any p (a ++ (b ++ c)) ≡ any p (b ++ (a ++ c))
+any-swap p a b c =
+    any-append p a (b ++ c) ∙ ap (λ (x : Bool). any p a || x) (any-append p b c) ∙ or-left-comm (any p a) (any p b) (any p c)
+    ∙ sym (any-append p b (a ++ c) ∙ ap (λ (x : Bool). any p b || x) (any-append p a c))
+
+pub any-entered : {A : Type 0} (p : A → Bool) (en : Enters) (a b c d e f : List A) → any p a ≡ any p d → any p b ≡ any p e → any p c ≡ any p f
+    → any p (entered en a b c) ≡ any p (entered en d e f)
+any-entered p nothing a b c d e f x y z = refl
+any-entered p params a b c d e f x y z = y
+any-entered p fields a b c d e f x y z =
+    any-append p a (b ++ c) ∙ cc (x, y, z, any-append p b c, any-append p e f) ∙ sym (any-append p d (e ++ f))
+
+pub elem-any : (n : ℕ) (l : List ℕ) → elem n l ≡ any (eqb n) l
+elem-any n [] = refl
+elem-any n (x ∷ l) = ap (λ (b : Bool). eqb n x || b) (elem-any n l)
