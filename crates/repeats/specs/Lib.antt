@@ -6,3 +6,5 @@ pub mod SameEvents
 pub mod OnceLists
 pub mod OnceSets
 pub mod BracketRepeats
+pub mod SameOuter
+pub mod SameParents
