@@ -8,3 +8,6 @@ pub mod OnceSets
 pub mod BracketRepeats
 pub mod SameOuter
 pub mod SameParents
+pub mod Ways
+pub mod MemoWay
+pub mod RustWay
