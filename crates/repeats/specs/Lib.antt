@@ -11,3 +11,9 @@ pub mod SameParents
 pub mod Ways
 pub mod MemoWay
 pub mod RustWay
+pub mod Beside
+pub mod Places
+pub mod Members
+pub mod Coupled
+pub mod CoupledStmts
+pub mod CoupledQuery
