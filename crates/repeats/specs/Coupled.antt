@@ -57,7 +57,7 @@ module _ (sheet : Sheet) (way way′ : Way) (C : List Tree) (c : Coupling way wa
   unfolding propagateBy
   propagate-good e K m o T U r =
       let F : Scope → Scope = λ x.
-          foldl addInput (useInput (x .usesInput) (o .scope)) (filter (λ y. not (owns (o .scope) y)) (elements (x .inputs))) in
+      foldl addInput (useInput (x .usesInput) (o .scope)) (filter (λ y. not (owns (o .scope) y)) (elements (x .inputs))) in
       let x = way .comprScope (o .scope) (stateOf o T) e in
       setScope-beside (c .ρ K) (c .again K) (F x) (F (way′ .comprScope (o .scope) (stateOf o U) e)) (ap F (c .look e K m o T U r)) o T U
       (c .again K (o .scope) (F x) T U
@@ -122,10 +122,10 @@ module _ (sheet : Sheet) (way way′ : Way) (C : List Tree) (c : Coupling way wa
       (λ t. recordEach i (assignedVars (t .scope) target) (λ x. filter (λ y. not (eqb y x)) (allUsedBy sheet way [] m source t)) t)
       (λ t. recordEach i (assignedVars (t .scope) target) (λ x. filter (λ y. not (eqb y x)) (allUsedBy sheet way′ [] m source t)) t)
       (λ p A B z.
-          recordEach-beside (c .ρ L) (c .again L) i (assignedVars (p .scope) target)
-          (λ x. filter (λ y. not (eqb y x)) (allUsedBy sheet way [] m source (stateOf p A)))
-          (λ x. filter (λ y. not (eqb y x)) (allUsedBy sheet way′ [] m source (stateOf p B)))
-          (ap {B = ℕ → List ℕ} (λ (l : List ℕ) (x : ℕ). filter (λ y. not (eqb y x)) l) (allUsed-same [] m source L (mem-left cs K) p A B z)) p A B z)
+      recordEach-beside (c .ρ L) (c .again L) i (assignedVars (p .scope) target)
+      (λ x. filter (λ y. not (eqb y x)) (allUsedBy sheet way [] m source (stateOf p A)))
+      (λ x. filter (λ y. not (eqb y x)) (allUsedBy sheet way′ [] m source (stateOf p B)))
+      (ap {B = ℕ → List ℕ} (λ (l : List ℕ) (x : ℕ). filter (λ y. not (eqb y x)) l) (allUsed-same [] m source L (mem-left cs K) p A B z)) p A B z)
       (turn (c .ρ L) (c .ρ L) (checkAssigned check target) (checkAssigned check target) (checkAssigned-good (c .ρ L) (c .again L) check target)
       (useExpr-good i [] m source h K o T U r)))
 
@@ -152,8 +152,8 @@ module _ (sheet : Sheet) (way way′ : Way) (C : List Tree) (c : Coupling way wa
       forget cs K
       (turn (c .ρ L) (c .ρ L) (λ t. recordOne i 0 (allUsedBy sheet way [] m e t) t) (λ t. recordOne i 0 (allUsedBy sheet way′ [] m e t) t)
       (λ p A B z.
-          recordOne-beside (c .ρ L) (c .again L) i 0 (allUsedBy sheet way [] m e (stateOf p A)) (allUsedBy sheet way′ [] m e (stateOf p B))
-          (allUsed-same [] m e L (mem-left cs K) p A B z) p A B z)
+      recordOne-beside (c .ρ L) (c .again L) i 0 (allUsedBy sheet way [] m e (stateOf p A)) (allUsedBy sheet way′ [] m e (stateOf p B))
+      (allUsed-same [] m e L (mem-left cs K) p A B z) p A B z)
       (useExpr-good i [] m e (within-append (comprs e) (m .comprs) C h k) K o T U r))
 
   pub processExpr-good : (i : ℕ) (m : Mods) (e : Tree) → Within (exprComprs e) C → Within (m .comprs) C → (K : List Tree)
@@ -224,27 +224,27 @@ module _ (sheet : Sheet) (way way′ : Way) (C : List Tree) (c : Coupling way wa
       (turn (c .ρ (N ++ L)) (c .ρ (N ++ L)) (λ t. recordOne i 0 (concatMap (λ e. allUsedBy sheet way [] later e t) others) t)
       (λ t. recordOne i 0 (concatMap (λ e. allUsedBy sheet way′ [] later e t) others) t)
       (λ q A B z.
-          recordOne-beside (c .ρ (N ++ L)) (c .again (N ++ L)) i 0
-          (concatMap (λ e. allUsedBy sheet way [] later e (stateOf q A)) others)
-          (concatMap (λ e. allUsedBy sheet way′ [] later e (stateOf q B)) others)
-          (concatMap-agree (λ e. allUsedBy sheet way [] later e (stateOf q A)) (λ e. allUsedBy sheet way′ [] later e (stateOf q B)) others
-          (λ e n.
-              allUsed-same [] later e (N ++ L)
-              (λ d x. mem-left N L d (mem-concatMap (λ f. comprs f ++ m .comprs) others e n d x)) q A B z)) q A B z)
+      recordOne-beside (c .ρ (N ++ L)) (c .again (N ++ L)) i 0
+      (concatMap (λ e. allUsedBy sheet way [] later e (stateOf q A)) others)
+      (concatMap (λ e. allUsedBy sheet way′ [] later e (stateOf q B)) others)
+      (concatMap-agree (λ e. allUsedBy sheet way [] later e (stateOf q A)) (λ e. allUsedBy sheet way′ [] later e (stateOf q B)) others
+      (λ e n.
+      allUsed-same [] later e (N ++ L)
+      (λ d x. mem-left N L d (mem-concatMap (λ f. comprs f ++ m .comprs) others e n d x)) q A B z)) q A B z)
       (turn (c .ρ L) (c .ρ (N ++ L)) (λ t. foldl (processNonVarBy sheet way i m) t others) (λ t. foldl (processNonVarBy sheet way′ i m) t others)
       (λ q A B z.
-          processNonVars-beside i m others
-          (λ e n.
-              within-append (comprs e) (m .comprs) C
-              (λ d x. p d (mem-concatMap comprs pattern e (filter-mem _ pattern n .0) d x)) k) L (going q A B z))
+      processNonVars-beside i m others
+      (λ e n.
+      within-append (comprs e) (m .comprs) C
+      (λ d x. p d (mem-concatMap comprs pattern e (filter-mem _ pattern n .0) d x)) k) L (going q A B z))
       (turn (c .ρ L) (c .ρ L) (addFirstUses (map spanOf names)) (addFirstUses (map spanOf names))
       (λ q A B z. addFirstUses-beside (c .ρ L) (c .again L) (map spanOf names) (map spanOf names) refl q A B z)
       (turn (c .ρ L) (c .ρ L)
       (λ t. addDefinitions (map (λ (w : Row). define i (w .name) (allUsedBy sheet way [] m collection t)) names) t)
       (λ t. addDefinitions (map (λ (w : Row). define i (w .name) (allUsedBy sheet way′ [] m collection t)) names) t)
       (λ q A B z.
-          addDefinitions-beside (c .ρ L) (c .again L)
-          (map (λ (w : Row). define i (w .name) (allUsedBy sheet way [] m collection (stateOf q A))) names)
-          (map (λ (w : Row). define i (w .name) (allUsedBy sheet way′ [] m collection (stateOf q B))) names)
-          (ap (λ (l : List ℕ). map (λ (w : Row). define i (w .name) l) names) (allUsed-same [] m collection L (mem-left cs K) q A B z)) q A B z)
+      addDefinitions-beside (c .ρ L) (c .again L)
+      (map (λ (w : Row). define i (w .name) (allUsedBy sheet way [] m collection (stateOf q A))) names)
+      (map (λ (w : Row). define i (w .name) (allUsedBy sheet way′ [] m collection (stateOf q B))) names)
+      (ap (λ (l : List ℕ). map (λ (w : Row). define i (w .name) l) names) (allUsed-same [] m collection L (mem-left cs K) q A B z)) q A B z)
       (useExpr-good i [] m collection (within-append (comprs collection) (m .comprs) C h k) K o T U r))))))

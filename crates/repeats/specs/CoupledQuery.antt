@@ -46,7 +46,7 @@ module _ (sheet : Sheet) (way way′ : Way) where
     unfolding propagateBy
     propagate-good e o T U r =
         let F : Scope → Scope = λ x.
-            foldl addInput (useInput (x .usesInput) (o .scope)) (filter (λ y. not (owns (o .scope) y)) (elements (x .inputs))) in
+        foldl addInput (useInput (x .usesInput) (o .scope)) (filter (λ y. not (owns (o .scope) y)) (elements (x .inputs))) in
         let x = way .comprScope (outputScope (o .scope)) (stateOf o T) e in
         setScope-beside (c .known e) (c .again e) (F x) (F (way′ .comprScope (outputScope (o .scope)) (stateOf o U) e))
         (ap F (c .look e o T U r)) o T U
@@ -69,8 +69,8 @@ module _ (sheet : Sheet) (way way′ : Way) where
     outputs-beside outputs h b =
         fold-beside (c .ω) (analyzeOutputExprBy sheet way) (analyzeOutputExprBy sheet way′) outputs
         (λ t m s u b′.
-            fold-beside (c .ω) (outputComprBy sheet way) (outputComprBy sheet way′) (comprs t)
-            (λ e n s′ u′ b″. outputCompr-beside e (h e (mem-concatMap comprs outputs t m e n)) b″) b′) b
+        fold-beside (c .ω) (outputComprBy sheet way) (outputComprBy sheet way′) (comprs t)
+        (λ e n s′ u′ b″. outputCompr-beside e (h e (mem-concatMap comprs outputs t m e n)) b″) b′) b
 
   ended-of : (ω : Tables) (q n : ℕ) {s u : State} → Beside ω s u
       → Ended ω q n (ifSound (s .run .fault) (scheduled q n s) (s .run)) (ifSound (u .run .fault) (scheduled q n u) (u .run))
@@ -92,12 +92,12 @@ module _ (sheet : Sheet) (way way′ : Way) where
       let stmts = stmtsOf sheet q in
       let own : Own = record { scope = way .start stmts outputs; firstUses = []; definitions = [] } in
       let F : Scope → Run = λ sc.
-          let begin : State = record { scope = sc; firstUses = []; definitions = []; run = record { schedules = U; fault = sound } } in
-          let s = foldl (analyzeOutputExprBy sheet way′) (processStmtsBy sheet way′ 0 stmts begin) outputs in
-          ifSound (s .run .fault) (scheduled q (length stmts) s) (s .run) in
+      let begin : State = record { scope = sc; firstUses = []; definitions = []; run = record { schedules = U; fault = sound } } in
+      let s = foldl (analyzeOutputExprBy sheet way′) (processStmtsBy sheet way′ 0 stmts begin) outputs in
+      ifSound (s .run .fault) (scheduled q (length stmts) s) (s .run) in
       subst
       (λ (sc : Scope).
-          Ended (c .ω) q (length stmts) (analyzeQueryBy sheet way q outputs (record { schedules = T; fault = sound })) (F sc))
+      Ended (c .ω) q (length stmts) (analyzeQueryBy sheet way q outputs (record { schedules = T; fault = sound })) (F sc))
       (ap (λ (f : List Stmt → List Tree → Scope). f stmts outputs) starts)
       (ended-of (c .ω) q (length stmts)
       (outputs-beside (concatMap comprs outputs) c outputs (λ e m. m)

@@ -61,8 +61,8 @@ module _ (sheet : Sheet) (way way′ : Way) (extras : (arg : Tree) → way .extr
         (turn (c .ρ L) (c .ρ L) (λ t. recordEach i xs (λ x. allUsedBy sheet way xs m e t) t)
         (λ t. recordEach i xs (λ x. allUsedBy sheet way′ xs m e t) t)
         (λ q A B z.
-            recordEach-beside (c .ρ L) (c .again L) i xs (λ x. allUsedBy sheet way xs m e (stateOf q A)) (λ x. allUsedBy sheet way′ xs m e (stateOf q B))
-            (ap {B = ℕ → List ℕ} (λ (l : List ℕ) (x : ℕ). l) (allUsed-same sheet way way′ C c xs m e L (mem-left cs []) q A B z)) q A B z)
+        recordEach-beside (c .ρ L) (c .again L) i xs (λ x. allUsedBy sheet way xs m e (stateOf q A)) (λ x. allUsedBy sheet way′ xs m e (stateOf q B))
+        (ap {B = ℕ → List ℕ} (λ (l : List ℕ) (x : ℕ). l) (allUsed-same sheet way way′ C c xs m e L (mem-left cs []) q A B z)) q A B z)
         (useExpr-good sheet way way′ C c i xs m e (within-append (comprs e) (m .comprs) C h k) [] p T U (r sc)))
 
     processCall-beside : (arg : Option Tree) (i : ℕ) (m : Mods) (e : Tree) → Within (callComprs arg e) C → Within (m .comprs) C
@@ -72,8 +72,8 @@ module _ (sheet : Sheet) (way way′ : Way) (extras : (arg : Tree) → way .extr
     processCall-beside none i m e h k o T U r = processExpr-good sheet way way′ C c i m e h k [] o T U (r (o .scope))
     processCall-beside (some arg) i m e h k o T U r =
         let F : List ℕ → State = λ xs.
-            inTurn (useExprBy sheet way′ i xs m e ∷ (λ t. recordEach i xs (λ x. allUsedBy sheet way′ xs m e t) t) ∷ [])
-            (setScope (foldl addUnscoped (o .scope) xs) (stateOf o U)) in
+        inTurn (useExprBy sheet way′ i xs m e ∷ (λ t. recordEach i xs (λ x. allUsedBy sheet way′ xs m e t) t) ∷ [])
+        (setScope (foldl addUnscoped (o .scope) xs) (stateOf o U)) in
         subst (λ (xs : List ℕ). Beside (c .ρ []) (processExtraArgBy sheet way i m e arg (stateOf o T)) (F xs)) (extras arg)
         (extraArg-beside i m e (way .extraVars arg) h k o T U r)
 
@@ -117,12 +117,12 @@ module _ (sheet : Sheet) (way way′ : Way) (extras : (arg : Tree) → way .extr
         (turn (anywhere before) (anywhere after) (λ t. processLiteralBy sheet way i (modsOf sheet (t .scope) (st .withMods)) (st .literal) t)
         (λ t. processLiteralBy sheet way′ i (modsOf sheet (t .scope) (st .withMods)) (st .literal) t)
         (λ p A B z.
-            processLiteral-good i (modsOf sheet (p .scope) (st .withMods)) (st .literal) refl
-            (mem-right mods (literalComprs sheet (st .literal))) (mem-left mods (literalComprs sheet (st .literal))) p A B z)
+        processLiteral-good i (modsOf sheet (p .scope) (st .withMods)) (st .literal) refl
+        (mem-right mods (literalComprs sheet (st .literal))) (mem-left mods (literalComprs sheet (st .literal))) p A B z)
         (fold-beside (anywhere before) G G (st .withMods)
         (λ e n s u b.
-            turn (anywhere before) (anywhere before) (gatherUsedVars sheet i [] e) (gatherUsedVars sheet i [] e)
-            (gatherUsedVars-good (anywhere before) (λ x y A B z w. w) sheet i [] e) b) (going o T U r)))
+        turn (anywhere before) (anywhere before) (gatherUsedVars sheet i [] e) (gatherUsedVars sheet i [] e)
+        (gatherUsedVars-good (anywhere before) (λ x y A B z w. w) sheet i [] e) b) (going o T U r)))
 
   -- Statement by statement.
   pub processStmts-beside : (Start : List Stmt → Pairs) → ((st : Stmt) (stmts : List Stmt) → StmtCoupling sheet way way′ st (Start (st ∷ stmts)) (Start stmts))

@@ -17,3 +17,8 @@ pub mod Members
 pub mod Coupled
 pub mod CoupledStmts
 pub mod CoupledQuery
+pub mod Distinct
+pub mod RustWrites
+pub mod Agreeing
+pub mod MemoRust
+pub mod QueryRepeats

@@ -7,7 +7,7 @@ use Prim.Native.Nat.{ℕ}
 use lib.Dec.{eqb}
 use Rattle.basics.specs.Truth.{or-left-comm}
 use Rattle.basics.specs.Lists.{filter, elem}
-use Rattle.trees.specs.Lists.{concatMap, any}
+use Rattle.trees.specs.Lists.{concatMap, any, find}
 use Rattle.trees.specs.Traverse.{Enters, nothing, params, fields, entered}
 
 pub concatMap-append : {A B : Type 0} (f : A → List B) (k l : List A) → concatMap f (k ++ l) ≡ concatMap f k ++ concatMap f l
@@ -41,3 +41,28 @@ any-entered p fields a b c d e f x y z =
 pub elem-any : (n : ℕ) (l : List ℕ) → elem n l ≡ any (eqb n) l
 elem-any n [] = refl
 elem-any n (x ∷ l) = ap (λ (b : Bool). eqb n x || b) (elem-any n l)
+
+-- ---- the first that passes a test
+
+module _ {A : Type 0} where
+  -- The first value, or else the second.
+  abbrev pub orElse : Option A → Option A → Option A
+  orElse none o = o
+  orElse (some x) o = some x
+
+  pub orElse-none : (o : Option A) → orElse o none ≡ o
+  orElse-none none = refl
+  orElse-none (some x) = refl
+
+  pub orElse-twice : (o r : Option A) → orElse o (orElse o r) ≡ orElse o r
+  orElse-twice none r = refl
+  orElse-twice (some x) r = refl
+
+  pub find-append : (p : A → Bool) (k l : List A) → find p (k ++ l) ≡ orElse (find p k) (find p l)
+  find-append p [] l = refl
+  find-append p (x ∷ k) l = go (p x) (find-append p k l)
+    where
+      go : (b : Bool) → find p (k ++ l) ≡ orElse (find p k) (find p l)
+          → cond b (some x) (find p (k ++ l)) ≡ orElse (cond b (some x) (find p k)) (find p l)
+      go true h = refl
+      go false h = h

@@ -26,7 +26,7 @@ module _ {A : Type 0} where
   mem-move x k l a m =
       ⊎-elim (λ (e : a ≡ x). mem-right k (x ∷ l) a (List·Memᴰ·head e))
       (λ (t : List·Memᴰ a (k ++ l)).
-          within-append k l (k ++ (x ∷ l)) (mem-left k (x ∷ l)) (λ b u. mem-right k (x ∷ l) b (List·Memᴰ·tail u)) a t)
+      within-append k l (k ++ (x ∷ l)) (mem-left k (x ∷ l)) (λ b u. mem-right k (x ∷ l) b (List·Memᴰ·tail u)) a t)
       (List·Memᴰ·cases-cons m)
 
 module _ {A B : Type 0} where

@@ -12,7 +12,7 @@ use Rattle.basics.specs.Truth.{bool-cases, or-left, or-right}
 use Rattle.trees.specs.Lists.{concatMap, any, find, isSome}
 use Rattle.scopes.specs.Scopes.{Span, spanIn}
 use Rattle.uses.specs.FirstUses.{addFirstUse}
-use Rattle.repeats.specs.Lists.{any-append}
+use Rattle.repeats.specs.Lists.{any-append, orElse, orElse-none}
 
 module _ {S E : Type 0} (step : S → E → S) where
   -- An element that was taken before changes nothing.
@@ -83,10 +83,6 @@ module _ {A : Type 0} (p : A → Bool) where
       again false false true = refl
       again false false false = refl
 
-  abbrev pub orElse : Option A → Option A → Option A
-  orElse none o = o
-  orElse (some x) o = some x
-
   -- The first that passes the test.
   abbrev pub orFound : Option A → A → Option A
   orFound o x = orElse o (cond (p x) (some x) none)
@@ -96,10 +92,6 @@ module _ {A : Type 0} (p : A → Bool) where
   orElse-cond none x rest true = refl
   orElse-cond none x rest false = refl
   orElse-cond (some y) x rest b = refl
-
-  orElse-none : (o : Option A) → orElse o none ≡ o
-  orElse-none none = refl
-  orElse-none (some x) = refl
 
   pub foldl-find : (o : Option A) (l : List A) → foldl orFound o l ≡ orElse o (find p l)
   foldl-find o [] = sym (orElse-none o)
