@@ -7,9 +7,9 @@ pub mod OnceLists
 pub mod OnceSets
 pub mod BracketRepeats
 pub mod SameOuter
-pub mod SameParents
 pub mod Ways
 pub mod MemoWay
+pub mod SameParents
 pub mod RustWay
 pub mod Beside
 pub mod Places
