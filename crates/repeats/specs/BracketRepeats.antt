@@ -3,7 +3,7 @@
 use mathlib.Core.Path.{_≡_, refl, sym, ap, _∙_}
 use mathlib.Core.Bool.{Bool, true, false, cond}
 use mathlib.Core.List.{List, [], _∷_, _++_, map, foldl}
-use mathlib.Core.Option.{Option, none}
+use mathlib.Core.Option.{none}
 use Prim.Native.Nat.{ℕ}
 use Rattle.basics.specs.Lists.{filter, elem}
 use Rattle.turns.specs.Definitions.{Definition}
@@ -14,7 +14,8 @@ use Rattle.trees.specs.Traverse.{traverse, vars, comprs}
 use Rattle.scopes.specs.Scopes.{Scope, Span, spanOf}
 use Rattle.uses.specs.Uses.{readsInput, isUndefined, undefinedVar, isUse, usedVars, variablesUsed, indexDefinitions}
 use Rattle.uses.specs.FirstUses.{addFirstUse}
-use Rattle.repeats.specs.Settled.{Settled, settled-parts, foldl-concatMap, orFound, foldl-find, find-settled, firstUses-settled, addOnce, firstPlaces, once-settled}
+use Rattle.repeats.specs.Settled.{Settled, settled-parts, foldl-concatMap}
+use Rattle.repeats.specs.Takers.{orFound, foldl-find, find-settled, firstUses-settled, addOnce, firstPlaces, once-settled}
 use Rattle.repeats.specs.Events.{seenAt, metAt, definedAt, varsSeen, comprsMet, definitionsMade}
 use Rattle.repeats.specs.RustWalk.{namesUsed, rustWalk, walkOnce}
 use Rattle.repeats.specs.SameEvents.{same-read, same-any, same-names, rust-once}

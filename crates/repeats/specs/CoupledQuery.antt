@@ -1,8 +1,8 @@
 -- Two ways to analyse go side by side through the outputs of a query, and so through the query.
-use mathlib.Core.Path.{_≡_, refl, sym, ap, _∙_, subst, subst₂}
-use mathlib.Core.Bool.{Bool, true, false, cond, not}
-use mathlib.Core.List.{List, [], _∷_, _++_, map, foldl, List·Memᴰ}
-use Prim.Native.Nat.{ℕ, suc}
+use mathlib.Core.Path.{_≡_, sym, ap, _∙_, subst, subst₂}
+use mathlib.Core.Bool.{false, not}
+use mathlib.Core.List.{List, [], _∷_, foldl, List·Memᴰ}
+use Prim.Native.Nat.{ℕ}
 use lib.ListN.{length}
 use Rattle.basics.specs.Lists.{filter}
 use Rattle.trees.specs.Lists.{concatMap}
@@ -12,7 +12,7 @@ use Rattle.trees.specs.Traverse.{comprs}
 use Rattle.trees.specs.Statements.{Stmt, stmtsOf}
 use Rattle.scopes.specs.NameSets.{elements}
 use Rattle.scopes.specs.Scopes.{Scope, owns, addInput, useInput}
-use Rattle.analysis.specs.States.{sound, QuerySchedule, Run, State, setScope, ifSound}
+use Rattle.analysis.specs.States.{sound, QuerySchedule, Run, State, ifSound}
 use Rattle.analysis.specs.Queries.{outputScope, scheduled}
 use Rattle.repeats.specs.SameOuter.{SameOwn}
 use Rattle.repeats.specs.Ways.{Way, propagateBy, processStmtsBy, outputComprBy, analyzeOutputExprBy, analyzeQueryBy}

@@ -1,30 +1,26 @@
 -- Two ways to analyse go side by side through the statements of a query, its outputs, and so the query.
-use mathlib.Core.Path.{_≡_, refl, sym, ap, _∙_, subst}
-use mathlib.Core.Bool.{Bool, true, false, cond, not}
-use mathlib.Core.List.{List, [], _∷_, _++_, map, foldl, List·Memᴰ, List·Memᴰ·head, List·Memᴰ·tail}
+use mathlib.Core.Path.{_≡_, refl, ap, subst}
+use mathlib.Core.List.{List, [], _∷_, _++_, foldl}
 use mathlib.Core.Option.{Option, none, some}
 use Prim.Native.Nat.{ℕ, suc}
-use lib.ListN.{length}
-use Rattle.basics.specs.Lists.{filter}
 use Rattle.trees.specs.Lists.{concatMap}
 use Rattle.trees.specs.Sheet.{Sheet}
 use Rattle.trees.specs.Trees.{Tree, chain}
 use Rattle.trees.specs.Traverse.{leaves, vars, comprs}
 use Rattle.trees.specs.Paths.{getExtraArg}
-use Rattle.trees.specs.Statements.{Literal, someVars, someIn, expr, notExpr, every, Stmt, stmtsOf}
-use Rattle.scopes.specs.NameSets.{elements}
-use Rattle.scopes.specs.Scopes.{Scope, noScope, owns, addLocal, addUnscoped, addInput, useInput}
-use Rattle.analysis.specs.States.{sound, QuerySchedule, Run, State, setScope, ifSound, inTurn}
+use Rattle.trees.specs.Statements.{Literal, someVars, someIn, expr, notExpr, every, Stmt}
+use Rattle.scopes.specs.Scopes.{Scope, noScope, addLocal, addUnscoped}
+use Rattle.analysis.specs.States.{QuerySchedule, State, setScope, inTurn}
 use Rattle.analysis.specs.Using.{gatherUsedVars, checkFirstUse, recordEach, atLeastOne}
 use Rattle.analysis.specs.Comprs.{Mods}
 use Rattle.analysis.specs.Statements.{modsOf}
-use Rattle.analysis.specs.Queries.{outputScope, scheduled}
-use Rattle.repeats.specs.SameOuter.{SameOwn}
-use Rattle.repeats.specs.Ways.{Way, propagateBy, allUsedBy, useExprBy, processPlainExprBy, processExtraArgBy, processCallBy, processSomeInBy, processEveryBy, processLiteralBy, processStmtBy, processStmtsBy, outputComprBy, analyzeOutputExprBy, analyzeQueryBy}
-use Rattle.repeats.specs.Members.{Within, mem-left, mem-right, within-append, mem-concatMap}
-use Rattle.repeats.specs.Places.{exprComprs, callComprs, literalComprs, stmtComprs, bodyOf}
-use Rattle.repeats.specs.Beside.{isSound, Own, stateOf, Tables, Beside, failed, going, Good, ifSound-failed, turn-at, turn, beside-map, fold-beside, own-useInput, own-addInputs, gatherUsedVars-good, checkFirstUse-beside, setScope-beside, recordEach-beside, atLeastOne-good}
-use Rattle.repeats.specs.Coupled.{Coupling, forget, useExpr-good, allUsed-same, processPlainExpr-good, processExpr-good, processSomeIn-good}
+use Rattle.repeats.specs.Ways.{Way, allUsedBy, useExprBy, processExtraArgBy, processCallBy, processEveryBy, processLiteralBy, processStmtBy, processStmtsBy}
+use Rattle.repeats.specs.Members.{Within, mem-left, mem-right, within-append}
+use Rattle.repeats.specs.Places.{callComprs, literalComprs, stmtComprs, bodyOf}
+use Rattle.repeats.specs.Beside.{Own, stateOf, Tables, Beside, going, Good, turn, beside-map, fold-beside, gatherUsedVars-good, checkFirstUse-beside, recordEach-beside, atLeastOne-good}
+use Rattle.repeats.specs.CoupledComprs.{Coupling, forget, useExpr-good, allUsed-same}
+use Rattle.repeats.specs.CoupledExprs.{processPlainExpr-good, processExpr-good}
+use Rattle.repeats.specs.CoupledSomeIn.{processSomeIn-good}
 
 -- A relation between two tables, whatever the scope.
 abbrev pub Pairs : Type 1

@@ -1,5 +1,6 @@
 pub mod Lists
 pub mod Settled
+pub mod Takers
 pub mod Events
 pub mod RustWalk
 pub mod SameEvents
@@ -14,11 +15,15 @@ pub mod RustWay
 pub mod Beside
 pub mod Places
 pub mod Members
-pub mod Coupled
+pub mod CoupledComprs
+pub mod CoupledExprs
+pub mod CoupledSomeIn
 pub mod CoupledStmts
 pub mod CoupledQuery
 pub mod Distinct
+pub mod LookUps
 pub mod RustWrites
-pub mod Agreeing
+pub mod Amid
 pub mod MemoRust
 pub mod QueryRepeats
+pub mod Examples

@@ -1,12 +1,12 @@
 -- Laws of `concatMap`, `any` and `find`, and of what a walk enters.
 use mathlib.Core.Path.{_≡_, refl, sym, ap, _∙_}
-use mathlib.Core.Bool.{Bool, true, false, cond, _||_, or-assoc, or-false}
-use mathlib.Core.List.{List, [], _∷_, _++_, map, append-assoc}
+use mathlib.Core.Bool.{Bool, true, false, cond, _||_, or-assoc}
+use mathlib.Core.List.{List, [], _∷_, _++_, append-assoc}
 use mathlib.Core.Option.{Option, none, some}
 use Prim.Native.Nat.{ℕ}
 use lib.Dec.{eqb}
 use Rattle.basics.specs.Truth.{or-left-comm}
-use Rattle.basics.specs.Lists.{filter, elem}
+use Rattle.basics.specs.Lists.{elem}
 use Rattle.trees.specs.Lists.{concatMap, any, find}
 use Rattle.trees.specs.Traverse.{Enters, nothing, params, fields, entered}
 

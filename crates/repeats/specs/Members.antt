@@ -1,7 +1,7 @@
 -- Members of lists that are put together.
 use mathlib.Core.Path.{_≡_, refl, ap₂, subst}
 use mathlib.Core.List.{List, [], _∷_, _++_, List·Memᴰ, List·Memᴰ·head, List·Memᴰ·tail, List·Memᴰ·cases-cons, List·Memᴰ·append-cases, List·Memᴰ·not-nil}
-use mathlib.Core.Logic.{_⊎_, inl, inr, ⊎-elim}
+use mathlib.Core.Logic.{⊎-elim}
 use Rattle.trees.specs.Lists.{concatMap}
 
 module _ {A : Type 0} where

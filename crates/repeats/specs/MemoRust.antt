@@ -1,10 +1,10 @@
 -- The definitions' way and the Rust's side by side: where each query stands at one place, a comprehension that the definitions skip is one
 -- whose second analysis changes nothing in the table.
 use mathlib.Core.Path.{_≡_, refl, sym, ap, _∙_, subst, subst₂}
-use mathlib.Core.Bool.{Bool, true, false, cond, _&&_, _||_, not}
-use mathlib.Core.List.{List, [], _∷_, _++_, map, foldl, append-nil, List·Memᴰ, List·Memᴰ·cases-cons, List·Memᴰ·not-nil}
+use mathlib.Core.Bool.{Bool, true, false, cond, not}
+use mathlib.Core.List.{List, [], _∷_, _++_, map, foldl, append-nil, List·Memᴰ, List·Memᴰ·not-nil}
 use mathlib.Core.Option.{Option, none, some}
-use mathlib.Core.Logic.{_⊎_, inl, inr, ⊎-elim}
+use mathlib.Core.Logic.{inl, ⊎-elim}
 use Prim.Native.Nat.{ℕ, zero, suc}
 use lib.Dec.{eqb}
 use lib.ListN.{length}
@@ -20,20 +20,20 @@ use Rattle.scopes.specs.NameSets.{insert}
 use Rattle.analysis.specs.States.{Fault, sound, QuerySchedule, Run, State, scheduleOf, scopeIn, setRun}
 use Rattle.analysis.specs.Comprs.{Nested, unlessScheduled, analyzeCompr}
 use Rattle.analysis.specs.Exprs.{extraVars}
-use Rattle.analysis.specs.Queries.{outputScope, analyze, analyzeQuery}
-use Rattle.repeats.specs.SameOuter.{SameOwn, below, same-outer}
-use Rattle.repeats.specs.Members.{Within}
-use Rattle.repeats.specs.Distinct.{distinct, Apart, not-elem, apart-sym, elem-left, elem-right, distinct-left, distinct-right, distinct-apart, elem-concatMap, distinct-part, one-or-apart}
-use Rattle.repeats.specs.Ways.{Way, analyzeQueryBy}
+use Rattle.analysis.specs.Queries.{outputScope, analyze}
+use Rattle.repeats.specs.SameOuter.{SameOwn}
+use Rattle.repeats.specs.Distinct.{distinct, apart-sym, elem-left, elem-right, distinct-left, distinct-right, distinct-apart, elem-concatMap, distinct-part}
+use Rattle.repeats.specs.Ways.{analyzeQueryBy}
 use Rattle.repeats.specs.MemoWay.{memoWay, analyzeQuery-memo}
-use Rattle.repeats.specs.RustWay.{noRun, take, rustWay, rustAnalyze, rustAnalyze-same}
+use Rattle.repeats.specs.RustWay.{noRun, take, rustWay, rustAnalyze}
 use Rattle.repeats.specs.Places.{stmtComprs, bodyOf, comprFamily, named, family}
 use Rattle.repeats.specs.Beside.{isSound, Own, stateOf, Tables, Beside, failed, going}
-use Rattle.repeats.specs.CoupledStmts.{Pairs, anywhere, StmtCoupling}
+use Rattle.repeats.specs.CoupledStmts.{StmtCoupling}
 use Rattle.repeats.specs.CoupledQuery
 use Rattle.repeats.specs.CoupledQuery.{OutputCoupling, Ended, ended, query-ended}
-use Rattle.repeats.specs.RustWrites.{Only, take-sound, family-has, rust-only, rust-own}
-use Rattle.repeats.specs.Agreeing.{SameTable, Fresh, Held, same-behind, untouched, fresh-kept, held-kept, held-now}
+use Rattle.repeats.specs.RustWrites.{take-sound, family-has, rust-only, rust-own}
+use Rattle.repeats.specs.LookUps.{SameTable, Fresh, Only, Held, same-behind, fresh-kept}
+use Rattle.repeats.specs.Amid.{runOf, HeldAt, Amid, amid-again, amid-weaken, amid-held, amid-fresh}
 
 -- What the definitions' run m and the Rust's run r of a query come to, where m began with the table T: one fault, or the same schedules.
 pub data Agree (T : List QuerySchedule) (m r : Run) : Type 0 where
@@ -100,103 +100,9 @@ module _ (levels : ℕ) (sheet : Sheet)
   abbrev answer : List Scope → ℕ → List Tree → Run
   answer os q outputs = rustAnalyze levels sheet os q outputs
 
-  abbrev families : ℕ → List Tree → List ℕ
-  families q outputs = family levels sheet q outputs
-
-  -- The Rust's run of a comprehension that stands in a scope.
-  abbrev runOf : Scope → Tree → Run
-  runOf sc e = answer (sc ∷ parents) (rowOf e .third) (outputsOf e)
-
-  abbrev HeldAt : Scope → Tree → List QuerySchedule → Type 0
-  HeldAt sc e T = Held (runOf sc e) (rowOf e .third) T
-
-  -- Amid the comprehensions C, with the queries P to come: each of C is fresh or held, and those of K are held.
-  pub record Amid (C : List Tree) (P : List ℕ) (K : List Tree) (sc : Scope) (T U : List QuerySchedule) : Type 0 where
-    pub apart : distinct (concatMap (comprFamily families) C ++ P) ≡ true
-    pub fresh : Fresh P T
-    pub same : SameTable T (U ++ T₀)
-    pub status : (e : Tree) → List·Memᴰ e C → Fresh (comprFamily families e) T ⊎ HeldAt sc e T
-    pub known : (e : Tree) → List·Memᴰ e K → List·Memᴰ e C × HeldAt sc e T
-
-  held-again : (sc sc′ : Scope) → SameOwn sc sc′ → (e : Tree) (T : List QuerySchedule) → HeldAt sc e T → HeldAt sc′ e T
-  held-again sc sc′ own e T h =
-      subst (λ (f : ℕ → List Tree → Run). Held (f (rowOf e .third) (outputsOf e)) (rowOf e .third) T)
-      (rustAnalyze-same levels sheet (below own (same-outer parents))) h
-
-  amid-again : (C : List Tree) (P : List ℕ) (K : List Tree) (sc sc′ : Scope) (T U : List QuerySchedule) → SameOwn sc sc′ → Amid C P K sc T U
-      → Amid C P K sc′ T U
-  amid-again C P K sc sc′ T U own r = record {
-    apart = r .apart;
-    fresh = r .fresh;
-    same = r .same;
-    status = λ e m.
-        ⊎-elim (λ (f : Fresh (comprFamily families e) T). inl f) (λ (h : HeldAt sc e T). inr (held-again sc sc′ own e T h)) (r .status e m);
-    known = λ e m. (r .known e m .0, held-again sc sc′ own e T (r .known e m .1));
-  }
-
-  amid-weaken : (C : List Tree) (P : List ℕ) (K L : List Tree) → Within L K → (sc : Scope) (T U : List QuerySchedule) → Amid C P K sc T U
-      → Amid C P L sc T U
-  amid-weaken C P K L w sc T U r = record {
-    apart = r .apart;
-    fresh = r .fresh;
-    same = r .same;
-    status = r .status;
-    known = λ e m. r .known e (w e m);
-  }
-
-  -- ---- a comprehension
-
-  -- A held one: skipped by the definitions, analysed again by the Rust.
-  amid-held : (C : List Tree) (P : List ℕ) (K : List Tree) (e : Tree) → List·Memᴰ e C → (sc : Scope) (T U : List QuerySchedule)
-      → Amid C P K sc T U → HeldAt sc e T → Amid C P (e ∷ K) sc T (runOf sc e .schedules ++ U)
-  amid-held C P K e m sc T U r h = record {
-    apart = r .apart;
-    fresh = r .fresh;
-    same = λ x. sym (h .still x) ∙ same-behind (runOf sc e .schedules) T U T₀ (r .same) x;
-    status = r .status;
-    known = λ d n.
-        ⊎-elim (λ (p : d ≡ e). subst (λ (y : Tree). List·Memᴰ y C × HeldAt sc y T) (sym p) (m, h)) (λ (t : List·Memᴰ d K). r .known d t)
-        (List·Memᴰ·cases-cons n);
-  }
-
-  -- A fresh one: analysed by both.
-  amid-fresh : (C : List Tree) (P : List ℕ) (K : List Tree) (e : Tree) → List·Memᴰ e C → (sc : Scope) (T U T₁ : List QuerySchedule)
-      → Amid C P K sc T U → Fresh (comprFamily families e) T → runOf sc e .fault ≡ sound → SameTable T₁ (runOf sc e .schedules ++ T)
-      → Amid C P (e ∷ K) sc T₁ (runOf sc e .schedules ++ U)
-  amid-fresh C P K e m sc T U T₁ r f s now =
-      let cf = comprFamily families in
-      let F = cf e in
-      let W = runOf sc e .schedules in
-      let q = rowOf e .third in
-      let only : Only F W = rust-only levels sheet (sc ∷ parents) q (outputsOf e) s in
-      let parts : distinct (concatMap cf C) ≡ true = distinct-left (concatMap cf C) P (r .apart) in
-      let here : HeldAt sc e T₁ = held-now (runOf sc e) q T T₁ s now (f q (family-has levels sheet q (outputsOf e))) in
-      let hold : (d : Tree) → List·Memᴰ d C → HeldAt sc d T → HeldAt sc d T₁ = λ d n h.
-      ⊎-elim (λ (p : d ≡ e). subst (λ (y : Tree). HeldAt sc y T₁) (sym p) here)
-      (λ (a : Apart (cf d) F).
-      held-kept F W T T₁ only now (runOf sc d) (rowOf d .third) (cf d)
-      (rust-only levels sheet (sc ∷ parents) (rowOf d .third) (outputsOf d) (h .isSound))
-      (family-has levels sheet (rowOf d .third) (outputsOf d)) a h)
-      (one-or-apart cf C parts d e n m) in
-      record {
-        apart = r .apart;
-        fresh = fresh-kept F W T T₁ only now P
-            (apart-sym F P (λ x p. distinct-apart (concatMap cf C) P (r .apart) x (elem-concatMap cf C e m x p))) (r .fresh);
-        same = λ x. now x ∙ same-behind W T U T₀ (r .same) x;
-        status = λ d n.
-            ⊎-elim
-            (λ (k : Fresh (cf d) T).
-            ⊎-elim (λ (p : d ≡ e). inr (subst (λ (y : Tree). HeldAt sc y T₁) (sym p) here))
-            (λ (a : Apart (cf d) F). inl (fresh-kept F W T T₁ only now (cf d) a k)) (one-or-apart cf C parts d e n m))
-            (λ (h : HeldAt sc d T). inr (hold d n h)) (r .status d n);
-        known = λ d n.
-            ⊎-elim (λ (p : d ≡ e). subst (λ (y : Tree). List·Memᴰ y C × HeldAt sc y T₁) (sym p) (m, here))
-            (λ (t : List·Memᴰ d K). (r .known d t .0, hold d (r .known d t .0) (r .known d t .1))) (List·Memᴰ·cases-cons n);
-      }
-
   -- The run that the definitions' analysis of a fresh query gives, beside the Rust's.
-  entered : (σ : Tables) (ps : List Scope) (q : ℕ) (ts : List Tree) (o : Own) (T U : List QuerySchedule) → distinct (families q ts) ≡ true
-      → Fresh (families q ts) T
+  entered : (σ : Tables) (ps : List Scope) (q : ℕ) (ts : List Tree) (o : Own) (T U : List QuerySchedule) → distinct (family levels sheet q ts) ≡ true
+      → Fresh (family levels sheet q ts) T
       → ((T₁ : List QuerySchedule) → answer ps q ts .fault ≡ sound → SameTable T₁ (answer ps q ts .schedules ++ T)
       → σ (o .scope) T₁ (answer ps q ts .schedules ++ U))
       → Beside σ (setRun (nested ps q ts (record { schedules = T; fault = sound })) (stateOf o T)) (take (answer ps q ts) (stateOf o U))
@@ -213,50 +119,50 @@ module _ (levels : ℕ) (sheet : Sheet)
           (going o (m .schedules) (answer ps q ts .schedules ++ U) (k (m .schedules) u now))
 
   enter : (C : List Tree) (P : List ℕ) (σ : Tables) (e : Tree) → List·Memᴰ e C → (K : List Tree) (sc : Scope) (o : Own) (T U : List QuerySchedule)
-      → Amid C P K sc T U → ((A B : List QuerySchedule) → Amid C P (e ∷ K) sc A B → σ (o .scope) A B)
-      → Beside σ (analyzeCompr sheet nested parents (sc ∷ parents) e (stateOf o T)) (take (runOf sc e) (stateOf o U))
+      → Amid levels sheet parents T₀ C P K sc T U → ((A B : List QuerySchedule) → Amid levels sheet parents T₀ C P (e ∷ K) sc A B → σ (o .scope) A B)
+      → Beside σ (analyzeCompr sheet nested parents (sc ∷ parents) e (stateOf o T)) (take (runOf levels sheet parents T₀ sc e) (stateOf o U))
   unfolding analyzeCompr
   enter C P σ e m K sc o T U r k =
-      let cf = comprFamily families in
+      let cf = comprFamily (family levels sheet) in
       let q = rowOf e .third in
       ⊎-elim
       (λ (f : Fresh (cf e) T).
       subst (λ (a : Option QuerySchedule).
       Beside σ (unlessScheduled a (λ t. setRun (nested (sc ∷ parents) q (outputsOf e) (t .run)) t) (stateOf o T))
-      (take (runOf sc e) (stateOf o U))) (sym (f q (family-has levels sheet q (outputsOf e))))
+      (take (runOf levels sheet parents T₀ sc e) (stateOf o U))) (sym (f q (family-has levels sheet q (outputsOf e))))
       (entered σ (sc ∷ parents) q (outputsOf e) o T U
       (distinct-part cf C (distinct-left (concatMap cf C) P (r .apart)) e m) f
-      (λ T₁ s now. k T₁ (runOf sc e .schedules ++ U) (amid-fresh C P K e m sc T U T₁ r f s now))))
-      (λ (h : HeldAt sc e T).
+      (λ T₁ s now. k T₁ (runOf levels sheet parents T₀ sc e .schedules ++ U) (amid-fresh levels sheet parents T₀ C P K e m sc T U T₁ r f s now))))
+      (λ (h : HeldAt levels sheet parents T₀ sc e T).
       subst₂ (λ (a b : State). Beside σ a b) (sym (memo-held levels sheet parents (sc ∷ parents) e o T h))
-      (sym (take-sound (runOf sc e) o U (h .isSound)))
-      (going o T (runOf sc e .schedules ++ U) (k T (runOf sc e .schedules ++ U) (amid-held C P K e m sc T U r h))))
+      (sym (take-sound (runOf levels sheet parents T₀ sc e) o U (h .isSound)))
+      (going o T (runOf levels sheet parents T₀ sc e .schedules ++ U) (k T (runOf levels sheet parents T₀ sc e .schedules ++ U) (amid-held levels sheet parents T₀ C P K e m sc T U r h))))
       (r .status e m)
 
   -- ---- statements and outputs
 
   -- Before the statements that are left: what they and the outputs name is fresh.
   pub record Before (outputs : List Tree) (stmts : List Stmt) (T U : List QuerySchedule) : Type 0 where
-    pub apart : distinct (named families sheet stmts outputs) ≡ true
-    pub fresh : Fresh (named families sheet stmts outputs) T
+    pub apart : distinct (named (family levels sheet) sheet stmts outputs) ≡ true
+    pub fresh : Fresh (named (family levels sheet) sheet stmts outputs) T
     pub same : SameTable T (U ++ T₀)
 
   stmt-coupling : (outputs : List Tree) (st : Stmt) (stmts : List Stmt)
       → StmtCoupling sheet (memoWay sheet nested parents) (rustWay sheet answer parents) st (Before outputs (st ∷ stmts)) (Before outputs stmts)
   unfolding memoWay rustWay named
   stmt-coupling outputs st stmts =
-      let cf = comprFamily families in
+      let cf = comprFamily (family levels sheet) in
       let C = stmtComprs sheet st in
-      let bf : ℕ → List ℕ = λ b. families b [] in
+      let bf : ℕ → List ℕ = λ b. family levels sheet b [] in
       let bodies = concatMap bf (bodyOf (st .literal)) in
-      let rest = named families sheet stmts outputs in
+      let rest = named (family levels sheet) sheet stmts outputs in
       let P = bodies ++ rest in
       record {
         coupling = record {
-          ρ = λ K sc T U. Amid C P K sc T U;
-          again = λ K sc sc′ T U own r. amid-again C P K sc sc′ T U own r;
-          weaken = λ K L w sc T U r. amid-weaken C P K L w sc T U r;
-          enter = λ e m K o T U r. enter C P (λ sc A B. Amid C P (e ∷ K) sc A B) e m K (o .scope) o T U r (λ A B z. z);
+          ρ = λ K sc T U. Amid levels sheet parents T₀ C P K sc T U;
+          again = λ K sc sc′ T U own r. amid-again levels sheet parents T₀ C P K sc sc′ T U own r;
+          weaken = λ K L w sc T U r. amid-weaken levels sheet parents T₀ C P K L w sc T U r;
+          enter = λ e m K o T U r. enter C P (λ sc A B. Amid levels sheet parents T₀ C P (e ∷ K) sc A B) e m K (o .scope) o T U r (λ A B z. z);
           look = λ e K m o T U r. ap scopeIn (r .known e m .1 .look);
         };
         begin = λ sc T U r.
@@ -274,7 +180,7 @@ module _ (levels : ℕ) (sheet : Sheet)
               same = r .same;
             };
         body = λ inner query one o T U r.
-            let F = families query [] in
+            let F = family levels sheet query [] in
             let W = answer (inner ∷ (o .scope ∷ parents)) query [] .schedules in
             let whole : bodies ≡ F = ap (concatMap bf) one ∙ append-nil F in
             let d : distinct (F ++ rest) ≡ true =
@@ -297,20 +203,20 @@ module _ (levels : ℕ) (sheet : Sheet)
   output-coupling outputs =
       let C = concatMap comprs outputs in
       record {
-        ω = λ sc T U. Amid C [] [] (outputScope sc) T U;
-        known = λ e sc T U. Amid C [] (e ∷ []) (outputScope sc) T U;
-        again = λ e sc sc′ T U own r. amid-again C [] (e ∷ []) (outputScope sc) (outputScope sc′) T U (own-outputScope sc sc′ own) r;
+        ω = λ sc T U. Amid levels sheet parents T₀ C [] [] (outputScope sc) T U;
+        known = λ e sc T U. Amid levels sheet parents T₀ C [] (e ∷ []) (outputScope sc) T U;
+        again = λ e sc sc′ T U own r. amid-again levels sheet parents T₀ C [] (e ∷ []) (outputScope sc) (outputScope sc′) T U (own-outputScope sc sc′ own) r;
         enter = λ e m o T U r.
-            enter C [] (λ sc A B. Amid C [] (e ∷ []) (outputScope sc) A B) e m [] (outputScope (o .scope)) o T U r (λ A B z. z);
+            enter C [] (λ sc A B. Amid levels sheet parents T₀ C [] (e ∷ []) (outputScope sc) A B) e m [] (outputScope (o .scope)) o T U r (λ A B z. z);
         look = λ e o T U r. ap scopeIn (r .known e (mathlib.Core.List.List·Memᴰ·head refl) .1 .look);
-        forget = λ e sc T U r. amid-weaken C [] (e ∷ []) [] (λ d m. absurd (List·Memᴰ·not-nil m)) (outputScope sc) T U r;
+        forget = λ e sc T U r. amid-weaken levels sheet parents T₀ C [] (e ∷ []) [] (λ d m. absurd (List·Memᴰ·not-nil m)) (outputScope sc) T U r;
       }
 
   -- After the statements the outputs begin.
-  outputs-begin : (outputs : List Tree) (sc : Scope) (T U : List QuerySchedule) → Before outputs [] T U → Amid (concatMap comprs outputs) [] [] sc T U
+  outputs-begin : (outputs : List Tree) (sc : Scope) (T U : List QuerySchedule) → Before outputs [] T U → Amid levels sheet parents T₀ (concatMap comprs outputs) [] [] sc T U
   unfolding named
   outputs-begin outputs sc T U r =
-      let cf = comprFamily families in
+      let cf = comprFamily (family levels sheet) in
       let C = concatMap comprs outputs in
       record {
         apart = subst (λ (l : List ℕ). distinct l ≡ true) (sym (append-nil (concatMap cf C))) (r .apart);
@@ -321,20 +227,20 @@ module _ (levels : ℕ) (sheet : Sheet)
       }
 
   ended-agree : (outputs : List Tree) (q n : ℕ) {m r : Run}
-      → Ended (λ sc T U. Amid (concatMap comprs outputs) [] [] (outputScope sc) T U) q n m r → Agree T₀ m r
+      → Ended (λ sc T U. Amid levels sheet parents T₀ (concatMap comprs outputs) [] [] (outputScope sc) T U) q n m r → Agree T₀ m r
   ended-agree outputs q n (CoupledQuery.stopped m r p h) = stopped p h
   ended-agree outputs q n (ended o T U g) =
       let a : QuerySchedule = record { query = q; scope = o .scope; count = n; definitions = o .definitions } in
       agreed refl refl (λ x. ap (λ (b : Option QuerySchedule). cond (eqb q x) (some a) b) (g .same x))
 
   -- The claim, one level up.
-  agree-more : (q : ℕ) (outputs : List Tree) → distinct (q ∷ named families sheet (stmtsOf sheet q) outputs) ≡ true
-      → Fresh (q ∷ named families sheet (stmtsOf sheet q) outputs) T₀
+  agree-more : (q : ℕ) (outputs : List Tree) → distinct (q ∷ named (family levels sheet) sheet (stmtsOf sheet q) outputs) ≡ true
+      → Fresh (q ∷ named (family levels sheet) sheet (stmtsOf sheet q) outputs) T₀
       → Agree T₀ (analyzeQueryBy sheet (memoWay sheet nested parents) q outputs (record { schedules = T₀; fault = sound }))
       (analyzeQueryBy sheet (rustWay sheet answer parents) q outputs noRun)
   unfolding memoWay rustWay extraVars output-coupling
   agree-more q outputs d f =
-      let ns = named families sheet (stmtsOf sheet q) outputs in
+      let ns = named (family levels sheet) sheet (stmtsOf sheet q) outputs in
       ended-agree outputs q (length (stmtsOf sheet q))
       (query-ended sheet (memoWay sheet nested parents) (rustWay sheet answer parents) (λ arg. refl) refl (Before outputs) (stmt-coupling outputs) q
       outputs (output-coupling outputs) (λ sc T U r. outputs-begin outputs (outputScope sc) T U r) T₀ []

@@ -1,14 +1,14 @@
 -- The way of the definitions: a comprehension whose query has a schedule is not analysed again.
-use mathlib.Core.Path.{_≡_, refl, fun-ext}
-use mathlib.Core.Bool.{Bool, true, false, cond}
+use mathlib.Core.Path.{_≡_, refl}
+use mathlib.Core.Bool.{Bool, false, cond}
 use mathlib.Core.List.{List, [], _∷_, _++_, foldl}
 use mathlib.Core.Option.{Option, none, some}
-use Prim.Native.Nat.{ℕ, zero, suc}
+use Prim.Native.Nat.{ℕ, suc}
 use lib.ListN.{length}
 use Rattle.trees.specs.Sheet.{Sheet}
 use Rattle.trees.specs.Kinds.{isAssign, isColEq}
 use Rattle.trees.specs.Trees.{Tree, rowOf, firstOf, secondOf}
-use Rattle.trees.specs.Traverse.{leaves, comprs}
+use Rattle.trees.specs.Traverse.{leaves}
 use Rattle.trees.specs.Paths.{getExtraArg}
 use Rattle.trees.specs.Statements.{Literal, someVars, someIn, expr, notExpr, every, Stmt, stmtsOf}
 use Rattle.scopes.specs.Scopes.{Scope}

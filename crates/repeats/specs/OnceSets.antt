@@ -1,7 +1,7 @@
 -- The walk done once uses the names and makes the definitions that the definitions of `uses` list; as sets, for a bracket's own stand
 -- elsewhere in the list.
 use mathlib.Core.Path.{_≡_, refl, sym, ap, ap₂, _∙_}
-use mathlib.Core.Bool.{Bool, true, false, cond, _||_}
+use mathlib.Core.Bool.{Bool, true, false, cond}
 use mathlib.Core.List.{List, [], _∷_, _++_, map, append-nil}
 use Prim.Native.Nat.{ℕ}
 use lib.Dec.{eqb}

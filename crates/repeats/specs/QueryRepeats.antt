@@ -1,17 +1,17 @@
 -- Analysing a query again changes nothing: the Rust's analysis, which analyses a comprehension's query wherever it meets the
 -- comprehension, and that of the definitions, which does so once, have the same fault and the same schedules.
 use mathlib.Core.Path.{_≡_, refl, sym, ap, _∙_}
-use mathlib.Core.Bool.{Bool, true, false}
-use mathlib.Core.List.{List, [], _∷_, _++_, append-nil}
+use mathlib.Core.Bool.{Bool, true}
+use mathlib.Core.List.{List, [], append-nil}
 use Prim.Native.Nat.{ℕ}
 use Rattle.basics.specs.Truth.{not-both}
 use Rattle.records.specs.Layout.{deepest}
 use Rattle.trees.specs.Sheet.{Sheet}
 use Rattle.analysis.specs.States.{sound, QuerySchedule, scheduleOf}
-use Rattle.analysis.specs.Queries.{analyze, analyzeQuerySnippet, scheduleIn}
+use Rattle.analysis.specs.Queries.{analyzeQuerySnippet, scheduleIn}
 use Rattle.repeats.specs.Distinct.{distinct}
 use Rattle.repeats.specs.Places.{family}
-use Rattle.repeats.specs.RustWay.{rustAnalyze, rustAnalyzeQuerySnippet}
+use Rattle.repeats.specs.RustWay.{rustAnalyzeQuerySnippet}
 use Rattle.repeats.specs.Beside.{isSound}
 use Rattle.repeats.specs.MemoRust.{Agree, stopped, agreed, analyze-agree}
 

@@ -1,7 +1,7 @@
 -- The Rust's way: every comprehension is analysed wherever it is met, again if it was analysed before. `analyze_query` of the Rust reads
 -- the table of schedules only for the query that it has just analysed. So what it does is given by the parents, the query and the outputs:
 -- a run of its own, whose schedules go in front of those that are there.
-use mathlib.Core.Path.{_≡_, refl, ap}
+use mathlib.Core.Path.{_≡_, refl}
 use mathlib.Core.Bool.{false}
 use mathlib.Core.List.{List, [], _∷_, _++_}
 use Prim.Native.Nat.{ℕ, zero, suc}

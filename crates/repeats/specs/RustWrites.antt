@@ -1,16 +1,16 @@
 -- What the Rust's analysis of a query writes: schedules of queries at and below it, and its own, if there is no fault.
 use mathlib.Core.Path.{_≡_, refl, sym, ap, _∙_, subst, subst₂}
-use mathlib.Core.Bool.{Bool, true, false, cond, _||_, true≢false}
-use mathlib.Core.List.{List, [], _∷_, _++_, List·Memᴰ}
-use mathlib.Core.Option.{Option, none, some}
+use mathlib.Core.Bool.{Bool, true, false, cond}
+use mathlib.Core.List.{List, [], _∷_, _++_}
+use mathlib.Core.Option.{none, some}
 use mathlib.Core.Logic.{_⊎_, inl, inr, ⊎-elim}
 use Prim.Native.Nat.{ℕ, zero, suc}
 use lib.Dec.{eqb}
 use lib.ListN.{length}
-use borrow.Author.Tests.{eqb-true, eqb-false, eq-eqb, ne-eqb}
+use borrow.Author.Tests.{eq-eqb, ne-eqb}
 use Rattle.basics.specs.Truth.{or-left, not-both}
 use Rattle.basics.specs.Lists.{elem}
-use Rattle.trees.specs.Lists.{concatMap, find, isSome}
+use Rattle.trees.specs.Lists.{concatMap, isSome}
 use Rattle.trees.specs.Sheet.{Sheet}
 use Rattle.trees.specs.Trees.{Tree, rowOf, outputsOf}
 use Rattle.trees.specs.Traverse.{comprs}
@@ -18,30 +18,18 @@ use Rattle.trees.specs.Statements.{Stmt, stmtsOf}
 use Rattle.scopes.specs.Scopes.{Scope}
 use Rattle.analysis.specs.States.{Fault, sound, undefined, usedBefore, lengths, indexVariable, QuerySchedule, Run, State, scheduleOf, setRun}
 use Rattle.analysis.specs.Queries.{outputScope}
-use Rattle.repeats.specs.Lists.{orElse, find-append}
-use Rattle.repeats.specs.Distinct.{not-elem, elem-left, elem-right, elem-concatMap, or-false-left, or-false-right}
-use Rattle.repeats.specs.RustWay.{noRun, Answer, take, rustWay, rustAnalyze}
-use Rattle.repeats.specs.Ways.{Way, analyzeQueryBy}
+use Rattle.repeats.specs.LookUps.{Only, only-append}
+use Rattle.repeats.specs.Distinct.{not-elem, elem-left, elem-right, elem-concatMap}
+use Rattle.repeats.specs.RustWay.{Answer, take, rustWay, rustAnalyze}
 use Rattle.repeats.specs.Places.{stmtComprs, bodyOf, comprFamily, named, family}
 use Rattle.repeats.specs.Beside.{isSound, Own, stateOf, Tables, Beside, failed, going}
-use Rattle.repeats.specs.Coupled.{Coupling}
-use Rattle.repeats.specs.CoupledStmts.{Pairs, StmtCoupling}
+use Rattle.repeats.specs.CoupledComprs.{forget}
+use Rattle.repeats.specs.CoupledStmts.{StmtCoupling}
 use Rattle.repeats.specs.CoupledQuery.{OutputCoupling, Ended, stopped, ended, query-ended}
-
--- The table has schedules of queries on a list alone.
-abbrev pub Only : List ℕ → List QuerySchedule → Type 0
-Only F T = (x : ℕ) → elem x F ≡ false → scheduleOf T x ≡ none
 
 -- Each number on the first list is on the second.
 abbrev pub Sub : List ℕ → List ℕ → Type 0
 Sub k l = (x : ℕ) → elem x k ≡ true → elem x l ≡ true
-
--- A look-up in a table with another in front.
-pub look-append : (T U : List QuerySchedule) (x : ℕ) → scheduleOf (T ++ U) x ≡ orElse (scheduleOf T x) (scheduleOf U x)
-look-append T U x = find-append (λ (a : QuerySchedule). eqb (a .query) x) T U
-
-pub only-append : (F : List ℕ) (T U : List QuerySchedule) → Only F T → Only F U → Only F (T ++ U)
-only-append F T U h k x n = look-append T U x ∙ ap (λ (o : Option QuerySchedule). orElse o (scheduleOf U x)) (h x n) ∙ k x n
 
 fault-cases : (f : Fault) → (f ≡ sound) ⊎ (isSound f ≡ false)
 fault-cases sound = inl refl

@@ -1,6 +1,6 @@
 -- The Rust's walk and the walk done once come to the same for whatever takes their events and is settled.
 use mathlib.Core.Path.{_≡_, refl, sym, ap, _∙_, fun-ext}
-use mathlib.Core.Bool.{Bool, true, false, cond, _||_}
+use mathlib.Core.Bool.{Bool, true, false, cond}
 use mathlib.Core.List.{List, [], _∷_, _++_, append-assoc, foldl, foldl-append}
 use Prim.Native.Nat.{ℕ}
 use lib.Dec.{eqb}
@@ -17,7 +17,8 @@ use Rattle.trees.specs.Traverse.{Enters, nothing, params, fields, enters, enter
 use Rattle.scopes.specs.Scopes.{Scope}
 use Rattle.uses.specs.Uses.{define, indexVars}
 use Rattle.repeats.specs.Lists.{elem-any}
-use Rattle.repeats.specs.Settled.{Settled, repeats, foldl-concatMap, settled-parts, orPasses, foldl-any, any-settled}
+use Rattle.repeats.specs.Settled.{Settled, repeats, foldl-concatMap, settled-parts}
+use Rattle.repeats.specs.Takers.{orPasses, foldl-any, any-settled}
 use Rattle.repeats.specs.Events.{Event, defined, used}
 use Rattle.repeats.specs.RustWalk.{namesUsed, usedAt, indexed, ownEvents, visit, rustWalk, walkOnce}
 

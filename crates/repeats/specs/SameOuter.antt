@@ -1,15 +1,14 @@
 -- Parents with the same locals and unscoped: `var_exists` reads nothing else of them, so the scope gathered for a query is the same.
-use mathlib.Core.Path.{_≡_, refl, ap, fun-ext}
-use mathlib.Core.Bool.{Bool, true, false, cond, not, _||_, _&&_}
+use mathlib.Core.Path.{_≡_, refl}
+use mathlib.Core.Bool.{true, false, cond, not, _||_, _&&_}
 use mathlib.Core.List.{List, [], _∷_, foldl}
 use mathlib.Core.Option.{Option, none, some}
-use Prim.Native.Nat.{ℕ}
-use Rattle.trees.specs.Sheet.{Sheet, Row, isInput, isSpecial}
+use Rattle.trees.specs.Sheet.{Sheet, isInput, isSpecial}
 use Rattle.trees.specs.Kinds.{isVar, isRefBrack, isAssign, isColEq}
 use Rattle.trees.specs.Trees.{Tree, rowOf, firstOf, secondOf, chain}
 use Rattle.trees.specs.Traverse.{traverse, leaves, vars}
 use Rattle.trees.specs.Paths.{getExtraArg}
-use Rattle.trees.specs.Statements.{Literal, someVars, someIn, expr, notExpr, every, Stmt}
+use Rattle.trees.specs.Statements.{Literal, someVars, someIn, expr, notExpr, every}
 use Rattle.scopes.specs.NameSets.{contains}
 use Rattle.scopes.specs.Scopes.{Scope, noScope, spanIn, addLocal, addUnscoped, addInput, useInput, removeShadowed, notBelow, varExists}
 use Rattle.scopes.specs.Gather.{assignVar, gatherAssignedVars, inputVar, gatherInputVars, loopVar, gatherLoopVars, gatherRead, gatherVars}

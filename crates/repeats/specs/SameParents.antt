@@ -23,15 +23,15 @@ memoWay-same : (sheet : Sheet) (nested : Nested) {ps qs : List Scope} → SameOu
 unfolding memoWay analyzeCompr extraVars
 memoWay-same sheet nested {ps} {qs} h deeper twice =
     λ i.
-        record {
-          start = gatherLocalVars-same sheet ps qs (varExists-same h) i;
-          extraVars = λ arg. elements (gatherAssignedVars-same sheet ps qs (varExists-same h) i false arg noScope .unscoped);
-          compr = λ sc e s.
-              unlessScheduled (scheduleOf (s .run .schedules) (rowOf e .third))
-              (λ t. setRun (deeper sc i (rowOf e .third) (outputsOf e) (t .run)) t) s;
-          comprScope = λ sc s e. comprScope s e;
-          body = λ inner sc q s. setRun (twice inner sc i q [] (s .run)) s;
-        }
+    record {
+      start = gatherLocalVars-same sheet ps qs (varExists-same h) i;
+      extraVars = λ arg. elements (gatherAssignedVars-same sheet ps qs (varExists-same h) i false arg noScope .unscoped);
+      compr = λ sc e s.
+          unlessScheduled (scheduleOf (s .run .schedules) (rowOf e .third))
+          (λ t. setRun (deeper sc i (rowOf e .third) (outputsOf e) (t .run)) t) s;
+      comprScope = λ sc s e. comprScope s e;
+      body = λ inner sc q s. setRun (twice inner sc i q [] (s .run)) s;
+    }
 
 -- Under parents with the same locals and unscoped the analysis of a query is the same function of query, outputs and run.
 pub analyze-same : (levels : ℕ) (sheet : Sheet) {ps qs : List Scope} → SameOuter ps qs → analyze levels sheet ps ≡ analyze levels sheet qs

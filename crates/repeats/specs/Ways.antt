@@ -1,5 +1,5 @@
 -- Query analysis over a way to analyse the queries inside a query. The definitions of `analysis` are one such way, the Rust's is another.
-use mathlib.Core.Bool.{Bool, true, false, cond, not}
+use mathlib.Core.Bool.{Bool, false, cond, not}
 use mathlib.Core.List.{List, [], _∷_, _++_, map, foldl}
 use mathlib.Core.Option.{Option, none, some}
 use Prim.Native.Nat.{ℕ, suc}

@@ -1,16 +1,16 @@
 -- Look-ups in tables, and how they change when a query's schedules enter.
-use mathlib.Core.Path.{_≡_, refl, sym, ap, _∙_}
-use mathlib.Core.Bool.{Bool, true, false}
-use mathlib.Core.List.{List, [], _∷_, _++_, append-assoc}
-use mathlib.Core.Option.{Option, none, some}
-use mathlib.Core.Logic.{_⊎_, inl, inr, ⊎-elim}
+use mathlib.Core.Path.{_≡_, sym, ap, _∙_}
+use mathlib.Core.Bool.{true, false}
+use mathlib.Core.List.{List, _++_, append-assoc}
+use mathlib.Core.Option.{Option, none}
+use mathlib.Core.Logic.{⊎-elim}
 use Prim.Native.Nat.{ℕ}
 use Rattle.basics.specs.Truth.{bool-cases}
 use Rattle.basics.specs.Lists.{elem}
 use Rattle.analysis.specs.States.{sound, QuerySchedule, Run, scheduleOf}
-use Rattle.repeats.specs.Lists.{orElse, orElse-none, orElse-twice}
-use Rattle.repeats.specs.Distinct.{Apart, apart-sym}
-use Rattle.repeats.specs.RustWrites.{Only, look-append}
+use Rattle.repeats.specs.Lists.{orElse, orElse-none, orElse-twice, find-append}
+use Rattle.repeats.specs.Distinct.{Apart}
+use lib.Dec.{eqb}
 
 -- Two tables in which every query has the same schedule, or none.
 abbrev pub SameTable : List QuerySchedule → List QuerySchedule → Type 0
@@ -19,6 +19,17 @@ SameTable T U = (x : ℕ) → scheduleOf T x ≡ scheduleOf U x
 -- No query on the list has a schedule.
 abbrev pub Fresh : List ℕ → List QuerySchedule → Type 0
 Fresh F T = (x : ℕ) → elem x F ≡ true → scheduleOf T x ≡ none
+
+-- The table has schedules of queries on a list alone.
+abbrev pub Only : List ℕ → List QuerySchedule → Type 0
+Only F T = (x : ℕ) → elem x F ≡ false → scheduleOf T x ≡ none
+
+-- A look-up in a table with another in front.
+pub look-append : (T U : List QuerySchedule) (x : ℕ) → scheduleOf (T ++ U) x ≡ orElse (scheduleOf T x) (scheduleOf U x)
+look-append T U x = find-append (λ (a : QuerySchedule). eqb (a .query) x) T U
+
+pub only-append : (F : List ℕ) (T U : List QuerySchedule) → Only F T → Only F U → Only F (T ++ U)
+only-append F T U h k x n = look-append T U x ∙ ap (λ (o : Option QuerySchedule). orElse o (scheduleOf U x)) (h x n) ∙ k x n
 
 -- The run r of a query q changes nothing in the table: it has no fault, its schedules are all there, and so is that of q.
 pub record Held (r : Run) (q : ℕ) (T : List QuerySchedule) : Type 0 where
