@@ -13,6 +13,7 @@ pub mod MemoWay
 pub mod SameParents
 pub mod RustWay
 pub mod Beside
+pub mod RustGather
 pub mod Places
 pub mod Members
 pub mod CoupledComprs
