@@ -36,11 +36,13 @@ module _ (levels : ℕ) (sheet : Sheet) (parents : List Scope) (T₀ : List Quer
     pub status : (e : Tree) → List·Memᴰ e C → Fresh (comprFamily (family levels sheet) e) T ⊎ HeldAt sc e T
     pub known : (e : Tree) → List·Memᴰ e K → List·Memᴰ e C × HeldAt sc e T
 
+  -- A run that is held stays so if the scope keeps its locals and unscoped.
   held-again : (sc sc′ : Scope) → SameOwn sc sc′ → (e : Tree) (T : List QuerySchedule) → HeldAt sc e T → HeldAt sc′ e T
   held-again sc sc′ own e T h =
       subst (λ (f : ℕ → List Tree → Run). Held (f (rowOf e .third) (outputsOf e)) (rowOf e .third) T)
       (rustAnalyze-same levels sheet (below own (same-outer parents))) h
 
+  -- All of it stays so.
   pub amid-again : (C : List Tree) (P : List ℕ) (K : List Tree) (sc sc′ : Scope) (T U : List QuerySchedule) → SameOwn sc sc′ → Amid C P K sc T U
       → Amid C P K sc′ T U
   amid-again C P K sc sc′ T U own r = record {
@@ -52,6 +54,7 @@ module _ (levels : ℕ) (sheet : Sheet) (parents : List Scope) (T₀ : List Quer
     known = λ e m. (r .known e m .0, held-again sc sc′ own e T (r .known e m .1));
   }
 
+  -- Less may be known.
   pub amid-weaken : (C : List Tree) (P : List ℕ) (K L : List Tree) → Within L K → (sc : Scope) (T U : List QuerySchedule) → Amid C P K sc T U
       → Amid C P L sc T U
   amid-weaken C P K L w sc T U r = record {

@@ -17,6 +17,7 @@ use Rattle.analysis.specs.Using.{undefinedAt, gatherUsedVars, usedBeforeAt, che
 use Rattle.analysis.specs.SomeIn.{failIfSome}
 use Rattle.repeats.specs.SameOuter.{SameOwn}
 
+-- Is there no fault?
 abbrev pub isSound : Fault → Bool
 isSound sound = true
 isSound (undefined l c) = false
@@ -48,6 +49,7 @@ pub data Beside (ρ : Tables) : State → State → Type 0 where
 abbrev pub Good : Tables → Tables → (State → State) → (State → State) → Type 0
 Good ρ σ f g = (o : Own) (T U : List QuerySchedule) → ρ (o .scope) T U → Beside σ (f (stateOf o T)) (g (stateOf o U))
 
+-- After a fault nothing is done.
 pub ifSound-failed : {A : Type 0} (f : Fault) → isSound f ≡ false → (g : A → A) (a : A) → ifSound f g a ≡ a
 ifSound-failed sound h g a = absurd (true≢false h)
 ifSound-failed (undefined l c) h g a = refl
@@ -63,6 +65,7 @@ turn-at ρ σ F G h (failed s u p q) =
     (sym (ifSound-failed (u .run .fault) (sym (ap isSound p) ∙ q) (G u) u)) (failed s u p q)
 turn-at ρ σ F G h (going o T U r) = h o T U r
 
+-- The same for a step that is made without the state.
 pub turn : (ρ σ : Tables) (f g : State → State) → Good ρ σ f g → {s u : State} → Beside ρ s u
     → Beside σ (ifSound (s .run .fault) f s) (ifSound (u .run .fault) g u)
 turn ρ σ f g h b = turn-at ρ σ (λ s. f) (λ u. g) h b
@@ -82,10 +85,12 @@ fold-beside ρ f g (x ∷ xs) h {s} {u} b =
 
 -- ---- the scope keeps its locals and unscoped
 
+-- The input flag is no matter.
 pub own-useInput : (b : Bool) (sc : Scope) → SameOwn sc (useInput b sc)
 unfolding useInput
 own-useInput b sc = record { locals = refl; unscoped = refl }
 
+-- Nor are inputs.
 pub own-addInputs : (sc : Scope) (xs : List ℕ) (from : Scope) → SameOwn sc from → SameOwn sc (foldl addInput from xs)
 unfolding addInput
 own-addInputs sc [] from h = h
@@ -102,10 +107,12 @@ module _ (ρ : Tables) (again : (sc sc′ : Scope) (T U : List QuerySchedule) �
   fail-good (lengths l c) o T U r = failed (fail (lengths l c) (stateOf o T)) (fail (lengths l c) (stateOf o U)) refl refl
   fail-good indexVariable o T U r = failed (fail indexVariable (stateOf o T)) (fail indexVariable (stateOf o U)) refl refl
 
+  -- A fault, or a step that is good.
   pub failOr-good : (f : Option Fault) (g : State → State) → Good ρ ρ g g → Good ρ ρ (failOr f g) (failOr f g)
   failOr-good none g h o T U r = h o T U r
   failOr-good (some f) g h o T U r = fail-good f o T U r
 
+  -- What an expression's walk leaves in the state.
   gathered-good : (b : Bool) (spans : List Span) (defs : List Definition)
       → Good ρ ρ (inTurn ((λ u. setScope (useInput b (u .scope)) u) ∷ addFirstUses spans ∷ addDefinitions defs ∷ []))
       (inTurn ((λ u. setScope (useInput b (u .scope)) u) ∷ addFirstUses spans ∷ addDefinitions defs ∷ []))
@@ -118,6 +125,7 @@ module _ (ρ : Tables) (again : (sc sc′ : Scope) (T U : List QuerySchedule) �
       } in
       going p T U (again (o .scope) (useInput b (o .scope)) T U (own-useInput b (o .scope)) r)
 
+  -- `gatherUsedVars`.
   pub gatherUsedVars-good : (sheet : Sheet) (i : ℕ) (extras : List ℕ) (t : Tree)
       → Good ρ ρ (gatherUsedVars sheet i extras t) (gatherUsedVars sheet i extras t)
   unfolding gatherUsedVars
@@ -128,6 +136,7 @@ module _ (ρ : Tables) (again : (sc sc′ : Scope) (T U : List QuerySchedule) �
       (inTurn ((λ u. setScope (useInput (readsInput sheet t) (u .scope)) u) ∷ addFirstUses spans ∷ addDefinitions defs ∷ []))
       (gathered-good (readsInput sheet t) spans defs) o T U r
 
+  -- `checkFirstUse`.
   pub checkFirstUse-beside : (w : Row) {s u : State} → Beside ρ s u → Beside ρ (checkFirstUse s w) (checkFirstUse u w)
   unfolding checkFirstUse
   checkFirstUse-beside w b =
@@ -135,6 +144,7 @@ module _ (ρ : Tables) (again : (sc sc′ : Scope) (T U : List QuerySchedule) �
       turn-at ρ ρ F F
       (λ o T U r. failOr-good (usedBeforeAt (spanIn (o .firstUses) (w .name)) w) (λ t. t) (λ p A B x. going p A B x) o T U r) b
 
+  -- `checkAssigned`.
   pub checkAssigned-good : (check : Bool) (t : Tree) → Good ρ ρ (checkAssigned check t) (checkAssigned check t)
   unfolding checkAssigned
   checkAssigned-good false t o T U r = going o T U r
@@ -142,6 +152,7 @@ module _ (ρ : Tables) (again : (sc sc′ : Scope) (T U : List QuerySchedule) �
       fold-beside ρ checkFirstUse checkFirstUse (filter (λ (w : Row). isLocal (o .scope) (w .name)) (vars (leaves t)))
       (λ w m s u b. checkFirstUse-beside w b) (going o T U r)
 
+  -- Equal first uses are added.
   pub addFirstUses-beside : (k l : List Span) → k ≡ l → (o : Own) (T U : List QuerySchedule) → ρ (o .scope) T U
       → Beside ρ (addFirstUses k (stateOf o T)) (addFirstUses l (stateOf o U))
   unfolding addFirstUses
@@ -149,6 +160,7 @@ module _ (ρ : Tables) (again : (sc sc′ : Scope) (T U : List QuerySchedule) �
       let p : Own = record { scope = o .scope; firstUses = foldl addFirstUse (o .firstUses) k; definitions = o .definitions } in
       subst (λ (m : List Span). Beside ρ (addFirstUses k (stateOf o T)) (addFirstUses m (stateOf o U))) e (going p T U r)
 
+  -- Equal definitions are added.
   pub addDefinitions-beside : (k l : List Definition) → k ≡ l → (o : Own) (T U : List QuerySchedule) → ρ (o .scope) T U
       → Beside ρ (addDefinitions k (stateOf o T)) (addDefinitions l (stateOf o U))
   unfolding addDefinitions
@@ -156,6 +168,7 @@ module _ (ρ : Tables) (again : (sc sc′ : Scope) (T U : List QuerySchedule) �
       let p : Own = record { scope = o .scope; firstUses = o .firstUses; definitions = o .definitions ++ k } in
       subst (λ (m : List Definition). Beside ρ (addDefinitions k (stateOf o T)) (addDefinitions m (stateOf o U))) e (going p T U r)
 
+  -- Equal scopes are set.
   pub setScope-beside : (k l : Scope) → k ≡ l → (o : Own) (T U : List QuerySchedule) → ρ k T U
       → Beside ρ (setScope k (stateOf o T)) (setScope l (stateOf o U))
   unfolding setScope
@@ -163,12 +176,14 @@ module _ (ρ : Tables) (again : (sc sc′ : Scope) (T U : List QuerySchedule) �
       let p : Own = record { scope = k; firstUses = o .firstUses; definitions = o .definitions } in
       subst (λ (m : Scope). Beside ρ (setScope k (stateOf o T)) (setScope m (stateOf o U))) e (going p T U r)
 
+  -- A definition from equal names is recorded.
   pub recordOne-beside : (i x : ℕ) (k l : List ℕ) → k ≡ l → (o : Own) (T U : List QuerySchedule) → ρ (o .scope) T U
       → Beside ρ (recordOne i x k (stateOf o T)) (recordOne i x l (stateOf o U))
   unfolding recordOne
   recordOne-beside i x k l e o T U r =
       addDefinitions-beside (define i x k ∷ []) (define i x l ∷ []) (ap (λ m. define i x m ∷ []) e) o T U r
 
+  -- Definitions from equal names are recorded.
   pub recordEach-beside : (i : ℕ) (names : List ℕ) (k l : ℕ → List ℕ) → k ≡ l → (o : Own) (T U : List QuerySchedule) → ρ (o .scope) T U
       → Beside ρ (recordEach i names k (stateOf o T)) (recordEach i names l (stateOf o U))
   unfolding recordEach
@@ -177,10 +192,12 @@ module _ (ρ : Tables) (again : (sc sc′ : Scope) (T U : List QuerySchedule) �
       addDefinitions-beside (map (λ y. define i y (k y)) (x ∷ names)) (map (λ y. define i y (l y)) (x ∷ names))
       (ap (λ (m : ℕ → List ℕ). map (λ y. define i y (m y)) (x ∷ names)) e) o T U r
 
+  -- `failIfSome`.
   pub failIfSome-good : (defs : List Definition) → Good ρ ρ (failIfSome defs) (failIfSome defs)
   failIfSome-good [] o T U r = going o T U r
   failIfSome-good (d ∷ defs) o T U r = fail-good indexVariable o T U r
 
+  -- `atLeastOne`.
   pub atLeastOne-good : (i : ℕ) → Good ρ ρ (atLeastOne i) (atLeastOne i)
   unfolding atLeastOne
   atLeastOne-good i o T U r = go (ofStatement i (o .definitions))

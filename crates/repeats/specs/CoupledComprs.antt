@@ -31,6 +31,7 @@ pub record Coupling (way way′ : Way) (C : List Tree) : Type 1 where
 module _ (sheet : Sheet) (way way′ : Way) (C : List Tree) (c : Coupling way way′ C) where
   -- ---- comprehensions
 
+  -- Known comprehensions use the same names.
   comprsUse-same : (cs K : List Tree) → Within cs K → (o : Own) (T U : List QuerySchedule) → c .ρ K (o .scope) T U
       → comprsUseBy sheet way cs (stateOf o T) ≡ comprsUseBy sheet way′ cs (stateOf o U)
   unfolding comprsUseBy
@@ -39,6 +40,7 @@ module _ (sheet : Sheet) (way way′ : Way) (C : List Tree) (c : Coupling way wa
       (λ e. filter (owns (o .scope)) (elements (way′ .comprScope (o .scope) (stateOf o U) e .inputs))) cs
       (λ e m. ap (λ (x : Scope). filter (owns (o .scope)) (elements (x .inputs))) (c .look e K (h e m) o T U r))
 
+  -- What a known comprehension propagates.
   pub propagate-good : (e : Tree) (K : List Tree) → List·Memᴰ e K
       → Good (c .ρ K) (c .ρ K) (λ t. propagateBy sheet way (t .scope) e t) (λ t. propagateBy sheet way′ (t .scope) e t)
   unfolding propagateBy
@@ -51,6 +53,7 @@ module _ (sheet : Sheet) (way way′ : Way) (C : List Tree) (c : Coupling way wa
       (own-addInputs (o .scope) (filter (λ y. not (owns (o .scope) y)) (elements (x .inputs))) (useInput (x .usesInput) (o .scope))
       (own-useInput (x .usesInput) (o .scope))) r)
 
+  -- What it uses.
   useCompr-good : (e : Tree) (K : List Tree) → List·Memᴰ e K → Good (c .ρ K) (c .ρ K) (useComprBy sheet way e) (useComprBy sheet way′ e)
   unfolding useComprBy
   useCompr-good e K m o T U r =
@@ -60,6 +63,7 @@ module _ (sheet : Sheet) (way way′ : Way) (C : List Tree) (c : Coupling way wa
       (ap F (comprsUse-same (e ∷ []) K
       (λ d n. subst (λ (x : Tree). List·Memᴰ x K) (sym (List·Memᴰ·eq-of-singleton n)) m) o T U r)) o T U r
 
+  -- A comprehension is processed, and known from then on.
   processCompr-beside : (e : Tree) → List·Memᴰ e C → (K : List Tree) {s u : State} → Beside (c .ρ K) s u
       → Beside (c .ρ (e ∷ K)) (processComprBy sheet way s e) (processComprBy sheet way′ u e)
   unfolding processComprBy
@@ -70,6 +74,7 @@ module _ (sheet : Sheet) (way way′ : Way) (C : List Tree) (c : Coupling way wa
       (turn (c .ρ L) (c .ρ L) (λ t. propagateBy sheet way (t .scope) e t) (λ t. propagateBy sheet way′ (t .scope) e t) (propagate-good e L here)
       (turn-at (c .ρ K) (c .ρ L) (λ s. way .compr (s .scope) e) (λ s. way′ .compr (s .scope) e) (c .enter e m K) b))
 
+  -- So are all of a list.
   pub processComprs-beside : (cs : List Tree) → Within cs C → (K : List Tree) {s u : State} → Beside (c .ρ K) s u
       → Beside (c .ρ (cs ++ K)) (foldl (processComprBy sheet way) s cs) (foldl (processComprBy sheet way′) u cs)
   processComprs-beside [] h K b = b
@@ -81,6 +86,7 @@ module _ (sheet : Sheet) (way way′ : Way) (C : List Tree) (c : Coupling way wa
   pub forget : (cs K : List Tree) {s u : State} → Beside (c .ρ (cs ++ K)) s u → Beside (c .ρ K) s u
   forget cs K b = beside-map (c .ρ (cs ++ K)) (c .ρ K) (c .weaken (cs ++ K) K (mem-right cs K)) b
 
+  -- An expression with its comprehensions and the modifiers'.
   pub useExpr-good : (i : ℕ) (extras : List ℕ) (m : Mods) (t : Tree) → Within (comprs t ++ m .comprs) C → (K : List Tree)
       → Good (c .ρ K) (c .ρ ((comprs t ++ m .comprs) ++ K)) (useExprBy sheet way i extras m t) (useExprBy sheet way′ i extras m t)
   unfolding useExprBy processComprsBy
@@ -90,6 +96,7 @@ module _ (sheet : Sheet) (way way′ : Way) (C : List Tree) (c : Coupling way wa
       (λ p A B x. processComprs-beside cs h K (going p A B x))
       (gatherUsedVars-good (c .ρ K) (c .again K) sheet i extras t o T U r)
 
+  -- All that it uses is the same, once these are known.
   pub allUsed-same : (extras : List ℕ) (m : Mods) (t : Tree) (K : List Tree) → Within (comprs t ++ m .comprs) K → (o : Own) (T U : List QuerySchedule)
       → c .ρ K (o .scope) T U → allUsedBy sheet way extras m t (stateOf o T) ≡ allUsedBy sheet way′ extras m t (stateOf o U)
   unfolding allUsedBy

@@ -22,6 +22,7 @@ use Rattle.repeats.specs.Beside.{stateOf, Beside, going, Good, turn, fol
 use Rattle.repeats.specs.CoupledComprs.{Coupling, forget, useExpr-good, allUsed-same}
 
 module _ (sheet : Sheet) (way way′ : Way) (C : List Tree) (c : Coupling way way′ C) where
+  -- One direction of a pair.
   assignOneWay-good : (i : ℕ) (m : Mods) (check : Bool) (target source : Tree) → Within (comprs source ++ m .comprs) C → (K : List Tree)
       → Good (c .ρ K) (c .ρ K) (assignOneWayBy sheet way i m check target source) (assignOneWayBy sheet way′ i m check target source)
   unfolding assignOneWayBy
@@ -40,6 +41,7 @@ module _ (sheet : Sheet) (way way′ : Way) (C : List Tree) (c : Coupling way wa
       (turn (c .ρ L) (c .ρ L) (checkAssigned check target) (checkAssigned check target) (checkAssigned-good (c .ρ L) (c .again L) check target)
       (useExpr-good sheet way way′ C c i [] m source h K o T U r)))
 
+  -- Both directions, or a mismatch.
   assignPairing-beside : (i : ℕ) (m : Mods) (check : Bool) (p : Pairing) → Within (pairComprs p) C → Within (m .comprs) C → (K : List Tree)
       → {s u : State} → Beside (c .ρ K) s u → Beside (c .ρ K) (assignPairingBy sheet way i m check s p) (assignPairingBy sheet way′ i m check u p)
   unfolding assignPairingBy
@@ -54,6 +56,7 @@ module _ (sheet : Sheet) (way way′ : Way) (C : List Tree) (c : Coupling way wa
       turn (c .ρ K) (c .ρ K) (fail (lengths (v .line) (v .col))) (fail (lengths (v .line) (v .col)))
       (fail-good (c .ρ K) (c .again K) (lengths (v .line) (v .col))) b
 
+  -- A plain expression.
   pub processPlainExpr-good : (i : ℕ) (m : Mods) (e : Tree) → Within (comprs e) C → Within (m .comprs) C → (K : List Tree)
       → Good (c .ρ K) (c .ρ K) (processPlainExprBy sheet way i m e) (processPlainExprBy sheet way′ i m e)
   unfolding processPlainExprBy
@@ -67,6 +70,7 @@ module _ (sheet : Sheet) (way way′ : Way) (C : List Tree) (c : Coupling way wa
       (allUsed-same sheet way way′ C c [] m e L (mem-left cs K) p A B z) p A B z)
       (useExpr-good sheet way way′ C c i [] m e (within-append (comprs e) (m .comprs) C h k) K o T U r))
 
+  -- Any expression.
   pub processExpr-good : (i : ℕ) (m : Mods) (e : Tree) → Within (exprComprs e) C → Within (m .comprs) C → (K : List Tree)
       → Good (c .ρ K) (c .ρ K) (processExprBy sheet way i m e) (processExprBy sheet way′ i m e)
   unfolding processExprBy exprComprs processAssignExprBy

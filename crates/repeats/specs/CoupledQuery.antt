@@ -41,6 +41,7 @@ pub data Ended (ω : Tables) (q n : ℕ) : Run → Run → Type 0 where
 
 module _ (sheet : Sheet) (way way′ : Way) where
   module _ (C : List Tree) (c : OutputCoupling way way′ C) where
+    -- What a known comprehension propagates.
     propagate-good : (e : Tree)
         → Good (c .known e) (c .known e) (λ t. propagateBy sheet way (outputScope (t .scope)) e t) (λ t. propagateBy sheet way′ (outputScope (t .scope)) e t)
     unfolding propagateBy
@@ -54,6 +55,7 @@ module _ (sheet : Sheet) (way way′ : Way) where
         (own-addInputs (o .scope) (filter (λ y. not (owns (o .scope) y)) (elements (x .inputs))) (useInput (x .usesInput) (o .scope))
         (own-useInput (x .usesInput) (o .scope))) r)
 
+    -- A comprehension of an output.
     outputCompr-beside : (e : Tree) → List·Memᴰ e C → {s u : State} → Beside (c .ω) s u
         → Beside (c .ω) (outputComprBy sheet way s e) (outputComprBy sheet way′ u e)
     unfolding outputComprBy
@@ -63,6 +65,7 @@ module _ (sheet : Sheet) (way way′ : Way) where
         (λ t. propagateBy sheet way′ (outputScope (t .scope)) e t) (propagate-good e)
         (turn-at (c .ω) (c .known e) (λ s. way .compr (outputScope (s .scope)) e) (λ s. way′ .compr (outputScope (s .scope)) e) (c .enter e m) b))
 
+    -- The outputs, in order.
     outputs-beside : (outputs : List Tree) → Within (concatMap comprs outputs) C → {s u : State} → Beside (c .ω) s u
         → Beside (c .ω) (foldl (analyzeOutputExprBy sheet way) s outputs) (foldl (analyzeOutputExprBy sheet way′) u outputs)
     unfolding analyzeOutputExprBy
@@ -72,6 +75,7 @@ module _ (sheet : Sheet) (way way′ : Way) where
         fold-beside (c .ω) (outputComprBy sheet way) (outputComprBy sheet way′) (comprs t)
         (λ e n s′ u′ b″. outputCompr-beside e (h e (mem-concatMap comprs outputs t m e n)) b″) b′) b
 
+  -- States side by side end side by side.
   ended-of : (ω : Tables) (q n : ℕ) {s u : State} → Beside ω s u
       → Ended ω q n (ifSound (s .run .fault) (scheduled q n s) (s .run)) (ifSound (u .run .fault) (scheduled q n u) (u .run))
   unfolding scheduled

@@ -19,6 +19,7 @@ use Rattle.repeats.specs.Beside.{stateOf, Beside, going, Good, turn, bes
 use Rattle.repeats.specs.CoupledComprs.{Coupling, processComprs-beside, forget, useExpr-good, allUsed-same}
 
 module _ (sheet : Sheet) (way way′ : Way) (C : List Tree) (c : Coupling way way′ C) where
+  -- What is left of a pattern, one by one.
   processNonVar-beside : (i : ℕ) (m : Mods) (e : Tree) → Within (comprs e ++ m .comprs) C → (K : List Tree) {s u : State} → Beside (c .ρ K) s u
       → Beside (c .ρ ((comprs e ++ m .comprs) ++ K)) (processNonVarBy sheet way i m s e) (processNonVarBy sheet way′ i m u e)
   unfolding processNonVarBy processComprsBy
@@ -36,6 +37,7 @@ module _ (sheet : Sheet) (way way′ : Way) (C : List Tree) (c : Coupling way wa
   allComprs : Mods → List Tree → List Tree
   allComprs m others = concatMap (λ e. comprs e ++ m .comprs) others
 
+  -- All that is left of a pattern.
   processNonVars-beside : (i : ℕ) (m : Mods) (others : List Tree) → ((e : Tree) → List·Memᴰ e others → Within (comprs e ++ m .comprs) C)
       → (K : List Tree) {s u : State} → Beside (c .ρ K) s u
       → Beside (c .ρ (allComprs m others ++ K)) (foldl (processNonVarBy sheet way i m) s others) (foldl (processNonVarBy sheet way′ i m) u others)
@@ -51,6 +53,7 @@ module _ (sheet : Sheet) (way way′ : Way) (C : List Tree) (c : Coupling way wa
       (λ d n. mem-right rest (cs ++ K) d (mem-right cs K d n))))
       (processNonVars-beside i m others (λ d n. h d (List·Memᴰ·tail n)) (cs ++ K) (processNonVar-beside i m e (h e (List·Memᴰ·head refl)) K b))
 
+  -- `some .. in ..`.
   pub processSomeIn-good : (i : ℕ) (m : Mods) (pattern : List Tree) (collection : Tree) → Within (comprs collection) C
       → Within (concatMap comprs pattern) C → Within (m .comprs) C → (K : List Tree)
       → Good (c .ρ K) (c .ρ K) (processSomeInBy sheet way i m pattern collection) (processSomeInBy sheet way′ i m pattern collection)

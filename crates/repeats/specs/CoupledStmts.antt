@@ -26,6 +26,7 @@ use Rattle.repeats.specs.CoupledSomeIn.{processSomeIn-good}
 abbrev pub Pairs : Type 1
 Pairs = List QuerySchedule → List QuerySchedule → Type 0
 
+-- It holds at any scope.
 abbrev pub anywhere : Pairs → Tables
 anywhere ρ sc T U = ρ T U
 
@@ -40,6 +41,7 @@ pub record StmtCoupling (sheet : Sheet) (way way′ : Way) (st : Stmt) (before a
 
 module _ (sheet : Sheet) (way way′ : Way) (extras : (arg : Tree) → way .extraVars arg ≡ way′ .extraVars arg) where
   module _ (C : List Tree) (c : Coupling way way′ C) where
+    -- A call with an extra argument that binds the names xs.
     extraArg-beside : (i : ℕ) (m : Mods) (e : Tree) (xs : List ℕ) → Within (comprs e) C → Within (m .comprs) C
         → (o : Own) (T U : List QuerySchedule) → ((sc : Scope) → c .ρ [] sc T U)
         → Beside (c .ρ [])
@@ -61,6 +63,7 @@ module _ (sheet : Sheet) (way way′ : Way) (extras : (arg : Tree) → way .extr
         (ap {B = ℕ → List ℕ} (λ (l : List ℕ) (x : ℕ). l) (allUsed-same sheet way way′ C c xs m e L (mem-left cs []) q A B z)) q A B z)
         (useExpr-good sheet way way′ C c i xs m e (within-append (comprs e) (m .comprs) C h k) [] p T U (r sc)))
 
+    -- An expression, with its extra argument if it has one.
     processCall-beside : (arg : Option Tree) (i : ℕ) (m : Mods) (e : Tree) → Within (callComprs arg e) C → Within (m .comprs) C
         → (o : Own) (T U : List QuerySchedule) → ((sc : Scope) → c .ρ [] sc T U)
         → Beside (c .ρ []) (processCallBy sheet way arg i m e (stateOf o T)) (processCallBy sheet way′ arg i m e (stateOf o U))
@@ -78,6 +81,7 @@ module _ (sheet : Sheet) (way way′ : Way) (extras : (arg : Tree) → way .extr
     ends : bodyOf (st .literal) ≡ [] → {s u : State} → Beside (c .coupling .ρ []) s u → Beside (anywhere after) s u
     ends h b = beside-map (c .coupling .ρ []) (anywhere after) (c .done h) b
 
+    -- A literal.
     processLiteral-good : (i : ℕ) (m : Mods) (l : Literal) → st .literal ≡ l → Within (literalComprs sheet l) (stmtComprs sheet st)
         → Within (m .comprs) (stmtComprs sheet st)
         → Good (anywhere before) (anywhere after) (processLiteralBy sheet way i m l) (processLiteralBy sheet way′ i m l)
@@ -104,6 +108,7 @@ module _ (sheet : Sheet) (way way′ : Way) (extras : (arg : Tree) → way .extr
         (c .body inner query (ap bodyOf e))
         (processPlainExpr-good sheet way way′ (stmtComprs sheet st) (c .coupling) i m domain h k [] o T U (c .begin (o .scope) T U r))
 
+    -- A statement with its modifiers.
     processStmt-good : (i : ℕ) → Good (anywhere before) (anywhere after) (processStmtBy sheet way i st) (processStmtBy sheet way′ i st)
     unfolding processStmtBy modsOf stmtComprs
     processStmt-good i o T U r =

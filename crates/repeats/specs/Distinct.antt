@@ -20,17 +20,21 @@ distinct (x ∷ l) = not (elem x l) && distinct l
 abbrev pub Apart : List ℕ → List ℕ → Type 0
 Apart k l = (x : ℕ) → elem x k ≡ true → elem x l ≡ false
 
+-- Neither test holds: not the first.
 pub or-false-left : (a b : Bool) → (a || b) ≡ false → a ≡ false
 or-false-left true b h = h
 or-false-left false b h = refl
 
+-- Nor the second.
 pub or-false-right : (a b : Bool) → (a || b) ≡ false → b ≡ false
 or-false-right true b h = absurd (not-both refl h)
 or-false-right false b h = h
 
+-- What is on the first part is on the whole.
 pub elem-left : (x : ℕ) (k l : List ℕ) → elem x k ≡ true → elem x (k ++ l) ≡ true
 elem-left x k l h = elem-append x k l ∙ or-left (elem x k) (elem x l) h
 
+-- And what is on the second part.
 pub elem-right : (x : ℕ) (k l : List ℕ) → elem x l ≡ true → elem x (k ++ l) ≡ true
 elem-right x k l h = elem-append x k l ∙ or-right (elem x k) (elem x l) h
 
@@ -38,11 +42,13 @@ elem-right x k l h = elem-append x k l ∙ or-right (elem x k) (elem x l) h
 pub not-elem : (x : ℕ) (k l : List ℕ) → (elem x k ≡ true → elem x l ≡ true) → elem x l ≡ false → elem x k ≡ false
 not-elem x k l h n = ⊎-elim (λ (m : elem x k ≡ true). absurd (not-both (h m) n)) (λ (m : elem x k ≡ false). m) (bool-cases (elem x k))
 
+-- Apart goes both ways.
 pub apart-sym : (k l : List ℕ) → Apart k l → Apart l k
 apart-sym k l h x m = ⊎-elim (λ (n : elem x k ≡ true). absurd (not-both m (h x n))) (λ (n : elem x k ≡ false). n) (bool-cases (elem x k))
 
 -- ---- the parts of a list
 
+-- The first part of such a list is one.
 pub distinct-left : (k l : List ℕ) → distinct (k ++ l) ≡ true → distinct k ≡ true
 distinct-left [] l h = refl
 distinct-left (x ∷ k) l h =
@@ -50,10 +56,12 @@ distinct-left (x ∷ k) l h =
     let m : elem x k ≡ false = or-false-left (elem x k) (elem x l) (sym (elem-append x k l) ∙ n) in
     and-intro (not (elem x k)) (distinct k) (ap not m) (distinct-left k l (and-right (not (elem x (k ++ l))) _ h))
 
+-- And the second.
 pub distinct-right : (k l : List ℕ) → distinct (k ++ l) ≡ true → distinct l ≡ true
 distinct-right [] l h = h
 distinct-right (x ∷ k) l h = distinct-right k l (and-right (not (elem x (k ++ l))) _ h)
 
+-- The two parts are apart.
 pub distinct-apart : (k l : List ℕ) → distinct (k ++ l) ≡ true → Apart k l
 distinct-apart [] l h x m = absurd (not-both m refl)
 distinct-apart (y ∷ k) l h x m =
@@ -66,12 +74,14 @@ distinct-apart (y ∷ k) l h x m =
 -- ---- lists put together
 
 module _ {A : Type 0} (f : A → List ℕ) where
+  -- What a member gives is on the whole.
   pub elem-concatMap : (l : List A) (a : A) → List·Memᴰ a l → (x : ℕ) → elem x (f a) ≡ true → elem x (concatMap f l) ≡ true
   elem-concatMap [] a m x h = absurd (List·Memᴰ·not-nil m)
   elem-concatMap (b ∷ l) a m x h =
       ⊎-elim (λ (e : a ≡ b). elem-left x (f b) (concatMap f l) (subst (λ (c : A). elem x (f c) ≡ true) e h))
       (λ (t : List·Memᴰ a l). elem-right x (f b) (concatMap f l) (elem-concatMap l a t x h)) (List·Memᴰ·cases-cons m)
 
+  -- What a member gives is such a list.
   pub distinct-part : (l : List A) → distinct (concatMap f l) ≡ true → (a : A) → List·Memᴰ a l → distinct (f a) ≡ true
   distinct-part [] h a m = absurd (List·Memᴰ·not-nil m)
   distinct-part (b ∷ l) h a m =

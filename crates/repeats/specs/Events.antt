@@ -13,18 +13,21 @@ pub data Event : Type 0 where
   used : (x : ℕ) → Event
   defined : (d : Definition) → Event
 
+-- The variable of an event.
 abbrev pub seenAt : Event → List Row
 seenAt (seen w) = w ∷ []
 seenAt (met e) = []
 seenAt (used x) = []
 seenAt (defined d) = []
 
+-- Its comprehension.
 abbrev pub metAt : Event → List Tree
 metAt (seen w) = []
 metAt (met e) = e ∷ []
 metAt (used x) = []
 metAt (defined d) = []
 
+-- Its definition.
 abbrev pub definedAt : Event → List Definition
 definedAt (seen w) = []
 definedAt (met e) = []

@@ -53,6 +53,7 @@ sheet = record {
   queries = 1 ∷ 2 ∷ [];
 }
 
+-- The query of a schedule.
 abbrev queryOf : QuerySchedule → ℕ
 queryOf a = a .query
 

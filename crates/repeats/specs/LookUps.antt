@@ -28,6 +28,7 @@ Only F T = (x : ℕ) → elem x F ≡ false → scheduleOf T x ≡ none
 pub look-append : (T U : List QuerySchedule) (x : ℕ) → scheduleOf (T ++ U) x ≡ orElse (scheduleOf T x) (scheduleOf U x)
 look-append T U x = find-append (λ (a : QuerySchedule). eqb (a .query) x) T U
 
+-- Two such tables, one in front of the other.
 pub only-append : (F : List ℕ) (T U : List QuerySchedule) → Only F T → Only F U → Only F (T ++ U)
 only-append F T U h k x n = look-append T U x ∙ ap (λ (o : Option QuerySchedule). orElse o (scheduleOf U x)) (h x n) ∙ k x n
 

@@ -9,15 +9,18 @@ module _ {A : Type 0} where
   abbrev pub Within : List A → List A → Type 0
   Within k l = (a : A) → List·Memᴰ a k → List·Memᴰ a l
 
+  -- The members of the first part.
   pub mem-left : (k l : List A) → Within k (k ++ l)
   mem-left [] l a m = absurd (List·Memᴰ·not-nil m)
   mem-left (x ∷ k) l a m =
       ⊎-elim (λ (e : a ≡ x). List·Memᴰ·head e) (λ (t : List·Memᴰ a k). List·Memᴰ·tail (mem-left k l a t)) (List·Memᴰ·cases-cons m)
 
+  -- The members of the second part.
   pub mem-right : (k l : List A) → Within l (k ++ l)
   mem-right [] l a m = m
   mem-right (x ∷ k) l a m = List·Memᴰ·tail (mem-right k l a m)
 
+  -- Both parts are within a list, so the whole is.
   pub within-append : (k l j : List A) → Within k j → Within l j → Within (k ++ l) j
   within-append k l j f g a m = ⊎-elim (λ (t : List·Memᴰ a k). f a t) (λ (t : List·Memᴰ a l). g a t) (List·Memᴰ·append-cases k m)
 
@@ -30,6 +33,7 @@ module _ {A : Type 0} where
       (List·Memᴰ·cases-cons m)
 
 module _ {A B : Type 0} where
+  -- What a member gives is within the whole.
   pub mem-concatMap : (f : A → List B) (l : List A) (a : A) → List·Memᴰ a l → Within (f a) (concatMap f l)
   mem-concatMap f [] a m b n = absurd (List·Memᴰ·not-nil m)
   mem-concatMap f (x ∷ l) a m b n =

@@ -74,6 +74,7 @@ memo-held (suc levels) sheet parents ps e o T h =
 
 -- ---- the scope of outputs
 
+-- The same names are added to unscoped.
 own-addUnscoped : (xs : List ℕ) (a b : Scope) → SameOwn a b → SameOwn (foldl addUnscoped a xs) (foldl addUnscoped b xs)
 unfolding addUnscoped
 own-addUnscoped [] a b h = h
@@ -81,6 +82,7 @@ own-addUnscoped (x ∷ xs) a b h =
     own-addUnscoped xs (addUnscoped a x) (addUnscoped b x)
     (record { locals = h .locals; unscoped = ap (λ (s : ℕ → Bool). insert s x) (h .unscoped) })
 
+-- So the scope of outputs depends on locals and unscoped alone, as far as these go.
 own-outputScope : (a b : Scope) → SameOwn a b → SameOwn (outputScope a) (outputScope b)
 unfolding outputScope
 own-outputScope a b h =
@@ -94,9 +96,11 @@ module _ (levels : ℕ) (sheet : Sheet)
     → Fresh (family levels sheet q outputs) T
     → Agree T (analyze levels sheet ps q outputs (record { schedules = T; fault = sound })) (rustAnalyze levels sheet ps q outputs))
     (parents : List Scope) (T₀ : List QuerySchedule) where
+  -- The definitions' analysis of what is nested.
   abbrev nested : Nested
   nested os q outputs r = analyze levels sheet os q outputs r
 
+  -- The Rust's.
   abbrev answer : List Scope → ℕ → List Tree → Run
   answer os q outputs = rustAnalyze levels sheet os q outputs
 
@@ -118,6 +122,7 @@ module _ (levels : ℕ) (sheet : Sheet)
           subst₂ (λ (a b : State). Beside σ a b) (sym (setRun-sound m o T s)) (sym (take-sound (answer ps q ts) o U u))
           (going o (m .schedules) (answer ps q ts .schedules ++ U) (k (m .schedules) u now))
 
+  -- Both analyse a comprehension, or the definitions skip it.
   enter : (C : List Tree) (P : List ℕ) (σ : Tables) (e : Tree) → List·Memᴰ e C → (K : List Tree) (sc : Scope) (o : Own) (T U : List QuerySchedule)
       → Amid levels sheet parents T₀ C P K sc T U → ((A B : List QuerySchedule) → Amid levels sheet parents T₀ C P (e ∷ K) sc A B → σ (o .scope) A B)
       → Beside σ (analyzeCompr sheet nested parents (sc ∷ parents) e (stateOf o T)) (take (runOf levels sheet parents T₀ sc e) (stateOf o U))
@@ -147,6 +152,7 @@ module _ (levels : ℕ) (sheet : Sheet)
     pub fresh : Fresh (named (family levels sheet) sheet stmts outputs) T
     pub same : SameTable T (U ++ T₀)
 
+  -- Both go through a statement.
   stmt-coupling : (outputs : List Tree) (st : Stmt) (stmts : List Stmt)
       → StmtCoupling sheet (memoWay sheet nested parents) (rustWay sheet answer parents) st (Before outputs (st ∷ stmts)) (Before outputs stmts)
   unfolding memoWay rustWay named
@@ -197,6 +203,7 @@ module _ (levels : ℕ) (sheet : Sheet)
             });
       }
 
+  -- Both go through the outputs.
   output-coupling : (outputs : List Tree)
       → OutputCoupling (memoWay sheet nested parents) (rustWay sheet answer parents) (concatMap comprs outputs)
   unfolding memoWay rustWay
@@ -226,6 +233,7 @@ module _ (levels : ℕ) (sheet : Sheet)
         known = λ e m. absurd (List·Memᴰ·not-nil m);
       }
 
+  -- Where both have ended, they agree.
   ended-agree : (outputs : List Tree) (q n : ℕ) {m r : Run}
       → Ended (λ sc T U. Amid levels sheet parents T₀ (concatMap comprs outputs) [] [] (outputScope sc) T U) q n m r → Agree T₀ m r
   ended-agree outputs q n (CoupledQuery.stopped m r p h) = stopped p h

@@ -22,6 +22,7 @@ use Rattle.analysis.specs.Statements.{modsOf, processEvery, processLiteral, pro
 use Rattle.analysis.specs.Queries.{scheduled, outputCompr, analyzeOutputExpr, analyzeQuery}
 use Rattle.repeats.specs.Ways.{Way, propagateBy, comprsUseBy, useComprBy, allUsedBy, processComprBy, processComprsBy, useExprBy, assignOneWayBy, assignPairingBy, processAssignExprBy, processPlainExprBy, processExprBy, processExtraArgBy, processCallBy, processNonVarBy, processSomeInBy, processEveryBy, processLiteralBy, processStmtBy, processStmtsBy, outputComprBy, analyzeOutputExprBy, analyzeQueryBy}
 
+-- Its steps, from the definitions.
 unfoldable pub memoWay : Sheet → Nested → List Scope → Way
 memoWay sheet nested parents = record {
   start = gatherLocalVars sheet parents;
@@ -32,18 +33,22 @@ memoWay sheet nested parents = record {
 }
 
 module _ (sheet : Sheet) (nested : Nested) (parents : List Scope) where
+  -- `allUsed` in this way.
   allUsed-memo : allUsed sheet ≡ allUsedBy sheet (memoWay sheet nested parents)
   unfolding memoWay allUsed allUsedBy comprsUse comprsUseBy comprInputs
   allUsed-memo = refl
 
+  -- `processComprs` in this way.
   processComprs-memo : processComprs sheet nested parents ≡ processComprsBy sheet (memoWay sheet nested parents)
   unfolding memoWay processComprs processComprsBy processCompr processComprBy propagate propagateBy useCompr useComprBy comprsUse comprsUseBy comprInputs
   processComprs-memo = refl
 
+  -- `assignOneWay` in this way.
   assignOneWay-memo : assignOneWay sheet nested parents ≡ assignOneWayBy sheet (memoWay sheet nested parents)
   unfolding memoWay allUsed allUsedBy comprsUse comprsUseBy comprInputs processComprs processComprsBy processCompr processComprBy propagate propagateBy useCompr useComprBy useExpr useExprBy assignOneWay assignOneWayBy
   assignOneWay-memo = refl
 
+  -- `assignPairing` in this way.
   assignPairing-memo : (j : ℕ) (m : Mods) (check : Bool) (s : State) (p : Pairing)
       → assignPairing sheet nested parents j m check s p ≡ assignPairingBy sheet (memoWay sheet nested parents) j m check s p
   unfolding assignPairing assignPairingBy
@@ -51,10 +56,12 @@ module _ (sheet : Sheet) (nested : Nested) (parents : List Scope) where
       λ i. inTurn (assignOneWay-memo i j m check lhs rhs ∷ assignOneWay-memo i j m false rhs lhs ∷ []) s
   assignPairing-memo j m check s (mismatch v) = refl
 
+  -- `processPlainExpr` in this way.
   processPlainExpr-memo : processPlainExpr sheet nested parents ≡ processPlainExprBy sheet (memoWay sheet nested parents)
   unfolding memoWay allUsed allUsedBy comprsUse comprsUseBy comprInputs processComprs processComprsBy processCompr processComprBy propagate propagateBy useCompr useComprBy useExpr useExprBy processPlainExpr processPlainExprBy
   processPlainExpr-memo = refl
 
+  -- `processExpr` in this way.
   processExpr-memo : processExpr sheet nested parents ≡ processExprBy sheet (memoWay sheet nested parents)
   unfolding processExpr processAssignExpr processExprBy processAssignExprBy
   processExpr-memo =
@@ -63,23 +70,28 @@ module _ (sheet : Sheet) (nested : Nested) (parents : List Scope) where
       (foldl (λ t p. assignPairing-memo j m (isColEq (rowOf e)) t p i) s (pairings (firstOf e) (secondOf e)))
       (processPlainExpr-memo i j m e s)
 
+  -- `processExtraArg` in this way.
   processExtraArg-memo : processExtraArg sheet nested parents ≡ processExtraArgBy sheet (memoWay sheet nested parents)
   unfolding memoWay allUsed allUsedBy comprsUse comprsUseBy comprInputs processComprs processComprsBy processCompr processComprBy propagate propagateBy useCompr useComprBy useExpr useExprBy processExtraArg processExtraArgBy
   processExtraArg-memo = refl
 
+  -- `processCall` in this way.
   processCall-memo : (arg : Option Tree) → processCall sheet nested parents arg ≡ processCallBy sheet (memoWay sheet nested parents) arg
   unfolding processCallBy
   processCall-memo none = λ i j m e s. processExpr-memo i j m e s
   processCall-memo (some arg) = λ i j m e s. processExtraArg-memo i j m e arg s
 
+  -- `processSomeIn` in this way.
   processSomeIn-memo : processSomeIn sheet nested parents ≡ processSomeInBy sheet (memoWay sheet nested parents)
   unfolding memoWay allUsed allUsedBy comprsUse comprsUseBy comprInputs processComprs processComprsBy processCompr processComprBy propagate propagateBy useCompr useComprBy useExpr useExprBy processSomeIn processNonVar processSomeInBy processNonVarBy
   processSomeIn-memo = refl
 
+  -- `processEvery` in this way.
   processEvery-memo : processEvery sheet nested parents ≡ processEveryBy sheet (memoWay sheet nested parents)
   unfolding memoWay allUsed allUsedBy comprsUse comprsUseBy comprInputs processComprs processComprsBy processCompr processComprBy propagate propagateBy useCompr useComprBy useExpr useExprBy processPlainExpr processPlainExprBy processEvery processEveryBy
   processEvery-memo = refl
 
+  -- `processLiteral` in this way.
   processLiteral-memo : (j : ℕ) (m : Mods) (l : Literal)
       → processLiteral sheet nested parents j m l ≡ processLiteralBy sheet (memoWay sheet nested parents) j m l
   unfolding processLiteral processLiteralBy
@@ -89,6 +101,7 @@ module _ (sheet : Sheet) (nested : Nested) (parents : List Scope) where
   processLiteral-memo j m (notExpr e) = λ i s. processExpr-memo i j m e s
   processLiteral-memo j m (every key value domain query) = λ i s. processEvery-memo i j m key value domain query s
 
+  -- `processStmt` in this way.
   processStmt-memo : processStmt sheet nested parents ≡ processStmtBy sheet (memoWay sheet nested parents)
   unfolding processStmt processStmtBy
   processStmt-memo =
@@ -98,12 +111,14 @@ module _ (sheet : Sheet) (nested : Nested) (parents : List Scope) where
       ∷ atLeastOne j
       ∷ []) s
 
+  -- `processStmts` in this way.
   processStmts-memo : (stmts : List Stmt) (j : ℕ)
       → processStmts sheet nested parents j stmts ≡ processStmtsBy sheet (memoWay sheet nested parents) j stmts
   unfolding processStmts processStmtsBy
   processStmts-memo [] j = refl
   processStmts-memo (st ∷ stmts) j = λ i s. processStmts-memo stmts (suc j) i (inTurn (processStmt-memo i j st ∷ []) s)
 
+  -- `analyzeOutputExpr` in this way.
   analyzeOutputExpr-memo : analyzeOutputExpr sheet nested parents ≡ analyzeOutputExprBy sheet (memoWay sheet nested parents)
   unfolding memoWay allUsed allUsedBy comprsUse comprsUseBy comprInputs processComprs processComprsBy processCompr processComprBy propagate propagateBy useCompr useComprBy useExpr useExprBy analyzeOutputExpr outputCompr analyzeOutputExprBy outputComprBy
   analyzeOutputExpr-memo = refl

@@ -12,6 +12,7 @@ use Rattle.trees.specs.Paths.{getExtraArg}
 use Rattle.trees.specs.Statements.{Literal, someVars, someIn, expr, notExpr, every, Stmt, stmtsOf}
 use Rattle.analysis.specs.Exprs.{Pairing, pair, mismatch, pairings}
 
+-- The comprehensions of a pair.
 abbrev pub pairComprs : Pairing → List Tree
 pairComprs (pair lhs rhs) = comprs lhs ++ comprs rhs
 pairComprs (mismatch v) = []
@@ -20,10 +21,12 @@ pairComprs (mismatch v) = []
 unfoldable pub exprComprs : Tree → List Tree
 exprComprs e = cond (isAssign (rowOf e)) (concatMap pairComprs (pairings (firstOf e) (secondOf e))) (comprs e)
 
+-- Of an expression, with its extra argument if it has one.
 abbrev pub callComprs : Option Tree → Tree → List Tree
 callComprs none e = exprComprs e
 callComprs (some arg) e = comprs e
 
+-- Of a literal.
 unfoldable pub literalComprs : Sheet → Literal → List Tree
 literalComprs sheet (someVars vs) = []
 literalComprs sheet (someIn key value collection) = comprs collection ++ concatMap comprs (leaves key ++ leaves value)

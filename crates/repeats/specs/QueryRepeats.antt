@@ -19,6 +19,7 @@ use Rattle.repeats.specs.MemoRust.{Agree, stopped, agreed, analyze-agree
 unfoldable pub queriesOnce : Sheet → Bool
 queriesOnce sheet = distinct (family deepest sheet 1 [])
 
+-- Both analyses of a sheet agree.
 snippet-agree : (sheet : Sheet) → queriesOnce sheet ≡ true → Agree [] (analyzeQuerySnippet sheet) (rustAnalyzeQuerySnippet sheet)
 unfolding queriesOnce analyzeQuerySnippet rustAnalyzeQuerySnippet
 snippet-agree sheet h = analyze-agree deepest sheet [] 1 [] [] h (λ x m. refl)

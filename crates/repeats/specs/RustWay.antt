@@ -28,6 +28,8 @@ Answer = List Scope → ℕ → List Tree → Run
 unfoldable pub take : Run → State → State
 take o s = setRun (record { schedules = o .schedules ++ s .run .schedules; fault = o .fault }) s
 
+-- Its steps. The Rust hands a list of comprehensions one copy of the scope, and takes the names that they use as it goes; as only inputs
+-- change meanwhile, `rustAnalyze-same` says that the scope at hand and the end of the list do as well.
 unfoldable pub rustWay : Sheet → Answer → List Scope → Way
 rustWay sheet answer parents = record {
   start = gatherLocalVars sheet parents;
@@ -47,6 +49,7 @@ rustAnalyze (suc levels) sheet parents q outputs =
 unfoldable pub rustAnalyzeQuerySnippet : Sheet → Run
 rustAnalyzeQuerySnippet sheet = rustAnalyze deepest sheet [] 1 []
 
+-- The way below parents with the same locals and unscoped is the same, if the answers below are.
 rustWay-same : (sheet : Sheet) (answer : Answer) {ps qs : List Scope} → SameOuter ps qs
     → ((sc : Scope) → answer (sc ∷ ps) ≡ answer (sc ∷ qs))
     → ((inner sc : Scope) → answer (inner ∷ (sc ∷ ps)) ≡ answer (inner ∷ (sc ∷ qs)))

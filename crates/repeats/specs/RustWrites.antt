@@ -31,6 +31,7 @@ use Rattle.repeats.specs.CoupledQuery.{OutputCoupling, Ended, stopped, e
 abbrev pub Sub : List ℕ → List ℕ → Type 0
 Sub k l = (x : ℕ) → elem x k ≡ true → elem x l ≡ true
 
+-- No fault, or one.
 fault-cases : (f : Fault) → (f ≡ sound) ⊎ (isSound f ≡ false)
 fault-cases sound = inl refl
 fault-cases (undefined l c) = inr refl
@@ -51,6 +52,7 @@ take-sound r o T h =
       run = record { schedules = r .schedules ++ T; fault = f };
     }) h
 
+-- One run taken in on both sides.
 take-beside : (ρ : Tables) (r : Run) (o : Own) (T U : List QuerySchedule)
     → (r .fault ≡ sound → ρ (o .scope) (r .schedules ++ T) (r .schedules ++ U)) → Beside ρ (take r (stateOf o T)) (take r (stateOf o U))
 unfolding take setRun
@@ -72,11 +74,13 @@ module _ (sheet : Sheet) (answer : Answer) (below : ℕ → List Tree → List �
     pub names : Sub (named below sheet stmts outputs) F
     pub only : Only F T
 
+  -- A nested run writes on F alone.
   writes : (ps : List Scope) (q : ℕ) (ts : List Tree) (T : List QuerySchedule) → Sub (below q ts) F → Only F T → answer ps q ts .fault ≡ sound
       → Only F (answer ps q ts .schedules ++ T)
   writes ps q ts T sub only h =
       only-append F (answer ps q ts .schedules) T (λ x n. claim ps q ts h x (not-elem x (below q ts) F (sub x) n)) only
 
+  -- A statement keeps it so.
   stmt-coupling : (st : Stmt) (stmts : List Stmt)
       → StmtCoupling sheet (rustWay sheet answer parents) (rustWay sheet answer parents) st (λ T U. Left (st ∷ stmts) T) (λ T U. Left stmts T)
   unfolding rustWay named
@@ -123,6 +127,7 @@ module _ (sheet : Sheet) (answer : Answer) (below : ℕ → List Tree → List �
             });
       }
 
+  -- And so do the outputs.
   output-coupling : OutputCoupling (rustWay sheet answer parents) (rustWay sheet answer parents) (concatMap comprs outputs)
   unfolding rustWay named
   output-coupling = record {

@@ -43,6 +43,7 @@ unfolding define
 define-same i x k l h =
     ap {B = Definition} (λ (f : ℕ → Bool). record { statement = i; var = x; used = filter f (range 0 nameBound) }) (fun-ext h)
 
+-- One after the other.
 same-append : (a a′ b b′ : List Event) → Same a a′ → Same b b′ → Same (a ++ b) (a′ ++ b′)
 same-append a a′ b b′ ha hb S step st t =
     foldl-append step t a b
@@ -50,6 +51,7 @@ same-append a a′ b b′ ha hb S step st t =
     ∙ hb S step st (foldl step t a′)
     ∙ sym (foldl-append step t a′ b′)
 
+-- What is entered.
 same-entered : (en : Enters) (a a′ b b′ c c′ : List Event) → Same a a′ → Same b b′ → Same c c′ → Same (entered en a b c) (entered en a′ b′ c′)
 same-entered nothing a a′ b b′ c c′ ha hb hc S step st t = refl
 same-entered params a a′ b b′ c c′ ha hb hc S step st t = hb S step st t
@@ -63,6 +65,7 @@ module _ (sheet : Sheet) (s : Scope) (extras : List ℕ) (i : ℕ) where
       let names = namesUsed sheet s extras i in
       elem-any x (names k) ∙ same-any (usedAt sheet s extras i) (eqb x) k l h ∙ sym (elem-any x (names l))
 
+  -- The names of an index, after walks that are the same.
   indexed-same : (k l : List Event) → Same k l → indexed sheet s extras i k ≡ indexed sheet s extras i l
   indexed-same k l h =
       fun-ext (λ x. ap {B = List Event} (λ (d : Definition). defined d ∷ used x ∷ [])
@@ -86,6 +89,7 @@ module _ (sheet : Sheet) (s : Scope) (extras : List ℕ) (i : ℕ) where
       ∙ sym (foldl-append step t (a′ ++ concatMap (ix a′) xs) (b′ ++ c′))
       ∙ ap (foldl step t) (append-assoc a′ (concatMap (ix a′) xs) (b′ ++ c′))
 
+  -- At an expression.
   same-node : (w : Row) (e : Tree) (bracket : Bool) → isRefBrack w ≡ bracket → (a a′ b b′ c c′ : List Event) → Same a a′ → Same b b′ → Same c c′
       → Same
       (cond bracket (concatMap (λ x. a ++ indexed sheet s extras i a x) (indexVars s e)) (ownEvents sheet s extras i w e)

@@ -24,9 +24,11 @@ pub data SameOuter : List Scope → List Scope → Type 0 where
   outermost : SameOuter [] []
   below : {p q : Scope} {ps qs : List Scope} → SameOwn p q → SameOuter ps qs → SameOuter (p ∷ ps) (q ∷ qs)
 
+-- A scope agrees with itself.
 pub same-own : (p : Scope) → SameOwn p p
 same-own p = record { locals = refl; unscoped = refl }
 
+-- And so do parents.
 pub same-outer : (ps : List Scope) → SameOuter ps ps
 same-outer [] = outermost
 same-outer (p ∷ ps) = below (same-own p) (same-outer ps)
@@ -41,6 +43,7 @@ varExists-same (below own h) =
 -- ---- gathering
 
 module _ (sheet : Sheet) (ps qs : List Scope) (exists : varExists ps ≡ varExists qs) where
+  -- `assignVar`.
   assignVar-same : assignVar sheet ps ≡ assignVar sheet qs
   unfolding assignVar
   assignVar-same =
@@ -50,10 +53,12 @@ module _ (sheet : Sheet) (ps qs : List Scope) (exists : varExists ps ≡ varExis
       (cond (exists i w) (addInput s (w .name))
       (addUnscoped s (w .name))))
 
+  -- `gatherAssignedVars`.
   pub gatherAssignedVars-same : gatherAssignedVars sheet ps ≡ gatherAssignedVars sheet qs
   unfolding gatherAssignedVars
   gatherAssignedVars-same = λ i canShadow t s. foldl (assignVar-same i canShadow) s (vars (leaves t))
 
+  -- `inputVar`.
   inputVar-same : inputVar sheet ps ≡ inputVar sheet qs
   unfolding inputVar
   inputVar-same =
@@ -61,10 +66,12 @@ module _ (sheet : Sheet) (ps qs : List Scope) (exists : varExists ps ≡ varExis
       cond (isInput sheet (w .name)) (useInput true s)
       (cond (not (contains (s .unscoped) (w .name)) && exists i w) (addInput s (w .name)) s)
 
+  -- `gatherInputVars`.
   gatherInputVars-same : gatherInputVars sheet ps ≡ gatherInputVars sheet qs
   unfolding gatherInputVars
   gatherInputVars-same = λ i t s. foldl (inputVar-same i) s (vars (traverse t))
 
+  -- `loopVar`.
   loopVar-same : loopVar sheet ps ≡ loopVar sheet qs
   unfolding loopVar
   loopVar-same =
@@ -72,14 +79,17 @@ module _ (sheet : Sheet) (ps qs : List Scope) (exists : varExists ps ≡ varExis
       cond (isRefBrack (rowOf e)) (gatherAssignedVars-same i false (secondOf e) s)
       (useInput (isVar (rowOf e) && isInput sheet (rowOf e .name)) s)
 
+  -- `gatherLoopVars`.
   gatherLoopVars-same : gatherLoopVars sheet ps ≡ gatherLoopVars sheet qs
   unfolding gatherLoopVars
   gatherLoopVars-same = λ i t s. foldl (loopVar-same i) s (traverse t)
 
+  -- `gatherRead`.
   gatherRead-same : gatherRead sheet ps ≡ gatherRead sheet qs
   unfolding gatherRead
   gatherRead-same = λ i s t. gatherLoopVars-same i t (gatherInputVars-same i t s)
 
+  -- `gatherVars`.
   gatherVars-same : gatherVars sheet ps ≡ gatherVars sheet qs
   unfolding gatherVars
   gatherVars-same =
@@ -90,10 +100,12 @@ module _ (sheet : Sheet) (ps qs : List Scope) (exists : varExists ps ≡ varExis
       (gatherAssignedVars-same i canShadow t s))
       t
 
+  -- `gatherExtraArg`.
   gatherExtraArg-same : (arg : Option Tree) → gatherExtraArg sheet ps arg ≡ gatherExtraArg sheet qs arg
   gatherExtraArg-same none = refl
   gatherExtraArg-same (some e) = λ i s. gatherVars-same i false s e
 
+  -- `gatherExpr`.
   gatherExpr-same : gatherExpr sheet ps ≡ gatherExpr sheet qs
   unfolding gatherExpr
   gatherExpr-same =
@@ -101,6 +113,7 @@ module _ (sheet : Sheet) (ps qs : List Scope) (exists : varExists ps ≡ varExis
       cond (isAssign (rowOf e)) (gatherVars-same i false s e)
       (gatherExtraArg-same (getExtraArg sheet e) i (gatherRead-same i s e))
 
+  -- `gatherLiteral`.
   gatherLiteral-same : (s : Scope) (l : Literal) → gatherLiteral sheet ps s l ≡ gatherLiteral sheet qs s l
   unfolding gatherLiteral
   gatherLiteral-same s (someVars vs) = refl
@@ -112,6 +125,7 @@ module _ (sheet : Sheet) (ps qs : List Scope) (exists : varExists ps ≡ varExis
   gatherLiteral-same s (notExpr e) = λ i. gatherExpr-same i s e
   gatherLiteral-same s (every key value domain query) = λ i. gatherRead-same i s domain
 
+  -- `gatherStmt`.
   gatherStmt-same : gatherStmt sheet ps ≡ gatherStmt sheet qs
   unfolding gatherStmt
   gatherStmt-same = λ i s st. gatherLiteral-same (foldl (gatherRead-same i) s (st .withMods)) (st .literal) i

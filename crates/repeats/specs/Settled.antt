@@ -36,12 +36,14 @@ module _ {S E : Type 0} (step : S → E → S) where
     all-kept [] s e h = h
     all-kept (d ∷ l) s e h = all-kept l (step s d) e (kept s e d h)
 
+    -- So it is.
     pub settle : Settled
     settle s e l = still (foldl step (step s e) l) e (all-kept l (step s e) e (left s e))
 
 -- ---- elements that each give some of another kind
 
 module _ {S E F : Type 0} (step : S → E → S) (g : F → List E) where
+  -- Taking all that elements give is taking what each gives, in turn.
   pub foldl-concatMap : (s : S) (l : List F) → foldl step s (concatMap g l) ≡ foldl (λ t x. foldl step t (g x)) s l
   foldl-concatMap s [] = refl
   foldl-concatMap s (x ∷ l) = foldl-append step s (g x) (concatMap g l) ∙ foldl-concatMap (foldl step s (g x)) l

@@ -19,10 +19,12 @@ module _ {A : Type 0} (p : A → Bool) where
   abbrev pub orPasses : Bool → A → Bool
   orPasses b x = b || p x
 
+  -- It comes to `any`.
   pub foldl-any : (b : Bool) (l : List A) → foldl orPasses b l ≡ (b || any p l)
   foldl-any b [] = sym (or-false b)
   foldl-any b (x ∷ l) = foldl-any (b || p x) l ∙ or-assoc b (p x) (any p l)
 
+  -- It is settled.
   pub any-settled : Settled orPasses
   any-settled b x l = rw (foldl-any (b || p x) l) (again b (p x) (any p l))
     where
@@ -36,16 +38,19 @@ module _ {A : Type 0} (p : A → Bool) where
   abbrev pub orFound : Option A → A → Option A
   orFound o x = orElse o (cond (p x) (some x) none)
 
+  -- One step of it.
   orElse-cond : (o : Option A) (x : A) (rest : Option A) (b : Bool)
       → orElse (orElse o (cond b (some x) none)) rest ≡ orElse o (cond b (some x) rest)
   orElse-cond none x rest true = refl
   orElse-cond none x rest false = refl
   orElse-cond (some y) x rest b = refl
 
+  -- It comes to `find`.
   pub foldl-find : (o : Option A) (l : List A) → foldl orFound o l ≡ orElse o (find p l)
   foldl-find o [] = sym (orElse-none o)
   foldl-find o (x ∷ l) = foldl-find (orFound o x) l ∙ orElse-cond o x (find p l) (p x)
 
+  -- It is settled.
   pub find-settled : Settled orFound
   find-settled o x l = rw (foldl-find (orFound o x) l) (again o (cond (p x) (some x) none) (find p l))
     where
@@ -84,6 +89,7 @@ firstUses-settled = settle addFirstUse (λ p l. isSome (spanIn l (p .name))) lef
 -- ---- a list on which each stands once
 
 module _ {A : Type 0} (key : A → ℕ) where
+  -- Do two have one key?
   abbrev pub isKey : A → A → Bool
   isKey x y = eqb (key x) (key y)
 
@@ -95,6 +101,7 @@ module _ {A : Type 0} (key : A → ℕ) where
   unfoldable pub firstPlaces : List A → List A
   firstPlaces l = foldl addOnce [] l
 
+  -- It is settled.
   pub once-settled : Settled addOnce
   once-settled = settle addOnce (λ x l. any (isKey x) l) left kept still
     where

@@ -36,32 +36,40 @@ pub record Way : Type 0 where
 module _ (sheet : Sheet) (way : Way) where
   -- ---- comprehensions, as in `Comprs`
 
+  -- `propagate`, of a comprehension that stands in the scope sc.
   unfoldable pub propagateBy : Scope → Tree → State → State
   propagateBy sc e s =
       setScope
       (foldl addInput (useInput (way .comprScope sc s e .usesInput) (s .scope))
       (filter (λ x. not (owns (s .scope) x)) (elements (way .comprScope sc s e .inputs)))) s
 
+  -- `comprsUse`.
   unfoldable pub comprsUseBy : List Tree → State → List ℕ
   comprsUseBy cs s = concatMap (λ e. filter (owns (s .scope)) (elements (way .comprScope (s .scope) s e .inputs))) cs
 
+  -- `useCompr`.
   unfoldable pub useComprBy : Tree → State → State
   useComprBy e s = addFirstUses (map (λ x. record { name = x; line = rowOf e .line; col = rowOf e .col }) (comprsUseBy (e ∷ []) s)) s
 
+  -- `allUsed`.
   unfoldable pub allUsedBy : List ℕ → Mods → Tree → State → List ℕ
   allUsedBy extras m t s = usedVars sheet (s .scope) extras t ++ (m .usedVars ++ comprsUseBy (comprs t ++ m .comprs) s)
 
+  -- `processCompr`.
   unfoldable pub processComprBy : State → Tree → State
   processComprBy s e = inTurn (way .compr (s .scope) e ∷ (λ t. propagateBy (t .scope) e t) ∷ useComprBy e ∷ []) s
 
+  -- `processComprs`.
   unfoldable pub processComprsBy : List Tree → State → State
   processComprsBy cs s = foldl processComprBy s cs
 
+  -- `useExpr`.
   unfoldable pub useExprBy : ℕ → List ℕ → Mods → Tree → State → State
   useExprBy i extras m t s = inTurn (gatherUsedVars sheet i extras t ∷ processComprsBy (comprs t ++ m .comprs) ∷ []) s
 
   -- ---- expressions, as in `Exprs`
 
+  -- `assignOneWay`.
   unfoldable pub assignOneWayBy : ℕ → Mods → Bool → Tree → Tree → State → State
   assignOneWayBy i m check target source s =
       inTurn (useExprBy i [] m source
@@ -69,19 +77,24 @@ module _ (sheet : Sheet) (way : Way) where
       ∷ (λ t. recordEach i (assignedVars (t .scope) target) (λ x. filter (λ y. not (eqb y x)) (allUsedBy [] m source t)) t)
       ∷ []) s
 
+  -- `assignPairing`.
   unfoldable pub assignPairingBy : ℕ → Mods → Bool → State → Pairing → State
   assignPairingBy i m check s (pair lhs rhs) = inTurn (assignOneWayBy i m check lhs rhs ∷ assignOneWayBy i m false rhs lhs ∷ []) s
   assignPairingBy i m check s (mismatch v) = inTurn (fail (lengths (v .line) (v .col)) ∷ []) s
 
+  -- `processAssignExpr`.
   unfoldable pub processAssignExprBy : ℕ → Mods → Tree → State → State
   processAssignExprBy i m e s = foldl (assignPairingBy i m (isColEq (rowOf e))) s (pairings (firstOf e) (secondOf e))
 
+  -- `processPlainExpr`.
   unfoldable pub processPlainExprBy : ℕ → Mods → Tree → State → State
   processPlainExprBy i m e s = inTurn (useExprBy i [] m e ∷ (λ t. recordOne i 0 (allUsedBy [] m e t) t) ∷ []) s
 
+  -- `processExpr`.
   unfoldable pub processExprBy : ℕ → Mods → Tree → State → State
   processExprBy i m e s = cond (isAssign (rowOf e)) (processAssignExprBy i m e s) (processPlainExprBy i m e s)
 
+  -- `processExtraArg`.
   unfoldable pub processExtraArgBy : ℕ → Mods → Tree → Tree → State → State
   processExtraArgBy i m e arg s =
       let extras = way .extraVars arg in
@@ -89,12 +102,14 @@ module _ (sheet : Sheet) (way : Way) where
       ∷ (λ t. recordEach i extras (λ x. allUsedBy extras m e t) t)
       ∷ []) (setScope (foldl addUnscoped (s .scope) extras) s)
 
+  -- `processCall`.
   unfoldable pub processCallBy : Option Tree → ℕ → Mods → Tree → State → State
   processCallBy none i m e s = processExprBy i m e s
   processCallBy (some arg) i m e s = processExtraArgBy i m e arg s
 
   -- ---- `some .. in ..`, as in `SomeIn`
 
+  -- `processNonVar`.
   unfoldable pub processNonVarBy : ℕ → Mods → State → Tree → State
   processNonVarBy i m s e =
       inTurn (gatherUsedVars sheet i [] e
@@ -102,6 +117,7 @@ module _ (sheet : Sheet) (way : Way) where
       ∷ processComprsBy (comprs e ++ m .comprs)
       ∷ []) s
 
+  -- `processSomeIn`.
   unfoldable pub processSomeInBy : ℕ → Mods → List Tree → Tree → State → State
   processSomeInBy i m pattern collection s =
       let names = someVarsIn sheet (s .scope) pattern in
@@ -116,12 +132,14 @@ module _ (sheet : Sheet) (way : Way) where
 
   -- ---- statements, as in `Statements`
 
+  -- `processEvery`.
   unfoldable pub processEveryBy : ℕ → Mods → Tree → Tree → Tree → ℕ → State → State
   processEveryBy i m key value domain query s =
       inTurn (processPlainExprBy i m domain
       ∷ (λ t. way .body (foldl addLocal noScope (vars (chain key ++ chain value))) (t .scope) query t)
       ∷ []) s
 
+  -- `processLiteral`.
   unfoldable pub processLiteralBy : ℕ → Mods → Literal → State → State
   processLiteralBy i m (someVars vs) s = foldl checkFirstUse s (vars (chain vs))
   processLiteralBy i m (someIn key value collection) s = processSomeInBy i m (leaves key ++ leaves value) collection s
@@ -129,6 +147,7 @@ module _ (sheet : Sheet) (way : Way) where
   processLiteralBy i m (notExpr e) s = processExprBy i m e s
   processLiteralBy i m (every key value domain query) s = processEveryBy i m key value domain query s
 
+  -- `processStmt`.
   unfoldable pub processStmtBy : ℕ → Stmt → State → State
   processStmtBy i st s =
       inTurn ((λ t. foldl (λ u e. inTurn (gatherUsedVars sheet i [] e ∷ []) u) t (st .withMods))
@@ -136,19 +155,23 @@ module _ (sheet : Sheet) (way : Way) where
       ∷ atLeastOne i
       ∷ []) s
 
+  -- `processStmts`.
   unfoldable pub processStmtsBy : ℕ → List Stmt → State → State
   processStmtsBy i [] s = s
   processStmtsBy i (st ∷ stmts) s = processStmtsBy (suc i) stmts (inTurn (processStmtBy i st ∷ []) s)
 
   -- ---- the query, as in `Queries`
 
+  -- `outputCompr`.
   unfoldable pub outputComprBy : State → Tree → State
   outputComprBy s e =
       inTurn (way .compr (outputScope (s .scope)) e ∷ (λ t. propagateBy (outputScope (t .scope)) e t) ∷ []) s
 
+  -- `analyzeOutputExpr`.
   unfoldable pub analyzeOutputExprBy : State → Tree → State
   analyzeOutputExprBy s t = foldl outputComprBy s (comprs t)
 
+  -- `analyzeQuery`.
   unfoldable pub analyzeQueryBy : ℕ → List Tree → Run → Run
   analyzeQueryBy q outputs r =
       let stmts = stmtsOf sheet q in
