@@ -2,7 +2,7 @@
 -- are `rust-usedVars`' and the comprehensions `rust-comprs`'.
 use mathlib.Core.Path.{_≡_, refl, sym, ap, _∙_, subst}
 use mathlib.Core.Bool.{Bool, _||_}
-use mathlib.Core.List.{List, [], _∷_, _++_, map, foldl}
+use mathlib.Core.List.{List, [], _∷_, map}
 use mathlib.Core.Option.{Option, none, some}
 use Prim.Native.Nat.{ℕ}
 use Rattle.basics.specs.Lists.{filter}
@@ -10,7 +10,7 @@ use Rattle.turns.specs.Definitions.{Definition}
 use Rattle.trees.specs.Lists.{any, find}
 use Rattle.trees.specs.Sheet.{Sheet, Row, isInput}
 use Rattle.trees.specs.Trees.{Tree}
-use Rattle.scopes.specs.Scopes.{Span, spanOf, useInput}
+use Rattle.scopes.specs.Scopes.{spanOf, useInput}
 use Rattle.uses.specs.Uses.{readsInput, isUndefined, undefinedVar, isUse, variablesUsed, indexDefinitions}
 use Rattle.analysis.specs.States.{Fault, QuerySchedule, State, setScope, addFirstUses, addDefinitions, setRun, fail, inTurn, failOr}
 use Rattle.analysis.specs.Using.{undefinedAt, gatherUsedVars}
