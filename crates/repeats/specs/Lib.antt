@@ -28,3 +28,6 @@ pub mod Amid
 pub mod MemoRust
 pub mod QueryRepeats
 pub mod Examples
+pub mod Gated
+pub mod TakenComprs
+pub mod ComprRepeats

@@ -32,7 +32,7 @@ abbrev pub Sub : List ℕ → List ℕ → Type 0
 Sub k l = (x : ℕ) → elem x k ≡ true → elem x l ≡ true
 
 -- No fault, or one.
-fault-cases : (f : Fault) → (f ≡ sound) ⊎ (isSound f ≡ false)
+pub fault-cases : (f : Fault) → (f ≡ sound) ⊎ (isSound f ≡ false)
 fault-cases sound = inl refl
 fault-cases (undefined l c) = inr refl
 fault-cases (usedBefore l c) = inr refl
