@@ -37,7 +37,8 @@ module _ (sheet : Sheet) (way way′ : Way) (C : List Tree) (c : Coupling way wa
       recordEach-beside (c .ρ L) (c .again L) i (assignedVars (p .scope) target)
       (λ x. filter (λ y. not (eqb y x)) (allUsedBy sheet way [] m source (stateOf p A)))
       (λ x. filter (λ y. not (eqb y x)) (allUsedBy sheet way′ [] m source (stateOf p B)))
-      (ap {B = ℕ → List ℕ} (λ (l : List ℕ) (x : ℕ). filter (λ y. not (eqb y x)) l) (allUsed-same sheet way way′ C c [] m source L (mem-left cs K) p A B z)) p A B z)
+      (ap {B = ℕ → List ℕ} (λ (l : List ℕ) (x : ℕ). filter (λ y. not (eqb y x)) l)
+      (allUsed-same sheet way way′ C c [] m source L (mem-left cs K) p A B z)) p A B z)
       (turn (c .ρ L) (c .ρ L) (checkAssigned check target) (checkAssigned check target) (checkAssigned-good (c .ρ L) (c .again L) check target)
       (useExpr-good sheet way way′ C c i [] m source h K o T U r)))
 

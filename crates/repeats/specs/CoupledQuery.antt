@@ -43,7 +43,8 @@ module _ (sheet : Sheet) (way way′ : Way) where
   module _ (C : List Tree) (c : OutputCoupling way way′ C) where
     -- What a known comprehension propagates.
     propagate-good : (e : Tree)
-        → Good (c .known e) (c .known e) (λ t. propagateBy sheet way (outputScope (t .scope)) e t) (λ t. propagateBy sheet way′ (outputScope (t .scope)) e t)
+        → Good (c .known e) (c .known e) (λ t. propagateBy sheet way (outputScope (t .scope)) e t)
+        (λ t. propagateBy sheet way′ (outputScope (t .scope)) e t)
     unfolding propagateBy
     propagate-good e o T U r =
         let F : Scope → Scope = λ x.

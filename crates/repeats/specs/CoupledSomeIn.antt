@@ -92,5 +92,6 @@ module _ (sheet : Sheet) (way way′ : Way) (C : List Tree) (c : Coupling way wa
       addDefinitions-beside (c .ρ L) (c .again L)
       (map (λ (w : Row). define i (w .name) (allUsedBy sheet way [] m collection (stateOf q A))) names)
       (map (λ (w : Row). define i (w .name) (allUsedBy sheet way′ [] m collection (stateOf q B))) names)
-      (ap (λ (l : List ℕ). map (λ (w : Row). define i (w .name) l) names) (allUsed-same sheet way way′ C c [] m collection L (mem-left cs K) q A B z)) q A B z)
+      (ap (λ (l : List ℕ). map (λ (w : Row). define i (w .name) l) names)
+      (allUsed-same sheet way way′ C c [] m collection L (mem-left cs K) q A B z)) q A B z)
       (useExpr-good sheet way way′ C c i [] m collection (within-append (comprs collection) (m .comprs) C h k) K o T U r))))))

@@ -126,7 +126,8 @@ module _ (sheet : Sheet) (way way′ : Way) (extras : (arg : Tree) → way .extr
         (gatherUsedVars-good (anywhere before) (λ x y A B z w. w) sheet i [] e) b) (going o T U r)))
 
   -- Statement by statement.
-  pub processStmts-beside : (Start : List Stmt → Pairs) → ((st : Stmt) (stmts : List Stmt) → StmtCoupling sheet way way′ st (Start (st ∷ stmts)) (Start stmts))
+  pub processStmts-beside : (Start : List Stmt → Pairs)
+      → ((st : Stmt) (stmts : List Stmt) → StmtCoupling sheet way way′ st (Start (st ∷ stmts)) (Start stmts))
       → (stmts : List Stmt) (i : ℕ) {s u : State} → Beside (anywhere (Start stmts)) s u
       → Beside (anywhere (Start [])) (processStmtsBy sheet way i stmts s) (processStmtsBy sheet way′ i stmts u)
   unfolding processStmtsBy

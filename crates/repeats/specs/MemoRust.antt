@@ -141,7 +141,8 @@ module _ (levels : ℕ) (sheet : Sheet)
       (λ (h : HeldAt levels sheet parents T₀ sc e T).
       subst₂ (λ (a b : State). Beside σ a b) (sym (memo-held levels sheet parents (sc ∷ parents) e o T h))
       (sym (take-sound (runOf levels sheet parents T₀ sc e) o U (h .isSound)))
-      (going o T (runOf levels sheet parents T₀ sc e .schedules ++ U) (k T (runOf levels sheet parents T₀ sc e .schedules ++ U) (amid-held levels sheet parents T₀ C P K e m sc T U r h))))
+      (going o T (runOf levels sheet parents T₀ sc e .schedules ++ U)
+      (k T (runOf levels sheet parents T₀ sc e .schedules ++ U) (amid-held levels sheet parents T₀ C P K e m sc T U r h))))
       (r .status e m)
 
   -- ---- statements and outputs
@@ -212,7 +213,8 @@ module _ (levels : ℕ) (sheet : Sheet)
       record {
         ω = λ sc T U. Amid levels sheet parents T₀ C [] [] (outputScope sc) T U;
         known = λ e sc T U. Amid levels sheet parents T₀ C [] (e ∷ []) (outputScope sc) T U;
-        again = λ e sc sc′ T U own r. amid-again levels sheet parents T₀ C [] (e ∷ []) (outputScope sc) (outputScope sc′) T U (own-outputScope sc sc′ own) r;
+        again = λ e sc sc′ T U own r.
+            amid-again levels sheet parents T₀ C [] (e ∷ []) (outputScope sc) (outputScope sc′) T U (own-outputScope sc sc′ own) r;
         enter = λ e m o T U r.
             enter C [] (λ sc A B. Amid levels sheet parents T₀ C [] (e ∷ []) (outputScope sc) A B) e m [] (outputScope (o .scope)) o T U r (λ A B z. z);
         look = λ e o T U r. ap scopeIn (r .known e (mathlib.Core.List.List·Memᴰ·head refl) .1 .look);
@@ -220,7 +222,8 @@ module _ (levels : ℕ) (sheet : Sheet)
       }
 
   -- After the statements the outputs begin.
-  outputs-begin : (outputs : List Tree) (sc : Scope) (T U : List QuerySchedule) → Before outputs [] T U → Amid levels sheet parents T₀ (concatMap comprs outputs) [] [] sc T U
+  outputs-begin : (outputs : List Tree) (sc : Scope) (T U : List QuerySchedule) → Before outputs [] T U
+      → Amid levels sheet parents T₀ (concatMap comprs outputs) [] [] sc T U
   unfolding named
   outputs-begin outputs sc T U r =
       let cf = comprFamily (family levels sheet) in

@@ -75,7 +75,8 @@ module _ (sheet : Sheet) (s : Scope) (extras : List ℕ) (i : ℕ) where
         ∙ cc (
           set-node w a b c (isRefBrack w) refl,
           any-append p (h e) (entered en (concatMap g (once a)) (concatMap g (once b)) (concatMap g (once c))),
-          any-entered p en (concatMap g (once a)) (concatMap g (once b)) (concatMap g (once c)) (concatMap h (traverse a)) (concatMap h (traverse b)) (concatMap h (traverse c)) (set-once a) (set-once b) (set-once c),
+          any-entered p en (concatMap g (once a)) (concatMap g (once b)) (concatMap g (once c)) (concatMap h (traverse a))
+              (concatMap h (traverse b)) (concatMap h (traverse c)) (set-once a) (set-once b) (set-once c),
           set-once n,
           any-append p (h e) (entered en (concatMap h (traverse a)) (concatMap h (traverse b)) (concatMap h (traverse c))),
           concatMap-entered h en (traverse a) (traverse b) (traverse c),

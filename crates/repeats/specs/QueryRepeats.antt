@@ -1,5 +1,6 @@
 -- Analysing a query again changes nothing: the Rust's analysis, which analyses a comprehension's query wherever it meets the
--- comprehension, and that of the definitions, which does so once, have the same fault and the same schedules.
+-- comprehension, and that of the definitions, which does so once, have the same fault and the same schedules. Here both walk what a bracket
+-- indexes once; `RustGather` and `ComprRepeats` say what the Rust's walk changes at each step: the order and the repetition of definitions.
 use mathlib.Core.Path.{_≡_, refl, sym, ap, _∙_}
 use mathlib.Core.Bool.{Bool, true}
 use mathlib.Core.List.{List, [], append-nil}
@@ -15,7 +16,8 @@ use Rattle.repeats.specs.RustWay.{rustAnalyzeQuerySnippet}
 use Rattle.repeats.specs.Beside.{isSound}
 use Rattle.repeats.specs.MemoRust.{Agree, stopped, agreed, analyze-agree}
 
--- Each query of the sheet stands at one place: going down from the outer query, no query is named twice.
+-- Each query of the sheet stands at one place: going down from the outer query, no query is named twice. That a sheet which passes
+-- question 6 is so is not proved here.
 unfoldable pub queriesOnce : Sheet → Bool
 queriesOnce sheet = distinct (family deepest sheet 1 [])
 
