@@ -27,7 +27,7 @@ pub mod RustWrites
 pub mod Amid
 pub mod MemoRust
 pub mod QueryRepeats
-pub mod Examples
 pub mod Gated
 pub mod TakenComprs
 pub mod ComprRepeats
+pub mod Examples

@@ -28,8 +28,8 @@ Answer = List Scope → ℕ → List Tree → Run
 unfoldable pub take : Run → State → State
 take o s = setRun (record { schedules = o .schedules ++ s .run .schedules; fault = o .fault }) s
 
--- Its steps. The Rust hands a list of comprehensions one copy of the scope, and takes the names that they use as it goes; as only inputs
--- change meanwhile, `rustAnalyze-same` says that the scope at hand and the end of the list do as well.
+-- Its steps. The Rust analyses a list of comprehensions below one copy of the scope, and takes the names that they use as it goes. Only
+-- inputs change meanwhile: by `rustAnalyze-same` the scope at hand does as well, and so do the names at the end of the list.
 unfoldable pub rustWay : Sheet → Answer → List Scope → Way
 rustWay sheet answer parents = record {
   start = gatherLocalVars sheet parents;
