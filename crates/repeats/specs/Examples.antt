@@ -1,0 +1,112 @@
+-- The repeats do occur: a bracket with two names in its indices, and an array assignment with a comprehension in its modifier.
+use mathlib.Core.Path.{_≡_, refl}
+use mathlib.Core.Bool.{true, false}
+use mathlib.Core.List.{List, [], _∷_, map}
+use Prim.Native.Nat.{ℕ}
+use Rattle.basics.specs.Ranges.{range}
+use Rattle.trees.specs.declared.Row.{Row}
+use Rattle.trees.specs.Sheet.{Sheet, isInput, isSpecial}
+use Rattle.trees.specs.Trees.{Tree, nil, node, decode, treeAt, chain}
+use Rattle.trees.specs.Traverse.{traverse, leaves, vars}
+use Rattle.trees.specs.Paths.{getPathString, getExtraArg}
+use Rattle.trees.specs.Statements.{literalOf, stmtsFrom, stmtsOf}
+use Rattle.scopes.specs.NameSets.{empty, contains, insert, remove, elements}
+use Rattle.scopes.specs.Scopes.{Scope, addLocal, addUnscoped, addInput, useInput, removeAll, removeShadowed, owns, varExists}
+use Rattle.scopes.specs.Gather.{assignVar, gatherAssignedVars, inputVar, gatherInputVars, loopVar, gatherLoopVars, gatherRead, gatherVars}
+use Rattle.scopes.specs.GatherLocals.{gatherExpr, gatherLiteral, gatherStmt, gatherLocalVars}
+use Rattle.uses.specs.Uses.{define, nameOf, assignedVars, indexVars, readsInput, isUndefined, undefinedVar, isUse, usedAt, usedVars, variablesUsed, indexDefinitionsAt, indexDefinitions}
+use Rattle.uses.specs.FirstUses.{addFirstUse}
+use Rattle.analysis.specs.States.{QuerySchedule, setScope, addFirstUses, addDefinitions, setRun, fail}
+use Rattle.analysis.specs.Using.{gatherUsedVars, checkFirstUse, checkAssigned, recordOne, recordEach, atLeastOne}
+use Rattle.analysis.specs.Comprs.{comprInputs, propagate, comprsUse, useCompr, allUsed, analyzeCompr, processCompr, processComprs, useExpr}
+use Rattle.analysis.specs.Exprs.{pairings, assignOneWay, assignPairing, processAssignExpr, processPlainExpr, processExpr, extraVars, processExtraArg}
+use Rattle.analysis.specs.Statements.{modsOf, processLiteral, processStmt, processStmts}
+use Rattle.analysis.specs.Queries.{outputScope, scheduled, outputCompr, analyzeOutputExpr, analyzeQuery, analyze, analyzeQuerySnippet}
+use Rattle.repeats.specs.Events.{varsSeen}
+use Rattle.repeats.specs.RustWalk.{rustWalk}
+use Rattle.repeats.specs.Ways.{propagateBy, comprsUseBy, useComprBy, allUsedBy, processComprBy, processComprsBy, useExprBy, assignOneWayBy, assignPairingBy, processAssignExprBy, processPlainExprBy, processExprBy, processExtraArgBy, processCallBy, processLiteralBy, processStmtBy, processStmtsBy, outputComprBy, analyzeOutputExprBy, analyzeQueryBy}
+use Rattle.repeats.specs.RustWay.{take, rustWay, rustAnalyze, rustAnalyzeQuerySnippet}
+use Rattle.repeats.specs.Places.{exprComprs, literalComprs, stmtComprs, named, family}
+use Rattle.repeats.specs.QueryRepeats.{queriesOnce}
+
+-- An expression on line 1: its kind, its name, its fields and the next of its chain.
+abbrev expression : ℕ → ℕ → ℕ → ℕ → ℕ → ℕ → Row
+expression kind name first second third next =
+    record { kind = kind; name = name; line = 1; col = 0; first = first; second = second; third = third; next = next }
+
+-- `[a, b] = [1, 2] with input as [x | x := 3]`, where a, b and x are the names 1, 2 and 3, and the comprehension's query is 2.
+abbrev sheet : Sheet
+sheet = record {
+  special = record { blank = 0; input = 0; «data» = 0 };
+  builtins = [];
+  exprs =
+      expression 20 0 2 5 0 0
+      ∷ expression 7 0 3 0 0 0
+      ∷ expression 6 1 0 0 0 4
+      ∷ expression 6 2 0 0 0 0
+      ∷ expression 7 0 6 0 0 0
+      ∷ expression 3 0 0 0 0 7
+      ∷ expression 3 0 0 0 0 0
+      ∷ expression 10 0 9 0 2 0
+      ∷ expression 6 3 0 0 0 0
+      ∷ expression 21 0 11 12 0 0
+      ∷ expression 6 3 0 0 0 0
+      ∷ expression 3 0 0 0 0 0
+      ∷ [];
+  statements =
+      record { form = 3; first = 1; second = 0; third = 0; query = 0; with = 8; next = 0 }
+      ∷ record { form = 3; first = 10; second = 0; third = 0; query = 0; with = 0; next = 0 }
+      ∷ [];
+  queries = 1 ∷ 2 ∷ [];
+}
+
+-- The query of a schedule.
+abbrev queryOf : QuerySchedule → ℕ
+queryOf a = a .query
+
+-- What the Rust's analysis computes with.
+unfoldable rustQueries : Sheet → List ℕ
+unfolding rustAnalyzeQuerySnippet rustAnalyze rustWay take propagateBy comprsUseBy useComprBy allUsedBy processComprBy processComprsBy useExprBy assignOneWayBy assignPairingBy processAssignExprBy processPlainExprBy processExprBy processExtraArgBy processCallBy processLiteralBy processStmtBy processStmtsBy outputComprBy analyzeOutputExprBy analyzeQueryBy range isInput isSpecial decode treeAt chain traverse leaves getPathString getExtraArg literalOf stmtsFrom stmtsOf empty contains insert remove elements addLocal addUnscoped addInput useInput removeAll removeShadowed owns varExists assignVar gatherAssignedVars inputVar gatherInputVars loopVar gatherLoopVars gatherRead gatherVars gatherExpr gatherLiteral gatherStmt gatherLocalVars define assignedVars indexVars readsInput isUndefined undefinedVar isUse usedAt usedVars variablesUsed indexDefinitionsAt indexDefinitions addFirstUse setScope addFirstUses addDefinitions setRun fail gatherUsedVars checkFirstUse checkAssigned recordOne recordEach atLeastOne pairings modsOf outputScope scheduled
+rustQueries s = map queryOf (rustAnalyzeQuerySnippet s .schedules)
+
+-- And that of the definitions.
+unfoldable queries : Sheet → List ℕ
+unfolding analyzeQuerySnippet analyze analyzeQuery analyzeOutputExpr outputCompr processStmts processStmt processLiteral processExtraArg extraVars processExpr processPlainExpr processAssignExpr assignPairing assignOneWay useExpr processComprs processCompr analyzeCompr allUsed useCompr comprsUse propagate comprInputs range isInput isSpecial decode treeAt chain traverse leaves getPathString getExtraArg literalOf stmtsFrom stmtsOf empty contains insert remove elements addLocal addUnscoped addInput useInput removeAll removeShadowed owns varExists assignVar gatherAssignedVars inputVar gatherInputVars loopVar gatherLoopVars gatherRead gatherVars gatherExpr gatherLiteral gatherStmt gatherLocalVars define assignedVars indexVars readsInput isUndefined undefinedVar isUse usedAt usedVars variablesUsed indexDefinitionsAt indexDefinitions addFirstUse setScope addFirstUses addDefinitions setRun fail gatherUsedVars checkFirstUse checkAssigned recordOne recordEach atLeastOne pairings modsOf outputScope scheduled
+queries s = map queryOf (analyzeQuerySnippet s .schedules)
+
+-- The Rust analyses the comprehension's query four times, once for each pair and direction.
+analyzed-four-times : rustQueries sheet ≡ 1 ∷ 2 ∷ 2 ∷ 2 ∷ 2 ∷ []
+unfolding rustQueries
+analyzed-four-times = refl
+
+-- The definitions do so once.
+analyzed-once : queries sheet ≡ 1 ∷ 2 ∷ []
+unfolding queries
+analyzed-once = refl
+
+-- Each query of the sheet stands at one place.
+stands-once : queriesOnce sheet ≡ true
+unfolding queriesOnce family named stmtComprs literalComprs exprComprs pairings stmtsOf stmtsFrom literalOf treeAt decode chain traverse leaves getExtraArg getPathString
+stands-once = refl
+
+-- ---- a bracket
+
+-- `a[b][x]`.
+abbrev bracket : Tree
+bracket =
+    node (expression 16 0 0 0 0 0)
+    (node (expression 16 0 0 0 0 0) (node (expression 6 1 0 0 0 0) nil nil nil nil) (node (expression 6 2 0 0 0 0) nil nil nil nil) nil nil)
+    (node (expression 6 3 0 0 0 0) nil nil nil nil) nil nil
+
+-- A scope with the three names.
+abbrev scope : Scope
+scope = record { locals = []; unscoped = λ x. true; inputs = empty; usesInput = false }
+
+-- The Rust walks `a[b]` twice, and `a` in each of these twice; the definitions walk each once.
+walked-again : map nameOf (varsSeen (rustWalk sheet scope [] 0 bracket)) ≡ 1 ∷ 1 ∷ 2 ∷ 1 ∷ 1 ∷ 2 ∷ 3 ∷ []
+unfolding rustWalk indexVars assignedVars leaves owns contains
+walked-again = refl
+
+walked-once : map nameOf (vars (traverse bracket)) ≡ 1 ∷ 2 ∷ 3 ∷ []
+unfolding traverse
+walked-once = refl

@@ -1,0 +1,46 @@
+-- A query analysed under other parents with the same locals and unscoped comes to the same run: the same schedules and the same fault.
+use mathlib.Core.Path.{_≡_, refl, sym, ap, _∙_}
+use mathlib.Core.Bool.{false}
+use mathlib.Core.List.{List, [], _∷_}
+use Prim.Native.Nat.{ℕ, zero, suc}
+use Rattle.trees.specs.Sheet.{Sheet}
+use Rattle.trees.specs.Trees.{rowOf, outputsOf}
+use Rattle.scopes.specs.NameSets.{elements}
+use Rattle.scopes.specs.Scopes.{Scope, noScope}
+use Rattle.analysis.specs.States.{scheduleOf, setRun}
+use Rattle.analysis.specs.Comprs.{Nested, comprScope, unlessScheduled, analyzeCompr}
+use Rattle.analysis.specs.Exprs.{extraVars}
+use Rattle.analysis.specs.Queries.{analyze}
+use Rattle.repeats.specs.SameOuter.{SameOuter, below, same-own, varExists-same, gatherAssignedVars-same, gatherLocalVars-same}
+use Rattle.repeats.specs.Ways.{analyzeQueryBy}
+use Rattle.repeats.specs.MemoWay.{memoWay, analyzeQuery-memo}
+
+-- The way below such parents is the same, if the analysis of what is nested is.
+memoWay-same : (sheet : Sheet) (nested : Nested) {ps qs : List Scope} → SameOuter ps qs
+    → ((sc : Scope) → nested (sc ∷ ps) ≡ nested (sc ∷ qs))
+    → ((inner sc : Scope) → nested (inner ∷ (sc ∷ ps)) ≡ nested (inner ∷ (sc ∷ qs)))
+    → memoWay sheet nested ps ≡ memoWay sheet nested qs
+unfolding memoWay analyzeCompr extraVars
+memoWay-same sheet nested {ps} {qs} h deeper twice =
+    λ i.
+    record {
+      start = gatherLocalVars-same sheet ps qs (varExists-same h) i;
+      extraVars = λ arg. elements (gatherAssignedVars-same sheet ps qs (varExists-same h) i false arg noScope .unscoped);
+      compr = λ sc e s.
+          unlessScheduled (scheduleOf (s .run .schedules) (rowOf e .third))
+          (λ t. setRun (deeper sc i (rowOf e .third) (outputsOf e) (t .run)) t) s;
+      comprScope = λ sc s e. comprScope s e;
+      body = λ inner sc q s. setRun (twice inner sc i q [] (s .run)) s;
+    }
+
+-- Under parents with the same locals and unscoped the analysis of a query is the same function of query, outputs and run.
+pub analyze-same : (levels : ℕ) (sheet : Sheet) {ps qs : List Scope} → SameOuter ps qs → analyze levels sheet ps ≡ analyze levels sheet qs
+unfolding analyze
+analyze-same zero sheet h = refl
+analyze-same (suc levels) sheet {ps} {qs} h =
+    let nested : Nested = λ os q outputs r. analyze levels sheet os q outputs r in
+    analyzeQuery-memo sheet nested ps
+    ∙ ap (analyzeQueryBy sheet)
+    (memoWay-same sheet nested h (λ sc. analyze-same levels sheet (below (same-own sc) h))
+    (λ inner sc. analyze-same levels sheet (below (same-own inner) (below (same-own sc) h))))
+    ∙ sym (analyzeQuery-memo sheet nested qs)
