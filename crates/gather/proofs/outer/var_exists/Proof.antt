@@ -1,4 +1,6 @@
 -- The least line is compared with that of the variable.
+use Prim.Native.Nat.{_<_}
+use native.Mathlib.Omega.{arith}
 use borrow.Author.Needs.{needs}
 use Rattle.gather.specs.Outers.{exists}
 use Rattle.gather.proofs.outer.var_exists.Statement.{statement}
@@ -16,8 +18,11 @@ shared-slice-read-result c = search needs
 cast-result : tie.Need-cast-result
 cast-result c = search needs
 
+line-fits : (c : tie.After-struct-known2) → c .before .before .before .args .w .line < 65536
+line-fits c = omega (arith, c .struct-known2 .given)
+
 returns : tie.Need-returns
-returns c = exists _ _ (c .before .before .before .pre .1)
+returns c = exists _ _ (c .before .before .before .pre .1) (line-fits c)
 
 pub var-exists-spec : {M : Type 1} → statement M
 var-exists-spec =
