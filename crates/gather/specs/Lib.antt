@@ -6,3 +6,4 @@ pub mod Inputs
 pub mod Spans
 pub mod Assigned
 pub mod Loops
+pub mod Vars

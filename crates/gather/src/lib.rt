@@ -6,3 +6,4 @@ pub mod loops;
 pub mod outer;
 pub mod scope;
 pub mod special;
+pub mod vars;
