@@ -1,24 +1,18 @@
 -- The walk that gathers inputs, step by step.
 use mathlib.Core.Path.{_≡_, refl, sym, ap, _∙_, subst}
-use mathlib.Core.Bool.{Bool, true, false, cond, not, _&&_}
+use mathlib.Core.Bool.{Bool, true, false, cond}
 use mathlib.Core.List.{List, [], _∷_, _++_, foldl}
-use mathlib.Core.Logic.{_⊎_, inl, inr}
-use Prim.Native.Nat.{ℕ, _≤_, _<_}
+use Prim.Native.Nat.{ℕ, _≤_}
 use native.Mathlib.Omega.{arith}
 use lib.ListN.{getD}
-use lib.Dec.{eqb}
 use borrow.Author.Tests.{eq-eqb, ne-eqb}
-use Rattle.basics.specs.Truth.{bool-cases}
 use Rattle.names.specs.Sets.{member}
 use Rattle.trees.specs.declared.Row.{Row}
 use Rattle.trees.specs.Sheet.{Sheet, rowAt, isInput}
 use Rattle.trees.specs.Kinds.{isVar}
-use Rattle.trees.specs.Lists.{concatMap}
 use Rattle.trees.specs.Trees.{Tree, rowOf, treeAt}
 use Rattle.trees.specs.Traverse.{traverse, vars}
-use Rattle.scopes.specs.NameSets.{contains}
 use Rattle.scopes.specs.Scopes as spec
-use Rattle.scopes.specs.Scopes.{varExists, addInput, useInput}
 use Rattle.scopes.specs.Gather.{inputVar, gatherInputVars}
 use Rattle.branches.specs.declared.Kids.{Kids}
 use Rattle.branches.specs.Kids.{kidsOf}
@@ -27,6 +21,7 @@ use Rattle.gather.specs.declared.scope.Scope.{Scope}
 use Rattle.gather.specs.Sheets.{countsAt, specialAt, sheetAt, Accepted}
 use Rattle.gather.specs.Agrees.{Sets, WithInput, WithFlag}
 use Rattle.gather.specs.Outers.{Outer, Exists}
+use Rattle.gather.specs.Walking.{exprBy}
 
 -- The definitions' step at any expression.
 abbrev pub inputAt : Sheet → List spec.Scope → spec.Scope → Tree → spec.Scope
@@ -57,11 +52,8 @@ module _ (t outer : List ℕ) where
   InputStep w k r = Steps (λ parents s. cond (isVar w) (inputVar (sheetAt t) parents s w) s) k r
 
   -- The expression at a row, with the rest of its chain if `rest`.
-  abbrev pub exprBy : Bool → ℕ → Tree
-  exprBy rest row = cond rest (treeAt (sheetAt t) row) (alone (treeAt (sheetAt t) row))
-
   abbrev pub InputWalk : ℕ → Bool → Scope → Scope → Type 0
-  InputWalk row rest k r = Steps (λ parents s. gatherInputVars (sheetAt t) parents (exprBy rest row) s) k r
+  InputWalk row rest k r = Steps (λ parents s. gatherInputVars (sheetAt t) parents (exprBy t rest row) s) k r
 
   -- ---- the ways out of `input_var`
 
@@ -102,7 +94,7 @@ module _ (t outer : List ℕ) where
     overRow rest s row = overBy (countsAt t) (specialAt t) t step rest s row
 
     -- The gathering of the definitions is a walk over all expressions.
-    as-walk : (rest : Bool) (s : spec.Scope) (row : ℕ) → gatherInputVars (sheetAt t) parents (exprBy rest row) s ≡ overRow rest s row
+    as-walk : (rest : Bool) (s : spec.Scope) (row : ℕ) → gatherInputVars (sheetAt t) parents (exprBy t rest row) s ≡ overRow rest s row
     unfolding gatherInputVars sheetAt
     as-walk true s row = fold-vars (inputVar (sheetAt t) parents) s (traverse (treeAt (sheetAt t) row))
     as-walk false s row = fold-vars (inputVar (sheetAt t) parents) s (traverse (alone (treeAt (sheetAt t) row)))

@@ -1,5 +1,5 @@
 -- What a walk over rows owes at its calls of itself, whatever it gathers: each is on a later row, or on none.
-use mathlib.Core.Path.{_≡_, sym, ap, _∙_, subst}
+use mathlib.Core.Path.{_≡_, subst}
 use mathlib.Core.Bool.{Bool, true, false, cond}
 use mathlib.Core.List.{List}
 use mathlib.Core.Logic.{inl}
@@ -8,13 +8,21 @@ use native.Mathlib.Omega.{arith}
 use lib.ListN.{getD}
 use Rattle.trees.specs.declared.Row.{Row}
 use Rattle.trees.specs.Sheet.{rowAt}
+use Rattle.trees.specs.Kinds.{isPattern}
+use Rattle.trees.specs.Trees.{Tree, treeAt}
 use Rattle.branches.specs.declared.Kids.{Kids}
 use Rattle.branches.specs.Descent.{Onward}
 use Rattle.branches.specs.Kids.{kidsOf}
+use Rattle.branches.specs.RowTrees.{row-descends}
+use Rattle.branches.specs.Walks.{alone}
 use Rattle.branches.specs.Onwards.{left, left-falls, onward-low, row-onwards, name-low}
-use Rattle.gather.specs.Sheets.{countsAt, Accepted}
+use Rattle.gather.specs.Sheets.{countsAt, sheetAt, Accepted}
 
 module _ (t : List ℕ) where
+  -- The expression at a row, with the rest of its chain if `rest`.
+  abbrev pub exprBy : Bool → ℕ → Tree
+  exprBy rest row = cond rest (treeAt (sheetAt t) row) (alone (treeAt (sheetAt t) row))
+
   -- The measure of a walk at row r.
   abbrev pub remains : ℕ → ℕ
   remains r = left (getD t 2 0) r
@@ -41,6 +49,10 @@ module _ (t : List ℕ) where
     goes v m e h =
         (subst (λ (n : ℕ). remains v < n) e (left-falls (getD t 2 0) r v (omega arith) high h), onward-low (getD t 2 0) r v h)
 
+    goes-if : (b : Bool) (v m : ℕ) → remains r ≡ m → Onward (getD t 2 0) r v → Falls m (cond b v 0)
+    goes-if true v m e h = goes v m e h
+    goes-if false v m e h = goes 0 m e (inl (omega arith))
+
     pub calls : (m : ℕ) → remains r ≡ m → (rest : Bool) (w : Row) → w ≡ rowAt t r → (k : Kids) → k ≡ kidsOf w → Calls m rest w k
     calls m e rest w is k ks =
         let o = row-onwards (countsAt t) t (ok .within) (ok .facts) r (omega arith) high in
@@ -48,10 +60,22 @@ module _ (t : List ℕ) where
           first = goes _ m e (o .first);
           second = goes _ m e (o .second);
           third = goes _ m e (o .third);
-          next = rest-falls rest (o .next);
+          next = goes-if rest _ m e (o .next);
         } in
         rw (ks, is) at
-      where
-        rest-falls : (b : Bool) → Onward (getD t 2 0) r (rowAt t r .next) → Falls m (cond b (rowAt t r .next) 0)
-        rest-falls true h = goes _ m e h
-        rest-falls false h = goes 0 m e (inl (omega arith))
+
+    -- The calls of a pattern's turn.
+    pub pattern-calls : (m : ℕ) → remains r ≡ m → (rest : Bool) (w : Row) → w ≡ rowAt t r
+        → (items : ℕ) → items ≡ cond (isPattern w) (w .first) 0 → (next : ℕ) → next ≡ cond rest (w .next) 0 → Falls m items × Falls m next
+    pattern-calls m e rest w is items ps next ns =
+        let d = row-descends (countsAt t) t (ok .facts) r (omega arith) high in
+        let to : Falls m (cond (isPattern (rowAt t r)) (rowAt t r .first) 0) = goes-if (isPattern (rowAt t r)) _ m e (d .to-first) in
+        let on : Falls m (cond rest (rowAt t r .next) 0) = goes-if rest _ m e (d .to-next) in
+        (rw (ps, is) to, rw (ns, is) on)
+
+    -- What the first two fields name are rows.
+    pub first-low : (w : Row) → w ≡ rowAt t r → w .first ≤ getD t 2 0
+    first-low w is = rw is (onward-low (getD t 2 0) r _ (row-descends (countsAt t) t (ok .facts) r (omega arith) high .to-first))
+
+    pub second-low : (w : Row) → w ≡ rowAt t r → w .second ≤ getD t 2 0
+    second-low w is = rw is (onward-low (getD t 2 0) r _ (row-descends (countsAt t) t (ok .facts) r (omega arith) high .to-second))

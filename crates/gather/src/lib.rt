@@ -1,6 +1,9 @@
 // Gathering the variables of a query into its scope.
 
+pub mod assigned;
 pub mod input;
+pub mod loops;
 pub mod outer;
 pub mod scope;
 pub mod special;
+pub mod vars;

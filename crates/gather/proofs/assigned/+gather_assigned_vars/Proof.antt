@@ -1,0 +1,115 @@
+-- The walk goes on to later rows only, and what the calls on the way do is a row's turn (`walk-turn`).
+use mathlib.Core.Path.{_≡_, sym, _∙_, subst}
+use Prim.Native.Nat.{ℕ, _<_}
+use native.Mathlib.Omega.{arith}
+use borrow.Author.Needs.{needs}
+use borrow.Fn.Kinds.{In}
+use borrow.Fn.PlainCycle.{Measures, is, falls, and}
+use Rattle.trees.specs.Sheet.{rowAt, row-fields}
+use Rattle.gather.specs.Walking.{remains, Falls, row-low, low-name, pattern-calls}
+use Rattle.gather.specs.Assigned.{AssignWalk, walk-none, walk-turn}
+use Rattle.gather.proofs.assigned.gather_assigned_vars.Reads as gather-assigned-vars
+use Rattle.gather.proofs.assigned.gather_assigned_vars.Kinds as kinds
+use Rattle.gather.proofs.assigned.+gather_assigned_vars.Lts-gather_assigned_vars as lts
+use Rattle.branches.proofs.next_of.Reads as next-of-reads
+use Rattle.gather.proofs.assigned.assign_step.Reads as assign-step-reads
+use Rattle.gather.proofs.assigned.items_of.Reads as items-of-reads
+use Rattle.trees.proofs.row_at.Reads as row-at-reads
+use Rattle.gather.proofs.assigned.+gather_assigned_vars.{statement}
+use Rattle.gather.proofs.assigned.+gather_assigned_vars.Tie.{close}
+
+abbrev μ : Measures 3 kinds.ps ℕ
+μ κs a = remains (a .0 .now) (a .1 .1 .0)
+
+abbrev here : ℕ → In 3 kinds.ps
+here m = and 3 kinds.ps (is 3 kinds.ps μ m) gather-assigned-vars.Pre
+
+abbrev below : ℕ → In 3 kinds.ps
+below m = and 3 kinds.ps (falls 3 kinds.ps _<_ μ m) gather-assigned-vars.Pre
+
+abbrev known : ℕ → lts.Claims
+known m = (
+  row-at-reads.Asked,
+  row-at-reads.Learnt,
+  items-of-reads.Asked,
+  items-of-reads.Learnt,
+  next-of-reads.Asked,
+  next-of-reads.Learnt,
+  assign-step-reads.Asked,
+  assign-step-reads.Learnt,
+  below m,
+  gather-assigned-vars.Post,
+)
+
+returns : (m : ℕ) → lts.Need-returns (known m) (here m) gather-assigned-vars.Post
+returns m c =
+    let start = c .before .before .before .before in
+    let a = start .args in
+    subst (λ (n : ℕ). AssignWalk (a .tables .now) (a .outer .now) n (a .rest) (a .can-shadow) (a .scope) (a .spans .now) (a .scope) (a .spans .now))
+    (sym (c .if1 .taken)) (walk-none _ _ (start .pre .1 .0) (a .rest) (a .can-shadow) (a .scope) (a .spans .now))
+
+row-at-requires : (m : ℕ) → lts.Need-row-at-requires (known m) (here m) gather-assigned-vars.Post
+row-at-requires m c κs =
+    let pre = c .before .before .before .before .pre .1 in
+    (pre .0 .room, row-low _ (pre .0) _ (c .if1 .left) (pre .2))
+
+-- The row that was read.
+row-is : (m : ℕ) (c : lts.After-row-at (known m) (here m) gather-assigned-vars.Post)
+    → c .row-at .result ≡ rowAt (c .before .before .before .before .before .args .tables .now) (c .before .before .before .before .before .args .row)
+row-is m c = c .row-at .ensures ∙ row-fields _ _
+
+items-of-requires : (m : ℕ) → lts.Need-items-of-requires (known m) (here m) gather-assigned-vars.Post
+items-of-requires m c κs = search needs
+
+next-of-requires : (m : ℕ) → lts.Need-next-of-requires (known m) (here m) gather-assigned-vars.Post
+next-of-requires m c κs = search needs
+
+assign-step-requires : (m : ℕ) → lts.Need-assign-step-requires (known m) (here m) gather-assigned-vars.Post
+assign-step-requires m c κs =
+    let r = c .before .before .before in
+    let pre = r .before .before .before .before .before .pre .1 in
+    (pre .0 .room, pre .1, rw (row-is m r) (low-name _ (pre .0) _ (r .before .if1 .left) (pre .2)), pre .3)
+
+ready : (m : ℕ) (c : lts.After-next-of (known m) (here m) gather-assigned-vars.Post)
+    → let t = c .before .before .before .before .before .before .before .args .tables .now in
+    Falls t m (c .before .items-of .result) × Falls t m (c .next-of .result)
+ready m c =
+    let r = c .before .before in
+    let start = r .before .before .before .before .before in
+    pattern-calls _ (start .pre .1 .0) _ (r .before .if1 .left) (start .pre .1 .2) m (start .pre .0) (start .args .rest) _ (row-is m r) _ (c .before .items-of .ensures) _ (c .next-of .ensures)
+
+items-requires : (m : ℕ) → lts.Need-gather-assigned-vars-requires (known m) (here m) gather-assigned-vars.Post
+items-requires m c κs =
+    let pre = c .before .before .before .before .before .before .before .before .before .before .before .before .pre .1 in
+    let k = ready m (c .before .before .before .before .before) .0 in
+    (k .0, (pre .0, pre .1, k .1, omega (arith, pre .3, c .before .before .before .assign-step .kept .1 .1 .1 .1 .1 .0)))
+
+next-requires : (m : ℕ) → lts.Need-gather-assigned-vars-requires-2 (known m) (here m) gather-assigned-vars.Post
+next-requires m c κs =
+    let pre = c .before .before .before .before .before .before .before .before .before .before .before .before .before .before .before .before .pre .1 in
+    let k = ready m (c .before .before .before .before .before .before .before .before .before) .1 in
+    (k .0, (pre .0, pre .1, k .1, omega (arith, pre .3, c .before .before .before .before .before .before .before .assign-step .kept .1 .1 .1 .1 .1 .0, c .before .before .before .gather-assigned-vars .kept .1 .1 .1 .1 .1 .1 .0)))
+
+same-length : (m : ℕ) → lts.Need-same-length (known m) (here m) gather-assigned-vars.Post
+same-length m c = search needs
+
+returns-2 : (m : ℕ) → lts.Need-returns-2 (known m) (here m) gather-assigned-vars.Post
+returns-2 m c =
+    let n = c .before .before .before .before .before .before .before .before .before .before .before .before in
+    let r = n .before .before in
+    let start = r .before .before .before .before .before in
+    walk-turn _ _ (start .pre .1 .0) _ (r .before .if1 .left) (start .pre .1 .2) (start .args .rest) _ _ (row-is m r) _ (n .before .items-of .ensures) _ (n .next-of .ensures)
+    _ _ _ _ _ _ _ _ (c .before .before .before .before .before .before .before .before .before .before .assign-step .ensures) (c .before .before .before .before .before .before .gather-assigned-vars .ensures) (c .before .before .gather-assigned-vars2 .ensures)
+
+pub +gather-assigned-vars-spec : {M : Type 1} → statement M
++gather-assigned-vars-spec = close μ λ m.
+    lts.spec (known m) (here m) gather-assigned-vars.Post
+    (returns m)
+    (row-at-requires m)
+    (items-of-requires m)
+    (next-of-requires m)
+    (assign-step-requires m)
+    (items-requires m)
+    (next-requires m)
+    (same-length m)
+    (returns-2 m)

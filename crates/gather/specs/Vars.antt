@@ -1,0 +1,122 @@
+-- An expression that is read, and one whose variables are bound.
+use mathlib.Core.Path.{_≡_, refl, sym, ap, _∙_, subst}
+use mathlib.Core.Bool.{Bool, true, false, cond, not, _&&_}
+use mathlib.Core.List.{List, [], _∷_, foldl}
+use mathlib.Core.Option.{some}
+use Prim.Native.Nat.{ℕ, _+_, _*_, _≤_}
+use native.Mathlib.Omega.{arith}
+use lib.ListN.{getD}
+use Rattle.trees.specs.declared.Row.{Row}
+use Rattle.trees.specs.Sheet.{Sheet, rowAt, isInput}
+use Rattle.trees.specs.Kinds.{isAssign, isColEq}
+use Rattle.trees.specs.Trees.{Tree, nil, node, thirdOf, rowOf, firstOf, secondOf, treeAt}
+use Rattle.trees.specs.Traverse.{traverse, leaves, vars}
+use Rattle.scopes.specs.NameSets.{contains}
+use Rattle.scopes.specs.Scopes as spec
+use Rattle.scopes.specs.Scopes.{varExists, addInput, useInput}
+use Rattle.scopes.specs.Gather.{inputVar, gatherInputVars, gatherAssignedVars, gatherRead, gatherVars}
+use Rattle.branches.specs.RowTrees.{tree-none, tree-row}
+use Rattle.branches.specs.Walks.{alone}
+use Rattle.gather.specs.declared.scope.Scope.{Scope}
+use Rattle.gather.specs.Sheets.{countsAt, specialAt, sheetAt, Accepted}
+use Rattle.gather.specs.Spans.{Steps}
+use Rattle.gather.specs.Walking.{exprBy}
+use Rattle.gather.specs.Inputs.{InputWalk}
+use Rattle.gather.specs.Assigned.{AssignWalk}
+use Rattle.gather.specs.Loops.{LoopWalk}
+
+-- ---- gathering inputs keeps the locals
+
+module _ (sheet : Sheet) (parents : List spec.Scope) where
+  input-keeps : (s : spec.Scope) (w : Row) → inputVar sheet parents s w .locals ≡ s .locals
+  unfolding inputVar addInput useInput
+  input-keeps s w = go (isInput sheet (w .name)) (not (contains (s .unscoped) (w .name)) && varExists parents w)
+    where
+      go : (a b : Bool) → (cond a (useInput true s) (cond b (addInput s (w .name)) s)) .locals ≡ s .locals
+      go true b = refl
+      go false true = refl
+      go false false = refl
+
+  inputs-keep : (rows : List Row) (s : spec.Scope) → foldl (inputVar sheet parents) s rows .locals ≡ s .locals
+  inputs-keep [] s = refl
+  inputs-keep (w ∷ rows) s = inputs-keep rows (inputVar sheet parents s w) ∙ input-keeps s w
+
+  gather-keeps : (e : Tree) (s : spec.Scope) → gatherInputVars sheet parents e s .locals ≡ s .locals
+  unfolding gatherInputVars
+  gather-keeps e s = inputs-keep (vars (traverse e)) s
+
+module _ (t outer : List ℕ) where
+  -- The expression at a row, with the rest of its chain if `rest`.
+  abbrev pub ReadWalk : ℕ → Bool → Scope → List ℕ → Scope → List ℕ → Type 0
+  ReadWalk row rest = Steps outer (λ parents s. gatherRead (sheetAt t) parents s (exprBy t rest row))
+
+  pub read : (row : ℕ) (rest : Bool) (k s₀ s₁ : Scope) (l m : List ℕ)
+      → InputWalk t outer row rest k s₀ → LoopWalk t outer row rest s₀ l s₁ m → ReadWalk row rest k l s₁ m
+  unfolding gatherRead
+  read row rest k s₀ s₁ l m h₀ h₁ parents o s a =
+      let keeps : s .locals ≡ gatherInputVars (sheetAt t) parents (exprBy t rest row) s .locals = sym (gather-keeps (sheetAt t) parents (exprBy t rest row) s) in
+      h₁ parents o _ (record {
+        sets = h₀ parents o s (a .sets);
+        placed = subst (λ (ls : List spec.Span). (x : ℕ) (p : spec.Span) → spec.spanIn ls x ≡ some p → getD l x 0 ≡ p .line * 65536 + p .col) keeps (a .placed);
+      })
+
+  -- ---- binding
+
+  -- What `gather_vars` binds, before it reads.
+  abbrev bound : List spec.Scope → Bool → spec.Scope → Tree → spec.Scope
+  bound parents shadow s e =
+      cond (isAssign (rowOf e))
+      (gatherAssignedVars (sheetAt t) parents false (secondOf e) (gatherAssignedVars (sheetAt t) parents (isColEq (rowOf e)) (firstOf e) s))
+      (gatherAssignedVars (sheetAt t) parents shadow e s)
+
+  abbrev pub BoundWalk : ℕ → Bool → Bool → Scope → List ℕ → Scope → List ℕ → Type 0
+  BoundWalk row rest shadow = Steps outer (λ parents s. bound parents shadow s (exprBy t rest row))
+
+  abbrev pub VarsWalk : ℕ → Bool → Bool → Scope → List ℕ → Scope → List ℕ → Type 0
+  VarsWalk row rest shadow = Steps outer (λ parents s. gatherVars (sheetAt t) parents shadow s (exprBy t rest row))
+
+  -- ---- the ways out of `gather_bound`
+
+  module _ (ok : Accepted t) where
+    none-is : (rest : Bool) → exprBy t rest 0 ≡ nil
+    unfolding sheetAt
+    none-is true = tree-none (countsAt t) (specialAt t) t (ok .facts)
+    none-is false = ap alone (tree-none (countsAt t) (specialAt t) t (ok .facts))
+
+    pub bound-none : (row : ℕ) → row ≡ 0 → (rest shadow : Bool) (k : Scope) (l : List ℕ) → BoundWalk row rest shadow k l k l
+    unfolding gatherAssignedVars leaves
+    bound-none row z rest shadow k l parents o s a = rw (z, none-is rest) a
+
+    module _ (row : ℕ) (some : row ≡ 0 → ⊥) (high : row ≤ getD t 2 0) (rest shadow : Bool) (w : Row) (is : w ≡ rowAt t row) where
+      tree-is : treeAt (sheetAt t) row
+          ≡ node (rowAt t row) (treeAt (sheetAt t) (rowAt t row .first)) (treeAt (sheetAt t) (rowAt t row .second))
+          (treeAt (sheetAt t) (thirdOf (rowAt t row))) (treeAt (sheetAt t) (rowAt t row .next))
+      unfolding sheetAt
+      tree-is = tree-row (countsAt t) (specialAt t) t (ok .facts) row (omega arith) high
+
+      row-is : (b : Bool) → rowOf (exprBy t b row) ≡ w
+      row-is true = rw tree-is (sym is)
+      row-is false = rw tree-is (sym is)
+
+      first-is : (b : Bool) → firstOf (exprBy t b row) ≡ treeAt (sheetAt t) (w .first)
+      first-is true = rw (tree-is, is)
+      first-is false = rw (tree-is, is)
+
+      second-is : (b : Bool) → secondOf (exprBy t b row) ≡ treeAt (sheetAt t) (w .second)
+      second-is true = rw (tree-is, is)
+      second-is false = rw (tree-is, is)
+
+      pub bound-assign : (found : Bool) → found ≡ isAssign w → found ≡ true → (k s₀ s₁ : Scope) (l l₀ l₁ : List ℕ)
+          → AssignWalk t outer (w .first) true (isColEq w) k l s₀ l₀ → AssignWalk t outer (w .second) true false s₀ l₀ s₁ l₁
+          → BoundWalk row rest shadow k l s₁ l₁
+      bound-assign found e p k s₀ s₁ l l₀ l₁ h₀ h₁ parents o s a =
+          rw (row-is rest, first-is rest, second-is rest, sym e, p) (h₁ parents o _ (h₀ parents o s a))
+
+      pub bound-other : (found : Bool) → found ≡ isAssign w → found ≡ false → (k s₀ : Scope) (l l₀ : List ℕ)
+          → AssignWalk t outer row rest shadow k l s₀ l₀ → BoundWalk row rest shadow k l s₀ l₀
+      bound-other found e p k s₀ l l₀ h parents o s a = rw (row-is rest, sym e, p) (h parents o s a)
+
+  pub bound-and-read : (row : ℕ) (rest shadow : Bool) (k s₀ s₁ : Scope) (l l₀ l₁ : List ℕ)
+      → BoundWalk row rest shadow k l s₀ l₀ → ReadWalk row rest s₀ l₀ s₁ l₁ → VarsWalk row rest shadow k l s₁ l₁
+  unfolding gatherVars
+  bound-and-read row rest shadow k s₀ s₁ l l₀ l₁ h₀ h₁ parents o s a = h₁ parents o _ (h₀ parents o s a)

@@ -1,0 +1,115 @@
+// `gather_assigned_vars`: the variables of a pattern are locals where they may shadow; else inputs if they exist, and unscoped if not.
+
+use crate::outer::var_exists;
+use crate::scope::Scope;
+use crate::special::is_input;
+use crate::special::is_special;
+use branches::next_of;
+use trees::Row;
+use trees::row_at;
+ghost use mathlib.Core.Path.{_≡_};
+ghost use mathlib.Core.Bool.{cond};
+ghost use mathlib.Core.List.{List};
+ghost use Prim.Native.Nat.{_≤_, _<_, _+_, _*_};
+ghost use lib.ListN.{length, getD, set};
+ghost use Rattle.trees.specs.Kinds.{isPattern};
+ghost use Rattle.gather.specs.Sheets.{Accepted};
+ghost use Rattle.gather.specs.Spans.{spanWord};
+ghost use Rattle.gather.specs.Assigned.{AssignVar, AssignStep, AssignWalk};
+
+// The kinds that are told apart.
+const VAR: u16 = 6;
+
+const ARRAY: u16 = 7;
+
+const OBJECT: u16 = 9;
+
+// Where a local stands.
+fn put_span(spans: &mut [u64], w: Row)
+    requires { ⌜ (128 ≤ length (now spans)) × (w .name < 128) ⌝ }
+    ensures { λ _. ⌜ now (spans .exit) ≡ set (now (spans .entry)) (w .name) (spanWord w) ⌝ }
+{
+    let name = w.name as usize;
+    spans[name] = w.line as u64 * 65536 + w.col as u64;
+}
+
+// A variable.
+fn assign_var(
+    tables: &[u16],
+    outer: &[u64],
+    w: Row,
+    can_shadow: bool,
+    scope: Scope,
+    spans: &mut [u64],
+) -> Scope
+    requires { ⌜ (8192 ≤ length (now tables)) × (128 ≤ length (now outer)) × (w .name < 128) × (128 ≤ length (now spans)) ⌝ }
+    ensures { λ r. ⌜ AssignVar (now (tables .entry)) (now (outer .entry)) w «can_shadow» scope (now (spans .entry)) r (now (spans .exit)) ⌝ }
+{
+    if is_special(tables, w.name) {
+        return scope.use_input(is_input(tables, w.name));
+    }
+    let name = w.name as usize;
+    if can_shadow {
+        put_span(spans, w);
+        return scope.add_local(name);
+    }
+    if var_exists(outer, w) {
+        return scope.add_input(name);
+    }
+    scope.add_unscoped(name)
+}
+
+// Any expression.
+fn assign_step(
+    tables: &[u16],
+    outer: &[u64],
+    w: Row,
+    can_shadow: bool,
+    scope: Scope,
+    spans: &mut [u64],
+) -> Scope
+    requires { ⌜ (8192 ≤ length (now tables)) × (128 ≤ length (now outer)) × (w .name < 128) × (128 ≤ length (now spans)) ⌝ }
+    ensures { λ r. ⌜ AssignStep (now (tables .entry)) (now (outer .entry)) w «can_shadow» scope (now (spans .entry)) r (now (spans .exit)) ⌝ }
+{
+    if w.kind == VAR {
+        return assign_var(tables, outer, w, can_shadow, scope, spans);
+    }
+    scope
+}
+
+// What a pattern is made of: 0 where the row is none.
+fn items_of(w: Row) -> usize
+    ensures { λ r. ⌜ r ≡ cond (isPattern w) (w .first) 0 ⌝ }
+{
+    if w.kind == ARRAY {
+        return w.first as usize;
+    }
+    if w.kind == OBJECT {
+        return w.first as usize;
+    }
+    0
+}
+
+// The pattern at a row, with the rest of its chain if `rest`.
+pub fn gather_assigned_vars(
+    tables: &[u16],
+    outer: &[u64],
+    row: usize,
+    rest: bool,
+    can_shadow: bool,
+    scope: Scope,
+    spans: &mut [u64],
+) -> Scope
+    requires { ⌜ Accepted (now tables) × (128 ≤ length (now outer)) × (row ≤ getD (now tables) 2 0) × (128 ≤ length (now spans)) ⌝ }
+    ensures { λ r. ⌜ AssignWalk (now (tables .entry)) (now (outer .entry)) row rest «can_shadow» scope (now (spans .entry)) r (now (spans .exit)) ⌝ }
+{
+    if row == 0 {
+        return scope;
+    }
+    let w = row_at(tables, row);
+    let items = items_of(w);
+    let next = next_of(w, rest);
+    let mut s = assign_step(tables, outer, w, can_shadow, scope, spans);
+    s = gather_assigned_vars(tables, outer, items, true, can_shadow, s, spans);
+    gather_assigned_vars(tables, outer, next, true, can_shadow, s, spans)
+}

@@ -1,0 +1,87 @@
+// What every expression that is read is put through, and `gather_vars`.
+
+use crate::assigned::gather_assigned_vars;
+use crate::input::gather_input_vars;
+use crate::loops::gather_loop_vars;
+use crate::scope::Scope;
+use trees::Row;
+use trees::row_at;
+ghost use mathlib.Core.Path.{_≡_};
+ghost use mathlib.Core.List.{List};
+ghost use Prim.Native.Nat.{_≤_};
+ghost use lib.ListN.{length, getD};
+ghost use Rattle.trees.specs.Kinds.{isAssign};
+ghost use Rattle.gather.specs.Sheets.{Accepted};
+ghost use Rattle.gather.specs.Vars.{ReadWalk, BoundWalk, VarsWalk};
+
+// The two kinds of assignment: `=` and `:=`.
+const ASSIGN_EQ: u16 = 20;
+
+const ASSIGN_COL_EQ: u16 = 21;
+
+// The expression at a row is read, with the rest of its chain if `rest`.
+pub fn gather_read(
+    tables: &[u16],
+    outer: &[u64],
+    row: usize,
+    rest: bool,
+    scope: Scope,
+    spans: &mut [u64],
+) -> Scope
+    requires { ⌜ Accepted (now tables) × (128 ≤ length (now outer)) × (row ≤ getD (now tables) 2 0) × (128 ≤ length (now spans)) ⌝ }
+    ensures { λ r. ⌜ ReadWalk (now (tables .entry)) (now (outer .entry)) row rest scope (now (spans .entry)) r (now (spans .exit)) ⌝ }
+{
+    let s = gather_input_vars(tables, outer, row, rest, scope);
+    gather_loop_vars(tables, outer, row, rest, s, spans)
+}
+
+fn is_assign(w: Row) -> bool
+    ensures { λ r. ⌜ r ≡ isAssign w ⌝ }
+{
+    if w.kind == ASSIGN_EQ {
+        return true;
+    }
+    w.kind == ASSIGN_COL_EQ
+}
+
+// Both sides of an assignment are patterns, and `:=` shadows. Any other expression is a pattern itself.
+fn gather_bound(
+    tables: &[u16],
+    outer: &[u64],
+    row: usize,
+    rest: bool,
+    can_shadow: bool,
+    scope: Scope,
+    spans: &mut [u64],
+) -> Scope
+    requires { ⌜ Accepted (now tables) × (128 ≤ length (now outer)) × (row ≤ getD (now tables) 2 0) × (128 ≤ length (now spans)) ⌝ }
+    ensures { λ r. ⌜ BoundWalk (now (tables .entry)) (now (outer .entry)) row rest «can_shadow» scope (now (spans .entry)) r (now (spans .exit)) ⌝ }
+{
+    if row == 0 {
+        return scope;
+    }
+    let w = row_at(tables, row);
+    if is_assign(w) {
+        let shadows = w.kind == ASSIGN_COL_EQ;
+        let s = gather_assigned_vars(tables, outer, w.first as usize, true, shadows, scope, spans);
+        return gather_assigned_vars(tables, outer, w.second as usize, true, false, s, spans);
+    }
+    gather_assigned_vars(tables, outer, row, rest, can_shadow, scope, spans)
+}
+
+// The expression at a row is bound and read, with the rest of its chain if `rest`.
+pub fn gather_vars(
+    tables: &[u16],
+    outer: &[u64],
+    row: usize,
+    rest: bool,
+    can_shadow: bool,
+    scope: Scope,
+    spans: &mut [u64],
+) -> Scope
+    requires { ⌜ Accepted (now tables) × (128 ≤ length (now outer)) × (row ≤ getD (now tables) 2 0) × (128 ≤ length (now spans)) ⌝ }
+    ensures { λ r. ⌜ VarsWalk (now (tables .entry)) (now (outer .entry)) row rest «can_shadow» scope (now (spans .entry)) r (now (spans .exit)) ⌝ }
+{
+    let s = gather_bound(tables, outer, row, rest, can_shadow, scope, spans);
+    gather_read(tables, outer, row, rest, s, spans)
+}
