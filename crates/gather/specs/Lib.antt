@@ -7,3 +7,4 @@ pub mod Spans
 pub mod Assigned
 pub mod Loops
 pub mod Vars
+pub mod Chains

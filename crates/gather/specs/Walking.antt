@@ -73,6 +73,10 @@ module _ (t : List ℕ) where
         let on : Falls m (cond rest (rowAt t r .next) 0) = goes-if rest _ m e (d .to-next) in
         (rw (ps, is) to, rw (ns, is) on)
 
+    -- The call on the rest of a chain.
+    pub chain-call : (m : ℕ) → remains r ≡ m → (next : ℕ) → next ≡ rowAt t r .next → Falls m next
+    chain-call m e next ns = rw ns (goes _ m e (row-descends (countsAt t) t (ok .facts) r (omega arith) high .to-next))
+
     -- What the first two fields name are rows.
     pub first-low : (w : Row) → w ≡ rowAt t r → w .first ≤ getD t 2 0
     first-low w is = rw is (onward-low (getD t 2 0) r _ (row-descends (countsAt t) t (ok .facts) r (omega arith) high .to-first))

@@ -1,0 +1,58 @@
+// Each expression of a chain, without the rest.
+
+use crate::scope::Scope;
+use crate::vars::gather_read;
+use crate::vars::gather_vars;
+use trees::row_at;
+ghost use mathlib.Core.Path.{_≡_};
+ghost use mathlib.Core.List.{List};
+ghost use Prim.Native.Nat.{_≤_};
+ghost use lib.ListN.{length, getD};
+ghost use Rattle.trees.specs.Sheet.{rowAt};
+ghost use Rattle.gather.specs.Sheets.{Accepted};
+ghost use Rattle.gather.specs.Chains.{ReadEach, VarsEach};
+
+// The rest of the chain.
+fn next_at(tables: &[u16], row: usize) -> usize
+    requires { ⌜ (8192 ≤ length (now tables)) × (row ≤ 512) ⌝ }
+    ensures { λ r. ⌜ r ≡ rowAt (now (tables .entry)) row .next ⌝ }
+{
+    row_at(tables, row).next as usize
+}
+
+pub fn gather_read_each(
+    tables: &[u16],
+    outer: &[u64],
+    row: usize,
+    scope: Scope,
+    spans: &mut [u64],
+) -> Scope
+    requires { ⌜ Accepted (now tables) × (128 ≤ length (now outer)) × (row ≤ getD (now tables) 2 0) × (128 ≤ length (now spans)) ⌝ }
+    ensures { λ r. ⌜ ReadEach (now (tables .entry)) (now (outer .entry)) row scope (now (spans .entry)) r (now (spans .exit)) ⌝ }
+{
+    if row == 0 {
+        return scope;
+    }
+    let next = next_at(tables, row);
+    let s = gather_read(tables, outer, row, false, scope, spans);
+    gather_read_each(tables, outer, next, s, spans)
+}
+
+pub fn gather_vars_each(
+    tables: &[u16],
+    outer: &[u64],
+    row: usize,
+    can_shadow: bool,
+    scope: Scope,
+    spans: &mut [u64],
+) -> Scope
+    requires { ⌜ Accepted (now tables) × (128 ≤ length (now outer)) × (row ≤ getD (now tables) 2 0) × (128 ≤ length (now spans)) ⌝ }
+    ensures { λ r. ⌜ VarsEach (now (tables .entry)) (now (outer .entry)) row «can_shadow» scope (now (spans .entry)) r (now (spans .exit)) ⌝ }
+{
+    if row == 0 {
+        return scope;
+    }
+    let next = next_at(tables, row);
+    let s = gather_vars(tables, outer, row, false, can_shadow, scope, spans);
+    gather_vars_each(tables, outer, next, can_shadow, s, spans)
+}
