@@ -1,6 +1,7 @@
 pub mod Sheets
 pub mod Agrees
 pub mod Outers
+pub mod Enclosing
 pub mod Walking
 pub mod Inputs
 pub mod Spans

@@ -2,6 +2,7 @@
 
 pub mod assigned;
 pub mod each;
+pub mod enclose;
 pub mod input;
 pub mod loops;
 pub mod outer;
