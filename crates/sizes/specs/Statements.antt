@@ -4,6 +4,7 @@ use mathlib.Core.List.{List, [], _∷_, _++_, foldl, List·Memᴰ, List·Memᴰ�
 use mathlib.Core.Logic.{inl, inr}
 use Prim.Native.Nat.{ℕ, suc, _+_}
 use native.Mathlib.Omega.{arith}
+use lib.ListN.{length}
 use Rattle.turns.specs.Definitions.{Definition, ofStatement}
 use Rattle.turns.specs.Statements.{mem-statement}
 use Rattle.trees.specs.Sheet.{Sheet}
@@ -19,7 +20,7 @@ use Rattle.analysis.specs.Statements.{modsOf, processEvery, processLiteral, pro
 use Rattle.sizes.specs.Sizes.{total, size, literalSize, weight}
 use Rattle.sizes.specs.Lists.{total-mono}
 use Rattle.sizes.specs.Leaves.{bracketVars, brackets-fit}
-use Rattle.sizes.specs.Adds.{Recorded, Adds, Step, adds-none, adds-then, adds-at-most, step-at-most, step-if, end, _⨾_, turn, turn-fold, turn-fold-none, adds-set-run}
+use Rattle.sizes.specs.Adds.{Recorded, Adds, Step, adds-none, adds-then, adds-at-most, step-at-most, adds-below, step-if, end, _⨾_, turn, turn-fold, turn-fold-none, adds-set-run}
 use Rattle.sizes.specs.Using.{adds-gather-used-vars, adds-check-first-use, adds-record-one}
 use Rattle.sizes.specs.Recording.{AddsFor, for-at-most, for-after, for-if}
 use Rattle.sizes.specs.Comprs.{KeepsFit}
@@ -34,17 +35,17 @@ recorded-some j defs r e =
 module _ (sheet : Sheet) (i : ℕ) where
   -- The definition of a statement that recorded none is the one beyond what its expressions make.
   adds-least : {n : ℕ} {s t : State} → AddsFor sheet i n s t → (l : List Definition) → ofStatement i (t .definitions) ≡ l
-      → Adds sheet (suc n) s (unlessSome l i t)
+      → Adds sheet (suc i) (suc n) s (unlessSome l i t)
   adds-least {n} {s} {t} (inl a) [] e = adds-at-most sheet (suc n) (adds-then sheet a (adds-record-one sheet i 0 [] t)) (omega arith)
   adds-least {n} (inl a) (d ∷ l) e = adds-at-most sheet (suc n) a (omega arith)
   adds-least {n} {s} {t} (inr a) [] e = absurd (recorded-some i (t .definitions) (a .1) e)
   adds-least (inr a) (d ∷ l) e = a .0
 
-  adds-for : {n : ℕ} {s t : State} → AddsFor sheet i n s t → Adds sheet (suc n) s t
+  adds-for : {n : ℕ} {s t : State} → AddsFor sheet i n s t → Adds sheet (suc i) (suc n) s t
   adds-for {n} (inl a) = adds-at-most sheet (suc n) a (omega arith)
   adds-for (inr a) = a .0
 
-  adds-at-least-one : {n : ℕ} {s t : State} → AddsFor sheet i n s t → (x : Fault) → Adds sheet (suc n) s (ifSound x (atLeastOne i) t)
+  adds-at-least-one : {n : ℕ} {s t : State} → AddsFor sheet i n s t → (x : Fault) → Adds sheet (suc i) (suc n) s (ifSound x (atLeastOne i) t)
   unfolding atLeastOne
   adds-at-least-one {n} {s} {t} a sound = adds-least a (ofStatement i (t .definitions)) refl
   adds-at-least-one a (undefined l c) = adds-for a
@@ -78,7 +79,7 @@ module _ (sheet : Sheet) (nested : Nested) (parents : List Scope) (keeps : Keeps
   adds-process-literal i m (every key value domain query) s = adds-process-every i m key value domain query s
 
   pub adds-with-mods : (i : ℕ) (mods : List Tree)
-      → Step sheet (total size mods) (λ t. foldl (λ u e. inTurn (gatherUsedVars sheet i [] e ∷ []) u) t mods)
+      → Step sheet (suc i) (total size mods) (λ t. foldl (λ u e. inTurn (gatherUsedVars sheet i [] e ∷ []) u) t mods)
   adds-with-mods i mods =
       step-at-most sheet (total size mods)
       (turn-fold sheet bracketVars (λ u e. inTurn (gatherUsedVars sheet i [] e ∷ []) u)
@@ -86,7 +87,7 @@ module _ (sheet : Sheet) (nested : Nested) (parents : List Scope) (keeps : Keeps
       (total-mono bracketVars size brackets-fit mods)
 
   -- A statement adds at most what it weighs.
-  pub adds-process-stmt : (i : ℕ) (st : Stmt) → Step sheet (weight st) (processStmt sheet nested parents i st)
+  pub adds-process-stmt : (i : ℕ) (st : Stmt) → Step sheet (suc i) (weight st) (processStmt sheet nested parents i st)
   unfolding processStmt weight
   adds-process-stmt i st s =
       let mods : State → State = λ t. foldl (λ u e. inTurn (gatherUsedVars sheet i [] e ∷ []) u) t (st .withMods) in
@@ -98,10 +99,14 @@ module _ (sheet : Sheet) (nested : Nested) (parents : List Scope) (keeps : Keeps
       adds-at-most sheet (suc (literalSize (st .literal) + total size (st .withMods)))
       (adds-then sheet a (adds-at-least-one sheet i b (u .run .fault))) (omega arith)
 
-  -- Statements add at most what they weigh, wherever a fault stops them.
-  pub adds-process-stmts : (stmts : List Stmt) (i : ℕ) → Step sheet (total weight stmts) (processStmts sheet nested parents i stmts)
+  -- Statements add at most what they weigh, all of it theirs, wherever a fault stops them.
+  pub adds-process-stmts : (stmts : List Stmt) (i : ℕ)
+      → Step sheet (i + length stmts) (total weight stmts) (processStmts sheet nested parents i stmts)
   unfolding processStmts
   adds-process-stmts [] i s = adds-none sheet s
   adds-process-stmts (st ∷ stmts) i s =
-      adds-then sheet (step-if sheet (processStmt sheet nested parents i st) (adds-process-stmt i st) (s .run .fault) s)
-      (adds-process-stmts stmts (suc i) (inTurn (processStmt sheet nested parents i st ∷ []) s))
+      adds-then sheet
+      (adds-below sheet (i + suc (length stmts))
+      (step-if sheet (processStmt sheet nested parents i st) (adds-process-stmt i st) (s .run .fault) s) (omega arith))
+      (adds-below sheet (i + suc (length stmts))
+      (adds-process-stmts stmts (suc i) (inTurn (processStmt sheet nested parents i st ∷ []) s)) (omega arith))
