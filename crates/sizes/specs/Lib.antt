@@ -18,4 +18,7 @@ pub mod Listed
 pub mod Rows
 pub mod Named
 pub mod Bound
+pub mod Counted
+pub mod LowNames
+pub mod InBounds
 pub mod Theorems

@@ -24,7 +24,7 @@ use Rattle.sizes.specs.Listed.{comprKind}
 -- ---- the rows of a section
 
 module _ {A : Type 0} (at : ℕ → A) where
-  length-rows : (n : ℕ) → length (rowsTo at n) ≡ n
+  pub length-rows : (n : ℕ) → length (rowsTo at n) ≡ n
   unfolding rowsTo range
   length-rows n = let e : n + 1 - 1 ≡ n = omega arith in ap (λ (k : ℕ). length (map at (counted 1 k))) e ∙ go n 1
     where

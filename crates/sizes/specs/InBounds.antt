@@ -1,0 +1,54 @@
+-- What the scheduler asks of a list of definitions, clause by clause, of what a query recorded.
+use mathlib.Core.Path.{_≡_, refl, ap, _∙_}
+use mathlib.Core.Bool.{true}
+use mathlib.Core.List.{List, [], _∷_, List·Memᴰ, List·Memᴰ·head, List·Memᴰ·tail}
+use Prim.Native.Nat.{ℕ, zero, suc, _-_, _%_, _≤_, _<_}
+use native.Mathlib.Omega.{arith}
+use lib.ListN.{length, length-map}
+use borrow.Author.Tests.{lt-ltb, le-leb}
+use Rattle.basics.specs.Truth.{and-intro}
+use Rattle.basics.specs.Lists.{all}
+use Rattle.basics.specs.Ranges.{counted, range}
+use Rattle.turns.specs.Definitions.{Definition}
+use Rattle.rows.specs.Rows.{rowCount, definitionAt, definitions}
+use Rattle.bounds.specs.Question.{within, accepts}
+use Rattle.bounds.specs.Answers.{by-definitions}
+use Rattle.analysis.specs.States.{QuerySchedule}
+
+-- At most 128 statements and 640 definitions, and each definition with a statement below the count and a name below 128.
+pub record InBounds (a : QuerySchedule) : Type 0 where
+  pub few-statements : a .count ≤ 128
+  pub few-definitions : length (a .definitions) ≤ 640
+  pub stated : (d : Definition) → List·Memᴰ d (a .definitions) → d .statement < a .count
+  pub named : (d : Definition) → List·Memᴰ d (a .definitions) → d .var < 128
+
+-- Definitions that are in bounds one by one pass the question's test of them all.
+all-within : (n : ℕ) (defs : List Definition) → ((d : Definition) → List·Memᴰ d defs → d .statement < n)
+    → ((d : Definition) → List·Memᴰ d defs → d .var < 128) → all (within n) defs ≡ true
+all-within n [] s v = refl
+all-within n (d ∷ defs) s v =
+    let here : List·Memᴰ d (d ∷ defs) = List·Memᴰ·head refl in
+    let l = v d here in
+    and-intro (within n d) (all (within n) defs)
+    (and-intro _ _ (lt-ltb (d .statement) n (s d here)) (le-leb (d .var) 127 (omega arith)))
+    (all-within n defs (λ e m. s e (List·Memᴰ·tail m)) (λ e m. v e (List·Memᴰ·tail m)))
+
+-- There are as many definitions as rows.
+definitions-counted : (ws : List ℕ) → length (definitions ws) ≡ rowCount ws
+unfolding definitions range
+definitions-counted ws = length-map (counted 0 (rowCount ws - 0)) (definitionAt ws) ∙ go (rowCount ws - 0) 0 ∙ less
+  where
+    go : (n a : ℕ) → length (counted a n) ≡ n
+    go zero a = refl
+    go (suc n) a = ap suc (go n (suc a))
+
+    less : rowCount ws - 0 ≡ rowCount ws
+    less = omega arith
+
+-- So the scheduler's one question is met: by every list of whole rows that are these definitions, with buffers that hold the count.
+pub question-met : (a : QuerySchedule) → InBounds a → (ws : List ℕ) → length ws % 4 ≡ 0 → definitions ws ≡ a .definitions
+    → (room marks : ℕ) → a .count ≤ room → a .count ≤ marks → accepts ws (a .count) room marks ≡ true
+question-met a b ws whole these room marks ordered marked =
+    by-definitions ws (a .count) room marks whole (omega (arith, b .few-statements))
+    (omega (arith, definitions-counted ws, ap length these, b .few-definitions)) ordered marked
+    ∙ ap (all (within (a .count))) these ∙ all-within (a .count) (a .definitions) (b .stated) (b .named)
