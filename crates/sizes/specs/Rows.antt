@@ -1,14 +1,13 @@
 -- The sizes of trees and the weights of statements, from row to row of the tables.
 use mathlib.Core.Path.{_≡_, refl, ap, _∙_}
 use mathlib.Core.Bool.{Bool, true, false, cond}
-use mathlib.Core.List.{List, _∷_, map}
+use mathlib.Core.List.{List, _∷_}
 use mathlib.Core.Logic.{_⊎_, inl, inr}
 use Prim.Native.Nat.{ℕ, zero, suc, _+_, _-_, _≤_, _<_}
 use native.Mathlib.Omega.{arith}
 use lib.Dec.{eqb}
 use lib.ListN.{length, getD, List·getD-eq-default}
 use Rattle.basics.specs.Truth.{lt-cases}
-use Rattle.basics.specs.Ranges.{counted, range}
 use Rattle.records.specs.declared.Counts.{Counts}
 use Rattle.records.specs.declared.Statement.{Statement}
 use Rattle.records.specs.Layout.{exprAt, statementAt, firstAt}
@@ -17,32 +16,10 @@ use Rattle.trees.specs.declared.Row.{Row}
 use Rattle.trees.specs.Sheet.{Sheet, rowAt, rowsTo, sheetOf}
 use Rattle.trees.specs.Trees.{Tree, noRow, thirdOf, decode, treeAt, chain}
 use Rattle.trees.specs.Statements.{Literal, Stmt, noStatement, literalOf, stmtsFrom, stmtsOf}
+use Rattle.branches.specs.RowTrees.{rows-length, rows-at}
 use Rattle.sizes.specs.Sizes.{total, size, literalSize, weight}
 use Rattle.sizes.specs.Leaves.{size-chain}
 use Rattle.sizes.specs.Listed.{comprKind}
-
--- ---- the rows of a section
-
-module _ {A : Type 0} (at : ℕ → A) where
-  pub length-rows : (n : ℕ) → length (rowsTo at n) ≡ n
-  unfolding rowsTo range
-  length-rows n = let e : n + 1 - 1 ≡ n = omega arith in ap (λ (k : ℕ). length (map at (counted 1 k))) e ∙ go n 1
-    where
-      go : (n a : ℕ) → length (map at (counted a n)) ≡ n
-      go zero a = refl
-      go (suc n) a = ap suc (go n (suc a))
-
-  rows-at : (n r : ℕ) (d : A) → r < n → getD (rowsTo at n) r d ≡ at (suc r)
-  unfolding rowsTo range
-  rows-at n r d h =
-      let e : n + 1 - 1 ≡ n = omega arith in
-      let f : 1 + r ≡ suc r = omega arith in
-      ap (λ (k : ℕ). getD (map at (counted 1 k)) r d) e ∙ go n 1 r h ∙ ap at f
-    where
-      go : (n a r : ℕ) → r < n → getD (map at (counted a n)) r d ≡ at (a + r)
-      go zero a r h = absurd (omega arith)
-      go (suc n) a zero h = let e : a ≡ a + 0 = omega arith in ap at e
-      go (suc n) a (suc r) h = let e : suc a + r ≡ a + suc r = omega arith in go n (suc a) r (omega arith) ∙ ap at e
 
 -- ---- deeper trees and longer lists are no smaller
 
@@ -215,7 +192,7 @@ module _ (c : Counts) (x : Special) (t : List ℕ) where
 
   no-queries : (q : ℕ) → c .queries ≤ q → getD (sheet .queries) q 0 ≡ 0
   unfolding sheetOf
-  no-queries q h = List·getD-eq-default (rowsTo (firstAt t) (c .queries)) 0 (omega (arith, length-rows (firstAt t) (c .queries)))
+  no-queries q h = List·getD-eq-default (rowsTo (firstAt t) (c .queries)) 0 (omega (arith, rows-length (firstAt t) (c .queries)))
 
   -- A query weighs what its statements do.
   pub weight-query : (q : ℕ) → 1 ≤ q → q ≤ c .queries → total weight (stmtsOf sheet q) ≡ weightFrom (firstAt t q)
