@@ -30,4 +30,12 @@ pub mod QueryRepeats
 pub mod Gated
 pub mod TakenComprs
 pub mod ComprRepeats
+pub mod Counting
+pub mod Tally
+pub mod NamedCount
+pub mod Times
+pub mod QueryFields
+pub mod RowTallies
+pub mod RowSums
+pub mod Accepted
 pub mod Examples

@@ -16,8 +16,8 @@ use Rattle.repeats.specs.RustWay.{rustAnalyzeQuerySnippet}
 use Rattle.repeats.specs.Beside.{isSound}
 use Rattle.repeats.specs.MemoRust.{Agree, stopped, agreed, analyze-agree}
 
--- Each query of the sheet stands at one place: going down from the outer query, no query is named twice. That a sheet which passes
--- question 6 is so is not proved here.
+-- Each query of the sheet stands at one place: going down from the outer query, no query is named twice. Every sheet that
+-- passes question 6 is so: `accepted-once` in `Accepted`.
 unfoldable pub queriesOnce : Sheet → Bool
 queriesOnce sheet = distinct (family deepest sheet 1 [])
 

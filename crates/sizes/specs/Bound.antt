@@ -1,72 +1,65 @@
 -- In an accepted sheet each row is named once: so its queries weigh no more than the sheet has expressions and statements.
-use mathlib.Core.Path.{_≡_, refl}
-use mathlib.Core.Bool.{true}
-use mathlib.Core.List.{List, [], _∷_}
+use mathlib.Core.Path.{_≡_}
+use mathlib.Core.List.{List}
 use mathlib.Core.Logic.{_⊎_, inl, inr}
 use Prim.Native.Nat.{ℕ, suc, _+_, _≤_, _<_}
 use native.Mathlib.Omega.{arith}
-use lib.ListN.{length}
-use Rattle.basics.specs.Truth.{not-both, lt-cases}
+use Rattle.basics.specs.Truth.{lt-cases}
 use Rattle.records.specs.declared.Counts.{Counts}
 use Rattle.records.specs.Layout.{Within, mostExprs, mostStatements}
 use Rattle.spelling.specs.declared.Special.{Special}
-use Rattle.fields.specs.Fields.{statements}
-use Rattle.naming.specs.Entries.{statementRow, exprRow}
-use Rattle.naming.specs.Namings.{Naming, namers, namedSo, namings}
-use Rattle.naming.specs.Faults.{isNamedSo}
+use Rattle.naming.specs.Namings.{namings}
 use Rattle.naming.specs.Lines.{firstLine}
 use Rattle.accepted.specs.Accepted.{Accepted, accepted}
-use Rattle.accepted.specs.Rows.{fine-expr-row, fine-statement-row}
 use Rattle.trees.specs.Sheet.{sheetOf}
 use Rattle.trees.specs.Statements.{stmtsOf}
 use Rattle.sizes.specs.Sizes.{total, weight}
+use Rattle.sizes.specs.Once.{expr-once, statement-once}
 use Rattle.sizes.specs.Sums.{sumTo, sum-mono, sum-add, sum-suc, sum-at, named-once}
 use Rattle.sizes.specs.Worth.{queryWorth, statementWorth, exprWorth, worth-namings}
-use Rattle.sizes.specs.Rows.{sizeAt, size-row, weightFrom, weight-row, weight-query, weight-no-query}
+use Rattle.sizes.specs.Rows.{sizeAt, size-none, size-row, weightFrom, weight-none, weight-row, weight-query, weight-no-query}
 use Rattle.sizes.specs.Named.{exprValue, statementValue, expr-worth, statement-worth, next-worth, query-worth}
 
--- A row that is named so is named once.
-once : (k : ℕ) (ns : List Naming) → namedSo k ns ≡ true → length ns ≤ 1
-once k [] h = omega arith
-once k (x ∷ []) h = omega arith
-once k (x ∷ y ∷ ns) h = absurd (not-both h refl)
-
 module _ (c : Counts) (x : Special) (t : List ℕ) (ok : Accepted c t) where
-  expr-once : (r : ℕ) → 1 ≤ r → r ≤ c .exprs → length (namers (exprRow r) (namings c t)) ≤ 1
-  unfolding isNamedSo
-  expr-once r a b = once (exprRow r) (namers (exprRow r) (namings c t)) (fine-expr-row c t r (ok .fine-expr r a b) .named)
+  -- Each expression is worth the size of its tree.
+  abbrev exprsBy : ℕ → ℕ
+  exprsBy = exprValue c (sizeAt c x t)
 
-  statement-once : (s : ℕ) → 1 ≤ s → s ≤ c .statements → length (namers (statementRow s) (namings c t)) ≤ 1
-  unfolding isNamedSo
-  statement-once s a b =
-      once (statementRow s) (namers (statementRow s) (namings c t)) (fine-statement-row c t s (ok .fine-statement s a b) .named)
+  -- Each statement is worth the weight from it on.
+  abbrev statementsBy : ℕ → ℕ
+  statementsBy = statementValue c (weightFrom c x t)
 
   -- The expressions that statements name are different ones.
-  wholes-fit : sumTo (statementWorth c (exprValue c x t) t) (c .statements) ≤ c .exprs
+  wholes-fit : sumTo (statementWorth c exprsBy t) (c .statements) ≤ c .exprs
   unfolding exprValue
   wholes-fit =
       omega (
         arith,
-        worth-namings c (exprValue c x t) t,
-        named-once 160 (sizeAt c x t) (c .exprs) (namings c t) expr-once,
-        sum-mono (sizeAt c x t) (λ r. suc (exprWorth c (exprValue c x t) t r)) (c .exprs)
-            (λ r a b. omega (arith, size-row c x t r a b, expr-worth c x t ok r a b)),
-        sum-suc (exprWorth c (exprValue c x t) t) (c .exprs),
+        worth-namings c exprsBy t,
+        named-once 160 (sizeAt c x t) (c .exprs) (namings c t) (expr-once c t ok),
+        sum-mono (sizeAt c x t) (λ r. suc (exprWorth c exprsBy t r)) (c .exprs)
+            (λ r a b. omega (arith, size-row c x t r a b, expr-worth c (sizeAt c x t) t (size-none c x t) ok r a b)),
+        sum-suc (exprWorth c exprsBy t) (c .exprs),
       )
 
   -- So are the statements that queries name.
-  firsts-fit : sumTo (queryWorth c (statementValue c x t) t) (c .queries) ≤ c .exprs + c .statements
+  firsts-fit : sumTo (queryWorth c statementsBy t) (c .queries) ≤ c .exprs + c .statements
   unfolding statementValue
   firsts-fit =
       omega (
         arith,
-        worth-namings c (statementValue c x t) t,
-        named-once 32 (weightFrom c x t) (c .statements) (namings c t) statement-once,
+        worth-namings c statementsBy t,
+        named-once 32 (weightFrom c x t) (c .statements) (namings c t) (statement-once c t ok),
         sum-mono (weightFrom c x t)
-            (λ s. suc (statementWorth c (exprValue c x t) t s) + statementWorth c (statementValue c x t) t s) (c .statements)
-            (λ s a b. omega (arith, weight-row c x t s a b, statement-worth c x t ok s a b, next-worth c x t ok s a b)),
-        sum-add (λ s. suc (statementWorth c (exprValue c x t) t s)) (statementWorth c (statementValue c x t) t) (c .statements),
-        sum-suc (statementWorth c (exprValue c x t) t) (c .statements),
+            (λ s. suc (statementWorth c exprsBy t s) + statementWorth c statementsBy t s) (c .statements)
+            (λ s a b. omega (
+              arith,
+              weight-row c x t s a b,
+              statement-worth c (sizeAt c x t) t (size-none c x t) ok s a b,
+              next-worth c (weightFrom c x t) t (weight-none c x t) ok s a b,
+            )),
+        sum-add (λ s. suc (statementWorth c exprsBy t s)) (statementWorth c statementsBy t) (c .statements),
+        sum-suc (statementWorth c exprsBy t) (c .statements),
         wholes-fit,
       )
 
@@ -76,8 +69,8 @@ module _ (c : Counts) (x : Special) (t : List ℕ) (ok : Accepted c t) where
       omega (
         arith,
         firsts-fit,
-        sum-mono (λ q. total weight (stmtsOf (sheetOf c x t) q)) (queryWorth c (statementValue c x t) t) (c .queries)
-            (λ q a b. omega (arith, weight-query c x t q a b, query-worth c x t ok q a b)),
+        sum-mono (λ q. total weight (stmtsOf (sheetOf c x t) q)) (queryWorth c statementsBy t) (c .queries)
+            (λ q a b. omega (arith, weight-query c x t q a b, query-worth c (weightFrom c x t) t (weight-none c x t) ok q a b)),
       )
 
   -- So does each.

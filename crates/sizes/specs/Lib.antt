@@ -15,6 +15,8 @@ pub mod Queries
 pub mod Sums
 pub mod Worth
 pub mod Listed
+pub mod Parts
+pub mod Once
 pub mod Rows
 pub mod Named
 pub mod Bound

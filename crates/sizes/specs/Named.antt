@@ -9,7 +9,6 @@ use borrow.Author.Tests.{le-leb, lt-ltb}
 use Rattle.basics.specs.Truth.{not-both, lt-cases}
 use Rattle.records.specs.declared.Counts.{Counts}
 use Rattle.records.specs.Layout.{exprAt, statementAt, firstAt}
-use Rattle.spelling.specs.declared.Special.{Special}
 use Rattle.fields.specs.declared.Field.{Field}
 use Rattle.fields.specs.Fields.{expressions, statements, fieldFrom, first, second, third, chainOrNone, statementOrNone, kindFields, formFields, limitOf}
 use Rattle.naming.specs.Entries.{Entry, queryRow, statementRow, exprRow, rowIn, target, nextField, exprEntry, statementEntry, exprEntries, statementEntries, queryEntries}
@@ -21,11 +20,11 @@ use Rattle.accepted.specs.Rows.{fine-expr-row, fine-statement-row, fine-query-r
 use Rattle.sizes.specs.Sums.{valued, valued-at, worth}
 use Rattle.sizes.specs.Worth.{rowWorth, entry-worth, queryWorth, statementWorth, exprWorth}
 use Rattle.sizes.specs.Listed.{comprKind, kind-holds, form-holds}
-use Rattle.sizes.specs.Rows.{sizeAt, size-none, partsAt, weightFrom, weight-none, wholesAt}
+use Rattle.sizes.specs.Parts.{partsAt, wholesAt}
 
 module _ (c : Counts) (k : ℕ) where
   -- The row that a field in range names.
-  target-row : (e : Entry) → 1 ≤ e .value → e .value ≤ limitOf c (e .field .section) → targetOf c e ≡ rowIn (e .field .section) (e .value)
+  pub target-row : (e : Entry) → 1 ≤ e .value → e .value ≤ limitOf c (e .field .section) → targetOf c e ≡ rowIn (e .field .section) (e .value)
   unfolding target
   target-row e a b = rw (lt-ltb 0 (e .value) a, le-leb (e .value) (limitOf c (e .field .section)) b)
 
@@ -76,36 +75,37 @@ statement-holds : fieldFrom statementOrNone .section ≡ statements
 unfolding fieldFrom
 statement-holds = refl
 
-module _ (c : Counts) (x : Special) (t : List ℕ) where
-  -- Each expression is worth the size of its tree, and each statement the weight from it on.
+module _ (c : Counts) (g : ℕ → ℕ) where
+  -- Expression r is worth g r.
   unfoldable pub exprValue : ℕ → ℕ
-  exprValue = valued 160 (sizeAt c x t) (c .exprs)
+  exprValue = valued 160 g (c .exprs)
 
+  -- Statement s is worth g s.
   unfoldable pub statementValue : ℕ → ℕ
-  statementValue = valued 32 (weightFrom c x t) (c .statements)
+  statementValue = valued 32 g (c .statements)
 
-  module _ (ok : Accepted c t) where
+  module _ (t : List ℕ) (none : g 0 ≡ 0) (ok : Accepted c t) where
     -- ---- the fields of an expression
 
     module _ (r : ℕ) (low : 1 ≤ r) (high : r ≤ c .exprs) where
       expr-part : (f : Field) (v : ℕ) → List·Memᴰ (exprEntry c t r f v) (exprEntries c t (isMember c t r) r)
           → (f .section ≡ expressions) ⊎ (f .section ≡ 0)
-          → sizeAt c x t v ≤ worth exprValue (entryNaming c (exprRow r) (exprEntry c t r f v))
+          → g v ≤ worth exprValue (entryNaming c (exprRow r) (exprEntry c t r f v))
       unfolding exprValue
       expr-part f v m h =
-          expr-field c (exprRow r) (sizeAt c x t) (size-none c x t) (exprEntry c t r f v)
+          expr-field c (exprRow r) g none (exprEntry c t r f v)
           (fine-expr-row c t r (ok .fine-expr r low high) .fields m .in-range) h
 
       -- The third is an expression where the row is no comprehension.
       third-part : (f : Field) (v : ℕ) → List·Memᴰ (exprEntry c t r f v) (exprEntries c t (isMember c t r) r) → (compr : Bool)
           → (compr ≡ true) ⊎ ((f .section ≡ expressions) ⊎ (f .section ≡ 0))
-          → sizeAt c x t (cond compr 0 v) ≤ worth exprValue (entryNaming c (exprRow r) (exprEntry c t r f v))
-      third-part f v m true h = omega (arith, size-none c x t)
+          → g (cond compr 0 v) ≤ worth exprValue (entryNaming c (exprRow r) (exprEntry c t r f v))
+      third-part f v m true h = omega (arith, none)
       third-part f v m false (inl p) = absurd (not-both p refl)
       third-part f v m false (inr h) = expr-part f v m h
 
       -- What an expression names is worth at least its parts.
-      pub expr-worth : partsAt c x t r ≤ exprWorth c exprValue t r
+      pub expr-worth : partsAt t g r ≤ exprWorth c exprValue t r
       unfolding partsAt exprWorth rowWorth exprEntries
       expr-worth =
           let e = exprAt t r in
@@ -126,14 +126,14 @@ module _ (c : Counts) (x : Special) (t : List ℕ) where
     module _ (s : ℕ) (low : 1 ≤ s) (high : s ≤ c .statements) where
       whole-part : (f : Field) (v : ℕ) → List·Memᴰ (statementEntry c t s f v) (statementEntries c t s)
           → (f .section ≡ expressions) ⊎ (f .section ≡ 0)
-          → sizeAt c x t v ≤ worth exprValue (entryNaming c (statementRow s) (statementEntry c t s f v))
+          → g v ≤ worth exprValue (entryNaming c (statementRow s) (statementEntry c t s f v))
       unfolding exprValue
       whole-part f v m h =
-          expr-field c (statementRow s) (sizeAt c x t) (size-none c x t) (statementEntry c t s f v)
+          expr-field c (statementRow s) g none (statementEntry c t s f v)
           (fine-statement-row c t s (ok .fine-statement s low high) .fields m .in-range) h
 
       -- So is what a statement names of the expressions.
-      pub statement-worth : wholesAt c x t s ≤ statementWorth c exprValue t s
+      pub statement-worth : wholesAt t g s ≤ statementWorth c exprValue t s
       unfolding wholesAt statementWorth rowWorth statementEntries
       statement-worth =
           let st = statementAt t s in
@@ -149,14 +149,14 @@ module _ (c : Counts) (x : Special) (t : List ℕ) where
           )
 
       next-part : (f : Field) (v : ℕ) → List·Memᴰ (statementEntry c t s f v) (statementEntries c t s) → f .section ≡ statements
-          → weightFrom c x t v ≤ worth statementValue (entryNaming c (statementRow s) (statementEntry c t s f v))
+          → g v ≤ worth statementValue (entryNaming c (statementRow s) (statementEntry c t s f v))
       unfolding statementValue
       next-part f v m h =
-          statement-field c (statementRow s) (weightFrom c x t) (weight-none c x t) (statementEntry c t s f v)
+          statement-field c (statementRow s) g none (statementEntry c t s f v)
           (fine-statement-row c t s (ok .fine-statement s low high) .fields m .in-range) h
 
       -- And of the statements.
-      pub next-worth : weightFrom c x t (statementAt t s .next) ≤ statementWorth c statementValue t s
+      pub next-worth : g (statementAt t s .next) ≤ statementWorth c statementValue t s
       unfolding statementWorth rowWorth statementEntries
       next-worth =
           omega (
@@ -167,12 +167,12 @@ module _ (c : Counts) (x : Special) (t : List ℕ) where
 
     -- ---- the field of a query
 
-    pub query-worth : (q : ℕ) → 1 ≤ q → q ≤ c .queries → weightFrom c x t (firstAt t q) ≤ queryWorth c statementValue t q
+    pub query-worth : (q : ℕ) → 1 ≤ q → q ≤ c .queries → g (firstAt t q) ≤ queryWorth c statementValue t q
     unfolding queryWorth rowWorth queryEntries statementValue
     query-worth q low high =
         let e : Entry = record { field = fieldFrom statementOrNone; value = firstAt t q; place = queryRow q } in
         omega (
           arith,
-          statement-field c (queryRow q) (weightFrom c x t) (weight-none c x t) e
+          statement-field c (queryRow q) g none e
               (fine-query-row c t q (ok .fine-query q low high) .fields {e = e} (List·Memᴰ·head refl) .in-range) statement-holds,
         )

@@ -10,7 +10,7 @@ use lib.ListN.{length, getD, List·getD-eq-default}
 use Rattle.basics.specs.Truth.{lt-cases}
 use Rattle.records.specs.declared.Counts.{Counts}
 use Rattle.records.specs.declared.Statement.{Statement}
-use Rattle.records.specs.Layout.{exprAt, statementAt, firstAt}
+use Rattle.records.specs.Layout.{statementAt, firstAt}
 use Rattle.spelling.specs.declared.Special.{Special}
 use Rattle.trees.specs.declared.Row.{Row}
 use Rattle.trees.specs.Sheet.{Sheet, rowAt, rowsTo, sheetOf}
@@ -19,7 +19,7 @@ use Rattle.trees.specs.Statements.{Literal, Stmt, noStatement, literalOf, stmts
 use Rattle.branches.specs.RowTrees.{rows-length, rows-at}
 use Rattle.sizes.specs.Sizes.{total, size, literalSize, weight}
 use Rattle.sizes.specs.Leaves.{size-chain}
-use Rattle.sizes.specs.Listed.{comprKind}
+use Rattle.sizes.specs.Parts.{partsAt, wholesAt}
 
 -- ---- deeper trees and longer lists are no smaller
 
@@ -76,12 +76,6 @@ module _ (c : Counts) (x : Special) (t : List ℕ) where
       go zero = refl
       go (suc n) = refl
 
-  -- The parts that a row names, and the rest of its chain.
-  unfoldable pub partsAt : ℕ → ℕ
-  partsAt r =
-      let e = exprAt t r in
-      sizeAt (e .first) + (sizeAt (e .second) + (sizeAt (cond (comprKind (e .kind)) 0 (e .third)) + sizeAt (e .next)))
-
   partsOf : Row → ℕ
   partsOf w = sizeAt (w .first) + (sizeAt (w .second) + (sizeAt (thirdOf w) + sizeAt (w .next)))
 
@@ -89,7 +83,7 @@ module _ (c : Counts) (x : Special) (t : List ℕ) where
   unfolding sheetOf
   row-exprs r h = rows-at (rowAt t) (c .exprs) r noRow h
 
-  parts-row : (r : ℕ) → partsOf (rowAt t r) ≡ partsAt r
+  parts-row : (r : ℕ) → partsOf (rowAt t r) ≡ partsAt t sizeAt r
   unfolding partsOf partsAt rowAt
   parts-row r = refl
 
@@ -98,7 +92,7 @@ module _ (c : Counts) (x : Special) (t : List ℕ) where
   size-suc r = decode-row (length (sheet .exprs)) (sheet .exprs) r
 
   -- A tree is its row, and the parts.
-  pub size-row : (r : ℕ) → 1 ≤ r → r ≤ c .exprs → sizeAt r ≤ suc (partsAt r)
+  pub size-row : (r : ℕ) → 1 ≤ r → r ≤ c .exprs → sizeAt r ≤ suc (partsAt t sizeAt r)
   size-row zero a b = absurd (omega arith)
   size-row (suc r) a b = omega (arith, size-suc r, ap partsOf (row-exprs r b), parts-row (suc r))
 
@@ -115,12 +109,6 @@ module _ (c : Counts) (x : Special) (t : List ℕ) where
       go : (n : ℕ) → total weight (stmtsFrom sheet n 0) ≡ 0
       go zero = refl
       go (suc n) = refl
-
-  -- The expressions that a statement names.
-  unfoldable pub wholesAt : ℕ → ℕ
-  wholesAt s =
-      let st = statementAt t s in
-      sizeAt (st .first) + (sizeAt (st .second) + (sizeAt (st .third) + sizeAt (st .with)))
 
   literal-few : (st : Statement) → literalSize (literalOf sheet st) ≤ sizeAt (st .first) + (sizeAt (st .second) + sizeAt (st .third))
   unfolding literalOf sizeAt
@@ -167,7 +155,7 @@ module _ (c : Counts) (x : Special) (t : List ℕ) where
   weight-suc s = stmts-row (length (sheet .statements)) s
 
   -- The weight from a statement on is its own, and that of the rest.
-  pub weight-row : (s : ℕ) → 1 ≤ s → s ≤ c .statements → weightFrom s ≤ suc (wholesAt s) + weightFrom (statementAt t s .next)
+  pub weight-row : (s : ℕ) → 1 ≤ s → s ≤ c .statements → weightFrom s ≤ suc (wholesAt t sizeAt s) + weightFrom (statementAt t s .next)
   unfolding wholesAt
   weight-row zero a b = absurd (omega arith)
   weight-row (suc s) a b =
