@@ -1,4 +1,5 @@
 pub mod Sheets
+pub mod Exprs
 pub mod Agrees
 pub mod Outers
 pub mod Walking
@@ -8,3 +9,4 @@ pub mod Assigned
 pub mod Loops
 pub mod Vars
 pub mod Chains
+pub mod Locals

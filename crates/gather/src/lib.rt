@@ -3,8 +3,10 @@
 pub mod assigned;
 pub mod each;
 pub mod input;
+pub mod locals;
 pub mod loops;
 pub mod outer;
 pub mod scope;
+pub mod spans;
 pub mod special;
 pub mod vars;
