@@ -1,19 +1,19 @@
 -- A scope's sets as words, and the scope of the definitions.
 use mathlib.Core.Path.{_≡_, refl, sym, ap, ap₂, _∙_}
-use mathlib.Core.Bool.{Bool, true, false, _||_, cond}
-use mathlib.Core.List.{List}
+use mathlib.Core.Bool.{Bool, true, false, not, _||_, _&&_, and-true, and-false, cond}
+use mathlib.Core.List.{List, [], _∷_}
 use mathlib.Core.Logic.{_⊎_, inl, inr}
 use mathlib.Core.Option.{some}
 use Prim.Native.Nat.{ℕ}
 use lib.Dec.{eqb}
-use Rattle.names.specs.Sets.{member, Empty, Inserted}
+use Rattle.names.specs.Sets.{member, Empty, Inserted, Difference}
 use borrow.Author.Tests.{eqb-true, eq-eqb}
 use Rattle.basics.specs.Truth.{bool-cases, bool-ext}
 use Rattle.trees.specs.Lists.{isSome}
 use Rattle.trees.specs.declared.Row.{Row}
-use Rattle.scopes.specs.NameSets.{contains, insert, empty}
+use Rattle.scopes.specs.NameSets.{NameSet, contains, insert, remove, empty}
 use Rattle.scopes.specs.Scopes as spec
-use Rattle.scopes.specs.Scopes.{noScope, addLocal, addUnscoped, addInput, useInput, isLocal}
+use Rattle.scopes.specs.Scopes.{noScope, addLocal, addUnscoped, addInput, useInput, removeAll, removeShadowed, isLocal}
 use Rattle.gather.specs.declared.scope.Scope.{Scope}
 
 -- The scope k has the sets of the scope s: its locals as names, without their spans.
@@ -40,6 +40,9 @@ WithInput k x r = (s : spec.Scope) → Sets k s → Sets r (addInput s x)
 abbrev pub WithFlag : Scope → Bool → Scope → Type 0
 WithFlag k b r = (s : spec.Scope) → Sets k s → Sets r (useInput b s)
 
+abbrev pub WithoutLocals : Scope → Scope → Type 0
+WithoutLocals k r = (s : spec.Scope) → Sets k s → Sets r (removeShadowed s)
+
 -- ---- what holds of the definitions' additions
 
 eqb-sym : (a b : ℕ) → eqb a b ≡ eqb b a
@@ -53,6 +56,18 @@ local-has s w x = go (bool-cases (eqb (w .name) x)) (eqb-sym (w .name) x)
         → isSome (cond (eqb (w .name) x) (some (spec.spanOf w)) (spec.spanIn (s .locals) x)) ≡ (eqb x (w .name) || isLocal s x)
     go (inl p) e = rw (p, sym e ∙ p)
     go (inr p) e = rw (p, sym e ∙ p)
+
+-- The names of spans leave a set.
+shadowed : (spans : List spec.Span) (names : NameSet) (x : ℕ) → contains (removeAll names spans) x ≡ (contains names x && not (isSome (spec.spanIn spans x)))
+unfolding removeAll contains remove
+shadowed [] names x = sym (and-true (names x))
+shadowed (p ∷ spans) names x = shadowed spans (remove names (p .name)) x ∙ go (bool-cases (eqb (p .name) x)) (eqb-sym (p .name) x)
+  where
+    go : (eqb (p .name) x ≡ true) ⊎ (eqb (p .name) x ≡ false) → eqb (p .name) x ≡ eqb x (p .name)
+        → ((not (eqb x (p .name)) && names x) && not (isSome (spec.spanIn spans x)))
+        ≡ (names x && not (isSome (cond (eqb (p .name) x) (some p) (spec.spanIn spans x))))
+    go (inl e) is = rw (sym is, e) (sym (and-false (names x)))
+    go (inr e) is = rw (sym is, e)
 
 -- ---- and so of the code's
 
@@ -94,6 +109,16 @@ module _ (k : Scope) where
     unscoped = a .unscoped;
     inputs = a .inputs;
     flag = ap (λ (u : Bool). b || u) (a .flag) ∙ sym is;
+  }
+
+  pub without-locals : (l m : List ℕ) → Difference (k .unscoped .words) (k .locals .words) l → Difference (k .inputs .words) (k .locals .words) m
+      → WithoutLocals k (record { locals = k .locals; unscoped = record { words = l }; inputs = record { words = m }; uses = k .uses })
+  unfolding removeShadowed
+  without-locals l m put-l put-m s a = record {
+    locals = a .locals;
+    unscoped = λ y. shadowed (s .locals) (s .unscoped) y ∙ ap₂ (λ (b c : Bool). b && not c) (a .unscoped y) (a .locals y) ∙ sym (put-l .has y);
+    inputs = λ y. shadowed (s .locals) (s .inputs) y ∙ ap₂ (λ (b c : Bool). b && not c) (a .inputs y) (a .locals y) ∙ sym (put-m .has y);
+    flag = a .flag;
   }
 
 pub no-names : (l : List ℕ) → Empty l

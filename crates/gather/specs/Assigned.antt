@@ -22,7 +22,7 @@ use Rattle.gather.specs.Sheets.{countsAt, specialAt, sheetAt, Accepted}
 use Rattle.gather.specs.Agrees.{WithLocal, WithUnscoped, WithInput, WithFlag}
 use Rattle.gather.specs.Spans.{spanWord, Agrees, Steps, agrees-local, agrees-unscoped, agrees-input, agrees-flag}
 use Rattle.gather.specs.Outers.{Exists}
-use Rattle.gather.specs.Walking.{exprBy}
+use Rattle.gather.specs.Exprs.{exprBy}
 use Rattle.gather.specs.Inputs.{fold-vars}
 
 module _ (t outer : List ℕ) where

@@ -1,19 +1,17 @@
 -- A chain's expressions in turn.
 use mathlib.Core.Path.{_≡_, sym}
-use mathlib.Core.Bool.{Bool, false}
+use mathlib.Core.Bool.{Bool, true, false}
 use mathlib.Core.List.{List, [], _∷_, foldl}
 use Prim.Native.Nat.{ℕ, _≤_}
-use native.Mathlib.Omega.{arith}
 use lib.ListN.{getD}
 use Rattle.trees.specs.Sheet.{rowAt}
 use Rattle.trees.specs.Trees.{Tree, treeAt, chain}
 use Rattle.scopes.specs.Scopes as spec
 use Rattle.scopes.specs.Gather.{gatherRead, gatherVars}
-use Rattle.branches.specs.RowTrees.{tree-none, tree-row}
 use Rattle.gather.specs.declared.scope.Scope.{Scope}
-use Rattle.gather.specs.Sheets.{countsAt, specialAt, sheetAt, Accepted}
+use Rattle.gather.specs.Sheets.{sheetAt, Accepted}
 use Rattle.gather.specs.Spans.{Steps}
-use Rattle.gather.specs.Walking.{exprBy}
+use Rattle.gather.specs.Exprs.{exprBy, none-is, tree-is}
 
 module _ (t : List ℕ) where
   abbrev pub chainAt : ℕ → List Tree
@@ -21,12 +19,12 @@ module _ (t : List ℕ) where
 
   module _ (ok : Accepted t) where
     pub chain-none : chainAt 0 ≡ []
-    unfolding chain sheetAt
-    chain-none = rw (tree-none (countsAt t) (specialAt t) t (ok .facts))
+    unfolding chain
+    chain-none = rw (none-is t ok true)
 
     pub chain-row : (row : ℕ) → (row ≡ 0 → ⊥) → row ≤ getD t 2 0 → chainAt row ≡ exprBy t false row ∷ chainAt (rowAt t row .next)
-    unfolding chain sheetAt
-    chain-row row some high = rw (tree-row (countsAt t) (specialAt t) t (ok .facts) row (omega arith) high)
+    unfolding chain
+    chain-row row some high = rw (tree-is t ok row some high)
 
   module _ (outer : List ℕ) where
     -- A step at an expression, and at each of a chain.

@@ -21,7 +21,7 @@ use Rattle.gather.specs.declared.scope.Scope.{Scope}
 use Rattle.gather.specs.Sheets.{countsAt, specialAt, sheetAt, Accepted}
 use Rattle.gather.specs.Agrees.{Sets, WithInput, WithFlag}
 use Rattle.gather.specs.Outers.{Outer, Exists}
-use Rattle.gather.specs.Walking.{exprBy}
+use Rattle.gather.specs.Exprs.{exprBy}
 
 -- The definitions' step at any expression.
 abbrev pub inputAt : Sheet → List spec.Scope → spec.Scope → Tree → spec.Scope

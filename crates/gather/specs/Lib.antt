@@ -1,4 +1,5 @@
 pub mod Sheets
+pub mod Exprs
 pub mod Agrees
 pub mod Outers
 pub mod Enclosing
@@ -9,3 +10,4 @@ pub mod Assigned
 pub mod Loops
 pub mod Vars
 pub mod Chains
+pub mod Locals

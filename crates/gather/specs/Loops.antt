@@ -20,7 +20,7 @@ use Rattle.gather.specs.declared.scope.Scope.{Scope}
 use Rattle.gather.specs.Sheets.{countsAt, specialAt, sheetAt, Accepted}
 use Rattle.gather.specs.Agrees.{WithFlag}
 use Rattle.gather.specs.Spans.{Agrees, Steps, agrees-flag}
-use Rattle.gather.specs.Walking.{exprBy}
+use Rattle.gather.specs.Exprs.{exprBy}
 use Rattle.gather.specs.Assigned.{AssignWalk}
 
 module _ (t outer : List ℕ) where

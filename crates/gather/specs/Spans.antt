@@ -12,9 +12,9 @@ use borrow.Author.Tests.{eqb-true, eqb-false}
 use Rattle.basics.specs.Truth.{bool-cases}
 use Rattle.trees.specs.declared.Row.{Row}
 use Rattle.scopes.specs.Scopes as spec
-use Rattle.scopes.specs.Scopes.{Span, spanOf, spanIn, addLocal, addUnscoped, addInput, useInput}
+use Rattle.scopes.specs.Scopes.{Span, spanOf, spanIn, addLocal, addUnscoped, addInput, useInput, removeShadowed}
 use Rattle.gather.specs.declared.scope.Scope.{Scope}
-use Rattle.gather.specs.Agrees.{Sets, WithLocal, WithUnscoped, WithInput, WithFlag}
+use Rattle.gather.specs.Agrees.{Sets, WithLocal, WithUnscoped, WithInput, WithFlag, WithoutLocals}
 use Rattle.gather.specs.Outers.{Outer}
 
 abbrev pub spanWord : Row → ℕ
@@ -69,3 +69,7 @@ module _ (k : Scope) (l : List ℕ) (r : Scope) (s : spec.Scope) (a : Agrees k l
   pub agrees-flag : (b : Bool) → WithFlag k b r → Agrees r l (useInput b s)
   unfolding useInput
   agrees-flag b put = record { sets = put s (a .sets); placed = a .placed }
+
+  pub agrees-without : WithoutLocals k r → Agrees r l (removeShadowed s)
+  unfolding removeShadowed
+  agrees-without put = record { sets = put s (a .sets); placed = a .placed }

@@ -1,26 +1,23 @@
 -- An expression that is read, and one whose variables are bound.
-use mathlib.Core.Path.{_≡_, refl, sym, ap, _∙_, subst}
+use mathlib.Core.Path.{_≡_, refl, sym, _∙_, subst}
 use mathlib.Core.Bool.{Bool, true, false, cond, not, _&&_}
 use mathlib.Core.List.{List, [], _∷_, foldl}
 use mathlib.Core.Option.{some}
 use Prim.Native.Nat.{ℕ, _+_, _*_, _≤_}
-use native.Mathlib.Omega.{arith}
 use lib.ListN.{getD}
 use Rattle.trees.specs.declared.Row.{Row}
 use Rattle.trees.specs.Sheet.{Sheet, rowAt, isInput}
 use Rattle.trees.specs.Kinds.{isAssign, isColEq}
-use Rattle.trees.specs.Trees.{Tree, nil, node, thirdOf, rowOf, firstOf, secondOf, treeAt}
+use Rattle.trees.specs.Trees.{Tree, rowOf, firstOf, secondOf}
 use Rattle.trees.specs.Traverse.{traverse, leaves, vars}
 use Rattle.scopes.specs.NameSets.{contains}
 use Rattle.scopes.specs.Scopes as spec
 use Rattle.scopes.specs.Scopes.{varExists, addInput, useInput}
 use Rattle.scopes.specs.Gather.{inputVar, gatherInputVars, gatherAssignedVars, gatherRead, gatherVars}
-use Rattle.branches.specs.RowTrees.{tree-none, tree-row}
-use Rattle.branches.specs.Walks.{alone}
 use Rattle.gather.specs.declared.scope.Scope.{Scope}
-use Rattle.gather.specs.Sheets.{countsAt, specialAt, sheetAt, Accepted}
+use Rattle.gather.specs.Sheets.{sheetAt, Accepted}
 use Rattle.gather.specs.Spans.{Steps}
-use Rattle.gather.specs.Walking.{exprBy}
+use Rattle.gather.specs.Exprs.{exprBy, none-is, row-is, first-is, second-is}
 use Rattle.gather.specs.Inputs.{InputWalk}
 use Rattle.gather.specs.Assigned.{AssignWalk}
 use Rattle.gather.specs.Loops.{LoopWalk}
@@ -78,43 +75,20 @@ module _ (t outer : List ℕ) where
   -- ---- the ways out of `gather_bound`
 
   module _ (ok : Accepted t) where
-    none-is : (rest : Bool) → exprBy t rest 0 ≡ nil
-    unfolding sheetAt
-    none-is true = tree-none (countsAt t) (specialAt t) t (ok .facts)
-    none-is false = ap alone (tree-none (countsAt t) (specialAt t) t (ok .facts))
-
     pub bound-none : (row : ℕ) → row ≡ 0 → (rest shadow : Bool) (k : Scope) (l : List ℕ) → BoundWalk row rest shadow k l k l
     unfolding gatherAssignedVars leaves
-    bound-none row z rest shadow k l parents o s a = rw (z, none-is rest) a
+    bound-none row z rest shadow k l parents o s a = rw (z, none-is t ok rest) a
 
     module _ (row : ℕ) (some : row ≡ 0 → ⊥) (high : row ≤ getD t 2 0) (rest shadow : Bool) (w : Row) (is : w ≡ rowAt t row) where
-      tree-is : treeAt (sheetAt t) row
-          ≡ node (rowAt t row) (treeAt (sheetAt t) (rowAt t row .first)) (treeAt (sheetAt t) (rowAt t row .second))
-          (treeAt (sheetAt t) (thirdOf (rowAt t row))) (treeAt (sheetAt t) (rowAt t row .next))
-      unfolding sheetAt
-      tree-is = tree-row (countsAt t) (specialAt t) t (ok .facts) row (omega arith) high
-
-      row-is : (b : Bool) → rowOf (exprBy t b row) ≡ w
-      row-is true = rw tree-is (sym is)
-      row-is false = rw tree-is (sym is)
-
-      first-is : (b : Bool) → firstOf (exprBy t b row) ≡ treeAt (sheetAt t) (w .first)
-      first-is true = rw (tree-is, is)
-      first-is false = rw (tree-is, is)
-
-      second-is : (b : Bool) → secondOf (exprBy t b row) ≡ treeAt (sheetAt t) (w .second)
-      second-is true = rw (tree-is, is)
-      second-is false = rw (tree-is, is)
-
       pub bound-assign : (found : Bool) → found ≡ isAssign w → found ≡ true → (k s₀ s₁ : Scope) (l l₀ l₁ : List ℕ)
           → AssignWalk t outer (w .first) true (isColEq w) k l s₀ l₀ → AssignWalk t outer (w .second) true false s₀ l₀ s₁ l₁
           → BoundWalk row rest shadow k l s₁ l₁
       bound-assign found e p k s₀ s₁ l l₀ l₁ h₀ h₁ parents o s a =
-          rw (row-is rest, first-is rest, second-is rest, sym e, p) (h₁ parents o _ (h₀ parents o s a))
+          rw (row-is t ok row some high rest, first-is t ok row some high rest, second-is t ok row some high rest, sym is, sym e, p) (h₁ parents o _ (h₀ parents o s a))
 
       pub bound-other : (found : Bool) → found ≡ isAssign w → found ≡ false → (k s₀ : Scope) (l l₀ : List ℕ)
           → AssignWalk t outer row rest shadow k l s₀ l₀ → BoundWalk row rest shadow k l s₀ l₀
-      bound-other found e p k s₀ l l₀ h parents o s a = rw (row-is rest, sym e, p) (h parents o s a)
+      bound-other found e p k s₀ l l₀ h parents o s a = rw (row-is t ok row some high rest, sym is, sym e, p) (h parents o s a)
 
   pub bound-and-read : (row : ℕ) (rest shadow : Bool) (k s₀ s₁ : Scope) (l l₀ l₁ : List ℕ)
       → BoundWalk row rest shadow k l s₀ l₀ → ReadWalk row rest s₀ l₀ s₁ l₁ → VarsWalk row rest shadow k l s₁ l₁

@@ -9,20 +9,14 @@ use lib.ListN.{getD}
 use Rattle.trees.specs.declared.Row.{Row}
 use Rattle.trees.specs.Sheet.{rowAt}
 use Rattle.trees.specs.Kinds.{isPattern}
-use Rattle.trees.specs.Trees.{Tree, treeAt}
 use Rattle.branches.specs.declared.Kids.{Kids}
 use Rattle.branches.specs.Descent.{Onward}
 use Rattle.branches.specs.Kids.{kidsOf}
 use Rattle.branches.specs.RowTrees.{row-descends}
-use Rattle.branches.specs.Walks.{alone}
 use Rattle.branches.specs.Onwards.{left, left-falls, onward-low, row-onwards, name-low}
-use Rattle.gather.specs.Sheets.{countsAt, sheetAt, Accepted}
+use Rattle.gather.specs.Sheets.{countsAt, Accepted}
 
 module _ (t : List ℕ) where
-  -- The expression at a row, with the rest of its chain if `rest`.
-  abbrev pub exprBy : Bool → ℕ → Tree
-  exprBy rest row = cond rest (treeAt (sheetAt t) row) (alone (treeAt (sheetAt t) row))
-
   -- The measure of a walk at row r.
   abbrev pub remains : ℕ → ℕ
   remains r = left (getD t 2 0) r

@@ -2,6 +2,7 @@
 
 use crate::outer::var_exists;
 use crate::scope::Scope;
+use crate::spans::put_span;
 use crate::special::is_input;
 use crate::special::is_special;
 use branches::next_of;
@@ -10,11 +11,10 @@ use trees::row_at;
 ghost use mathlib.Core.Path.{_≡_};
 ghost use mathlib.Core.Bool.{cond};
 ghost use mathlib.Core.List.{List};
-ghost use Prim.Native.Nat.{_≤_, _<_, _+_, _*_};
-ghost use lib.ListN.{length, getD, set};
+ghost use Prim.Native.Nat.{_≤_, _<_};
+ghost use lib.ListN.{length, getD};
 ghost use Rattle.trees.specs.Kinds.{isPattern};
 ghost use Rattle.gather.specs.Sheets.{Accepted};
-ghost use Rattle.gather.specs.Spans.{spanWord};
 ghost use Rattle.gather.specs.Assigned.{AssignVar, AssignStep, AssignWalk};
 
 // The kinds that are told apart.
@@ -23,15 +23,6 @@ const VAR: u16 = 6;
 const ARRAY: u16 = 7;
 
 const OBJECT: u16 = 9;
-
-// Where a local stands.
-fn put_span(spans: &mut [u64], w: Row)
-    requires { ⌜ (128 ≤ length (now spans)) × (w .name < 128) ⌝ }
-    ensures { λ _. ⌜ now (spans .exit) ≡ set (now (spans .entry)) (w .name) (spanWord w) ⌝ }
-{
-    let name = w.name as usize;
-    spans[name] = w.line as u64 * 65536 + w.col as u64;
-}
 
 // A variable.
 fn assign_var(

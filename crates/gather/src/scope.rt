@@ -3,7 +3,7 @@
 use names::Names;
 ghost use Prim.Native.Nat.{_<_};
 ghost use mathlib.Core.Path.{_≡_};
-ghost use Rattle.gather.specs.Agrees.{Sets, NoNames, WithLocal, WithUnscoped, WithInput, WithFlag};
+ghost use Rattle.gather.specs.Agrees.{Sets, NoNames, WithLocal, WithUnscoped, WithInput, WithFlag, WithoutLocals};
 
 pub struct Scope {
     pub locals: Names,
@@ -82,6 +82,20 @@ impl Scope {
             unscoped,
             inputs,
             uses: set || self.uses,
+        }
+    }
+    // The locals leave inputs and unscoped.
+    pub fn remove_shadowed(self) -> Scope
+        ensures { λ r. ⌜ WithoutLocals self r ⌝ }
+    {
+        let locals = self.locals;
+        let unscoped = self.unscoped.difference(locals);
+        let inputs = self.inputs.difference(locals);
+        Scope {
+            locals,
+            unscoped,
+            inputs,
+            uses: self.uses,
         }
     }
 }

@@ -1,0 +1,15 @@
+// Where locals stand: a word for each name, its line above its column.
+
+use trees::Row;
+ghost use mathlib.Core.Path.{_≡_};
+ghost use Prim.Native.Nat.{_≤_, _<_};
+ghost use lib.ListN.{length, set};
+ghost use Rattle.gather.specs.Spans.{spanWord};
+
+pub fn put_span(spans: &mut [u64], w: Row)
+    requires { ⌜ (128 ≤ length (now spans)) × (w .name < 128) ⌝ }
+    ensures { λ _. ⌜ now (spans .exit) ≡ set (now (spans .entry)) (w .name) (spanWord w) ⌝ }
+{
+    let name = w.name as usize;
+    spans[name] = w.line as u64 * 65536 + w.col as u64;
+}
