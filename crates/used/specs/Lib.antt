@@ -1,3 +1,4 @@
 pub mod Own
 pub mod Walk
 pub mod Undefined
+pub mod Reads
