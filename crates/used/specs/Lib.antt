@@ -2,3 +2,4 @@ pub mod Own
 pub mod Walk
 pub mod Undefined
 pub mod Reads
+pub mod Firsts
