@@ -30,7 +30,8 @@ use Rattle.gather.specs.Sheets.{countsAt, specialAt, sheetAt, Accepted}
 use Rattle.gather.specs.Agrees.{Sets}
 use Rattle.gather.specs.Walking.{remains, Falls}
 use Rattle.used.specs.Own.{Owns}
-use Rattle.used.specs.Adds.{Adds, adds-none, adds-then, adds-one, append-nil, collect}
+use Rattle.used.specs.Collects.{append-nil, collect}
+use Rattle.used.specs.Adds.{Adds, adds-none, adds-then, adds-one}
 
 -- The name that a leaf assigns.
 abbrev pub leafAt : spec.Scope → Row → List ℕ

@@ -5,3 +5,4 @@ pub mod first;
 pub mod own;
 pub mod reads;
 pub mod undefined;
+pub mod vars;
