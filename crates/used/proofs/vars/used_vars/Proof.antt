@@ -1,0 +1,19 @@
+-- The walk starts with no name.
+use borrow.Author.Needs.{needs}
+use Rattle.used.specs.UsedVars.{used-from-none}
+use Rattle.used.proofs.vars.used_vars.Statement.{statement}
+use Rattle.used.proofs.vars.used_vars.Tie as tie
+
+empty-requires : tie.Need-empty-requires
+empty-requires c κs = search needs
+
+used-from-requires : tie.Need-used-from-requires
+used-from-requires c κs = search needs
+
+returns : tie.Need-returns
+returns c =
+    let start = c .before .before .before in
+    used-from-none _ _ _ (start .args .row) (start .args .rest) _ _ (c .before .empty .ensures) (c .used-from .ensures)
+
+pub used-vars-spec : {M : Type 1} → statement M
+used-vars-spec = tie.close (tie.spec empty-requires used-from-requires returns)

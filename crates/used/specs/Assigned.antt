@@ -1,0 +1,168 @@
+-- The walk over a pattern.
+use mathlib.Core.Path.{_≡_, refl, sym, ap, _∙_, subst}
+use mathlib.Core.Bool.{Bool, true, false, cond, _||_}
+use mathlib.Core.List.{List, [], _∷_, _++_, foldl, map}
+use mathlib.Core.Logic.{_⊎_, inl, inr}
+use Prim.Native.Nat.{ℕ, _≤_, _<_}
+use native.Mathlib.Omega.{arith}
+use lib.Dec.{eqb}
+use lib.ListN.{getD}
+use borrow.Author.Tests.{eqb-true, eq-eqb, ne-eqb}
+use Rattle.basics.specs.Truth.{bool-cases, or-cases}
+use Rattle.basics.specs.Lists.{filter}
+use Rattle.names.specs.Sets.{Inserted}
+use Rattle.names.specs.declared.Names.{Names}
+use Rattle.trees.specs.declared.Row.{Row}
+use Rattle.trees.specs.Sheet.{rowAt}
+use Rattle.trees.specs.Kinds.{isVar, isPattern}
+use Rattle.trees.specs.Lists.{concatMap}
+use Rattle.trees.specs.Trees.{Tree, rowOf, treeAt}
+use Rattle.trees.specs.Traverse.{leaves, vars}
+use Rattle.scopes.specs.Scopes as spec
+use Rattle.scopes.specs.Scopes.{owns}
+use Rattle.uses.specs.Uses.{nameOf, assignedVars}
+use Rattle.branches.specs.Descent.{Onward}
+use Rattle.branches.specs.RowTrees.{row-descends}
+use Rattle.branches.specs.Onwards.{left-falls, onward-low}
+use Rattle.branches.specs.Walks.{aloneAt, overLeaves, leaves-none, leaves-row}
+use Rattle.gather.specs.declared.scope.Scope.{Scope}
+use Rattle.gather.specs.Sheets.{countsAt, specialAt, sheetAt, Accepted}
+use Rattle.gather.specs.Agrees.{Sets}
+use Rattle.gather.specs.Walking.{remains, Falls}
+use Rattle.used.specs.Own.{Owns}
+use Rattle.used.specs.Collects.{append-nil, collect}
+use Rattle.used.specs.Adds.{Adds, adds-none, adds-then, adds-one}
+
+-- The name that a leaf assigns.
+abbrev pub leafAt : spec.Scope → Row → List ℕ
+leafAt s w = cond (isVar w) (cond (owns s (w .name)) (w .name ∷ []) []) []
+
+as-leaves : (s : spec.Scope) (ts : List Tree) → filter (owns s) (map nameOf (vars ts)) ≡ concatMap (λ (e : Tree). leafAt s (rowOf e)) ts
+as-leaves s [] = refl
+as-leaves s (e ∷ ts) = go (isVar (rowOf e)) (owns s (rowOf e .name)) refl (as-leaves s ts)
+  where
+    go : (v b : Bool) → owns s (rowOf e .name) ≡ b → filter (owns s) (map nameOf (vars ts)) ≡ concatMap (λ (e : Tree). leafAt s (rowOf e)) ts
+        → filter (owns s) (map nameOf (cond v (rowOf e ∷ []) [] ++ vars ts))
+        ≡ (cond v (cond b (rowOf e .name ∷ []) []) [] ++ concatMap (λ (e : Tree). leafAt s (rowOf e)) ts)
+    go false b is ih = ih
+    go true true is ih = rw is (ap (λ (l : List ℕ). rowOf e .name ∷ l) ih)
+    go true false is ih = rw is ih
+
+-- ---- where the walk goes
+
+-- What `pattern_of` answers.
+module _ (w : Row) where
+  pub is-array : w .kind ≡ 7 → w .first ≡ cond (isPattern w) (w .first) 0
+  is-array e = sym (rw (eq-eqb (w .kind) 7 e))
+
+  module _ (ne : w .kind ≡ 7 → ⊥) where
+    pub is-object : w .kind ≡ 9 → w .first ≡ cond (isPattern w) (w .first) 0
+    is-object e = sym (rw (ne-eqb (w .kind) 7 ne, eq-eqb (w .kind) 9 e))
+
+    pub is-leaf : (w .kind ≡ 9 → ⊥) → 0 ≡ cond (isPattern w) (w .first) 0
+    is-leaf n = sym (rw (ne-eqb (w .kind) 7 ne, ne-eqb (w .kind) 9 n))
+
+  -- A variable is no pattern.
+  var-leaf : isPattern w ≡ true → isVar w ≡ false
+  var-leaf p = go (or-cases (eqb (w .kind) 7) (eqb (w .kind) 9) p)
+    where
+      go : (eqb (w .kind) 7 ≡ true) ⊎ (eqb (w .kind) 9 ≡ true) → isVar w ≡ false
+      go (inl q) = rw (eqb-true (w .kind) 7 q)
+      go (inr q) = rw (eqb-true (w .kind) 9 q)
+
+module _ (t : List ℕ) where
+  -- The calls of a row's turn, on rows i and n.
+  pub record LeafCalls (m i n : ℕ) : Type 0 where
+    pub inner : Falls t m i
+    pub next : Falls t m n
+
+  module _ (ok : Accepted t) (r : ℕ) (ne : r ≡ 0 → ⊥) (high : r ≤ getD t 2 0) where
+    goes : (v m : ℕ) → remains t r ≡ m → Onward (getD t 2 0) r v → Falls t m v
+    goes v m e h =
+        (subst (λ (n : ℕ). remains t v < n) e (left-falls (getD t 2 0) r v (omega arith) high h), onward-low (getD t 2 0) r v h)
+
+    pub leaf-calls : (m : ℕ) → remains t r ≡ m → (w : Row) → w ≡ rowAt t r → (inner : ℕ) → inner ≡ cond (isPattern w) (w .first) 0
+        → (next : ℕ) → next ≡ w .next → LeafCalls m inner next
+    leaf-calls m e w is inner i next n =
+        let d = row-descends (countsAt t) t (ok .facts) r (omega arith) high in
+        record {
+          inner = rw (i, is) (part (isPattern (rowAt t r)) (d .to-first));
+          next = rw (n, is) (goes _ m e (d .to-next));
+        }
+      where
+        part : (b : Bool) → Onward (getD t 2 0) r (rowAt t r .first) → Falls t m (cond b (rowAt t r .first) 0)
+        part true h = goes _ m e h
+        part false h = goes 0 m e (inl refl)
+
+-- ---- a row
+
+module _ (k : Scope) where
+  abbrev pub LeafStep : Row → Names → Names → Type 0
+  LeafStep w a b = (s : spec.Scope) → Sets k s → Adds a (leafAt s w) b
+
+  module _ (w : Row) (a : Names) where
+    pub leaf-other : (w .kind ≡ 6 → ⊥) → LeafStep w a a
+    leaf-other ne s h = rw (ne-eqb (w .kind) 6 ne) (adds-none a)
+
+    module _ (v : w .kind ≡ 6) (o : Bool) (owned : Owns k (w .name) o) where
+      pub leaf-own : o ≡ true → (b : Names) → Inserted (a .words) (w .name) (b .words) → LeafStep w a b
+      leaf-own p b put s h = rw (eq-eqb (w .kind) 6 v, sym (owned s h), p) (adds-one a (w .name) b put)
+
+      pub leaf-foreign : o ≡ false → LeafStep w a a
+      leaf-foreign p s h = rw (eq-eqb (w .kind) 6 v, sym (owned s h), p) (adds-none a)
+
+-- ---- the walk
+
+module _ (t : List ℕ) where
+  module _ (s : spec.Scope) where
+    abbrev at : Tree → List ℕ
+    at e = leafAt s (rowOf e)
+
+    abbrev step : List ℕ → Tree → List ℕ
+    step l e = l ++ at e
+
+    abbrev from : ℕ → List ℕ
+    from row = concatMap at (leaves (treeAt (sheetAt t) row))
+
+    over-is : (l : List ℕ) (row : ℕ) → overLeaves (countsAt t) (specialAt t) t step l row ≡ (l ++ from row)
+    unfolding sheetAt
+    over-is l row = collect at l (leaves (treeAt (sheetAt t) row))
+
+    assigned-is : (row : ℕ) → assignedVars s (treeAt (sheetAt t) row) ≡ from row
+    unfolding assignedVars
+    assigned-is row = as-leaves s (leaves (treeAt (sheetAt t) row))
+
+    module _ (ok : Accepted t) where
+      none-is : from 0 ≡ []
+      none-is = sym (over-is [] 0) ∙ leaves-none (countsAt t) (specialAt t) t (ok .facts) step []
+
+      row-is : (row : ℕ) → 1 ≤ row → row ≤ getD t 2 0
+          → let w = rowAt t row in
+          from row ≡ ((leafAt s w ++ from (cond (isPattern w) (w .first) 0)) ++ from (w .next))
+      row-is row low high =
+          sym (over-is [] row) ∙ leaves-row (countsAt t) (specialAt t) t (ok .facts) step [] row low high ∙ over-is _ (rowAt t row .next)
+          ∙ ap (λ (l : List ℕ). l ++ from (rowAt t row .next)) (go (bool-cases (isPattern (rowAt t row))))
+        where
+          go : let w = rowAt t row in
+              (isPattern w ≡ true) ⊎ (isPattern w ≡ false)
+              → cond (isPattern w) (overLeaves (countsAt t) (specialAt t) t step [] (w .first)) (leafAt s w) ≡ (leafAt s w ++ from (cond (isPattern w) (w .first) 0))
+          go (inl p) = rw (p, var-leaf (rowAt t row) p) (over-is [] (rowAt t row .first))
+          go (inr p) = rw (p, none-is) (sym (append-nil (leafAt s (rowAt t row))))
+
+  module _ (k : Scope) where
+    -- The names come to the set, for every scope that the code's stands for.
+    abbrev pub AssignedWalk : ℕ → Names → Names → Type 0
+    AssignedWalk row a b = (s : spec.Scope) → Sets k s → Adds a (assignedVars s (treeAt (sheetAt t) row)) b
+
+    module _ (ok : Accepted t) where
+      pub assigned-none : (row : ℕ) → row ≡ 0 → (a : Names) → AssignedWalk row a a
+      assigned-none row z a s h = rw (z, assigned-is s 0, none-is s ok) (adds-none a)
+
+      pub assigned-turn : (row : ℕ) → (row ≡ 0 → ⊥) → row ≤ getD t 2 0 → (w : Row) → w ≡ rowAt t row
+          → (inner : ℕ) → inner ≡ cond (isPattern w) (w .first) 0 → (next : ℕ) → next ≡ w .next → (a b c d : Names)
+          → LeafStep k w a b → AssignedWalk inner b c → AssignedWalk next c d → AssignedWalk row a d
+      assigned-turn row ne high w is inner i next n a b c d h₀ h₁ h₂ s h =
+          let parts : from s row ≡ ((leafAt s w ++ from s inner) ++ from s next) = rw (i, n, is) (row-is s ok row (omega arith) high) in
+          let p = subst (λ (l : List ℕ). Adds b l c) (assigned-is s inner) (h₁ s h) in
+          let q = subst (λ (l : List ℕ). Adds c l d) (assigned-is s next) (h₂ s h) in
+          subst (λ (l : List ℕ). Adds a l d) (sym (assigned-is s row ∙ parts)) (adds-then a c d _ _ (adds-then a b c _ _ (h₀ s h) p) q)

@@ -1,0 +1,157 @@
+-- The walk that enters the first uses.
+use mathlib.Core.Path.{_≡_, refl, sym, ap, _∙_, subst}
+use mathlib.Core.Bool.{Bool, true, false, cond}
+use mathlib.Core.List.{List, [], _∷_, _++_, foldl, map}
+use mathlib.Core.Logic.{_⊎_, inl, inr}
+use mathlib.Core.Option.{Option, none, some}
+use Prim.Native.Nat.{ℕ, zero, suc, _+_, _*_, _≤_, _<_}
+use native.Mathlib.Omega.{arith}
+use lib.Dec.{eqb}
+use lib.ListN.{length, getD, set}
+use lib.Seq.{getD-set-same, getD-set-other}
+use borrow.Author.Tests.{eqb-true, eqb-false, eq-eqb, ne-eqb}
+use Rattle.basics.specs.Truth.{bool-cases}
+use Rattle.basics.specs.Lists.{filter}
+use Rattle.names.specs.declared.Names.{Names}
+use Rattle.trees.specs.declared.Row.{Row}
+use Rattle.trees.specs.Sheet.{rowAt}
+use Rattle.trees.specs.Kinds.{isVar}
+use Rattle.trees.specs.Lists.{isSome}
+use Rattle.trees.specs.Trees.{Tree, rowOf, treeAt}
+use Rattle.trees.specs.Traverse.{traverse, vars}
+use Rattle.scopes.specs.Scopes as spec
+use Rattle.scopes.specs.Scopes.{Span, spanOf, spanIn}
+use Rattle.uses.specs.Uses.{isUse, variablesUsed}
+use Rattle.uses.specs.FirstUses.{addFirstUse}
+use Rattle.branches.specs.declared.Kids.{Kids}
+use Rattle.branches.specs.Kids.{kidsOf}
+use Rattle.branches.specs.Walks.{alone}
+use Rattle.gather.specs.declared.scope.Scope.{Scope}
+use Rattle.gather.specs.Sheets.{sheetAt, Accepted}
+use Rattle.gather.specs.Agrees.{Sets}
+use Rattle.used.specs.Own.{Holds, IsUse}
+use Rattle.used.specs.Walk.{exprBy, Walk, walk-none, walk-turn}
+
+-- A first use as a word: 0 for none.
+abbrev pub wordOf : Option Span → ℕ
+wordOf none = 0
+wordOf (some p) = 1 + p .line * 65536 + p .col
+
+-- The words hold the first uses, one a name.
+pub record Firsts (ws : List ℕ) (spans : List Span) : Type 0 where
+  pub has : (x : ℕ) → x < 128 → wordOf (spanIn spans x) ≡ getD ws x 0
+
+-- ---- one use
+
+abbrev pub FirstUse : Row → List ℕ → List ℕ → Type 0
+FirstUse w ws rs = (spans : List Span) → Firsts ws spans → Firsts rs (addFirstUse spans (spanOf w))
+
+module _ (w : Row) (low : w .name < 128) (ws : List ℕ) where
+  pub use-stays : (getD ws (w .name) 0 ≡ 0 → ⊥) → FirstUse w ws ws
+  unfolding addFirstUse
+  use-stays ne spans h = go (spanIn spans (w .name)) (h .has (w .name) low)
+    where
+      go : (o : Option Span) → wordOf o ≡ getD ws (w .name) 0 → Firsts ws (cond (isSome o) spans (spanOf w ∷ spans))
+      go none e = absurd (ne (sym e))
+      go (some p) e = h
+
+  pub use-enters : 128 ≤ length ws → getD ws (w .name) 0 ≡ 0 → FirstUse w ws (set ws (w .name) (1 + w .line * 65536 + w .col))
+  unfolding addFirstUse
+  use-enters room z spans h = go (spanIn spans (w .name)) (h .has (w .name) low)
+    where
+      new : List ℕ
+      new = set ws (w .name) (1 + w .line * 65536 + w .col)
+
+      at : (x : ℕ) → x < 128 → (eqb (w .name) x ≡ true) ⊎ (eqb (w .name) x ≡ false) → wordOf (cond (eqb (w .name) x) (some (spanOf w)) (spanIn spans x)) ≡ getD new x 0
+      at x l (inl p) =
+          rw p
+          (sym (getD-set-same ws (w .name) (1 + w .line * 65536 + w .col) 0 (omega arith)) ∙ ap (λ (y : ℕ). getD new y 0) (eqb-true (w .name) x p))
+      at x l (inr p) =
+          rw p
+          (h .has x l ∙ sym (getD-set-other ws (w .name) x (1 + w .line * 65536 + w .col) 0 (λ e. eqb-false (w .name) x p (sym e))))
+
+      go : (o : Option Span) → wordOf o ≡ getD ws (w .name) 0 → Firsts new (cond (isSome o) spans (spanOf w ∷ spans))
+      go none e = record { has = λ x l. at x l (bool-cases (eqb (w .name) x)) }
+      go (some p) e = absurd (omega (arith, e, z))
+
+-- ---- a step
+
+abbrev pub useStep : (Row → Bool) → List Span → Row → List Span
+useStep p spans w = cond (isVar w) (cond (p w) (addFirstUse spans (spanOf w)) spans) spans
+
+-- A walk over all expressions enters the variables that pass the test.
+enter-walk : (p : Row → Bool) (spans : List Span) (ts : List Tree)
+    → foldl (λ (u : List Span) (e : Tree). useStep p u (rowOf e)) spans ts ≡ foldl addFirstUse spans (map spanOf (filter p (vars ts)))
+enter-walk p spans [] = refl
+enter-walk p spans (e ∷ ts) = enter-walk p (useStep p spans (rowOf e)) ts ∙ go (isVar (rowOf e)) (p (rowOf e)) refl
+  where
+    go : (v b : Bool) → p (rowOf e) ≡ b
+        → foldl addFirstUse (cond v (cond b (addFirstUse spans (spanOf (rowOf e))) spans) spans) (map spanOf (filter p (vars ts)))
+        ≡ foldl addFirstUse spans (map spanOf (filter p (cond v (rowOf e ∷ []) [] ++ vars ts)))
+    go false b is = refl
+    go true true is = rw is
+    go true false is = rw is
+
+module _ (t : List ℕ) (k : Scope) (extras : Names) where
+  -- For every scope and every list of names that the code's stand for.
+  abbrev pub FirstStep : Row → List ℕ → List ℕ → Type 0
+  FirstStep w ws rs =
+      (s : spec.Scope) → Sets k s → (l : List ℕ) → Holds extras l
+      → (spans : List Span) → Firsts ws spans → Firsts rs (useStep (isUse (sheetAt t) s l) spans w)
+
+  abbrev pub FirstWalk : ℕ → Bool → List ℕ → List ℕ → Type 0
+  FirstWalk row rest ws rs =
+      (s : spec.Scope) → Sets k s → (l : List ℕ) → Holds extras l
+      → (spans : List Span) → Firsts ws spans
+      → Firsts rs (foldl addFirstUse spans (map spanOf (variablesUsed (sheetAt t) s l (exprBy t rest row))))
+
+  module _ (w : Row) (ws : List ℕ) where
+    pub first-other : (w .kind ≡ 6 → ⊥) → FirstStep w ws ws
+    first-other ne s a l h spans f = rw (ne-eqb (w .kind) 6 ne) f
+
+    module _ (v : w .kind ≡ 6) (b : Bool) (uses : IsUse t k extras w b) where
+      pub first-no-use : b ≡ false → FirstStep w ws ws
+      first-no-use p s a l h spans f = rw (eq-eqb (w .kind) 6 v, sym (uses s a l h), p) f
+
+      pub first-used : b ≡ true → (rs : List ℕ) → FirstUse w ws rs → FirstStep w ws rs
+      first-used p rs put s a l h spans f = rw (eq-eqb (w .kind) 6 v, sym (uses s a l h), p) (put spans f)
+
+  -- ---- a row's turn
+
+  module _ (s : spec.Scope) (l : List ℕ) where
+    abbrev step : List Span → Row → List Span
+    step = useStep (isUse (sheetAt t) s l)
+
+    abbrev Walks : ℕ → Bool → List ℕ → List ℕ → Type 0
+    Walks row rest ws rs = Walk t Firsts (λ (u : List Span) (e : Tree). step u (rowOf e)) row rest ws rs
+
+    to-walk : (row : ℕ) (rest : Bool) (ws rs : List ℕ)
+        → ((spans : List Span) → Firsts ws spans → Firsts rs (foldl addFirstUse spans (map spanOf (variablesUsed (sheetAt t) s l (exprBy t rest row)))))
+        → Walks row rest ws rs
+    unfolding variablesUsed sheetAt
+    to-walk row true ws rs h spans f =
+        subst (Firsts rs) (sym (enter-walk (isUse (sheetAt t) s l) spans (traverse (treeAt (sheetAt t) row)))) (h spans f)
+    to-walk row false ws rs h spans f =
+        subst (Firsts rs) (sym (enter-walk (isUse (sheetAt t) s l) spans (traverse (alone (treeAt (sheetAt t) row))))) (h spans f)
+
+    from-walk : (row : ℕ) (rest : Bool) (ws rs : List ℕ) → Walks row rest ws rs
+        → (spans : List Span) → Firsts ws spans → Firsts rs (foldl addFirstUse spans (map spanOf (variablesUsed (sheetAt t) s l (exprBy t rest row))))
+    unfolding variablesUsed sheetAt
+    from-walk row true ws rs h spans f =
+        subst (Firsts rs) (enter-walk (isUse (sheetAt t) s l) spans (traverse (treeAt (sheetAt t) row))) (h spans f)
+    from-walk row false ws rs h spans f =
+        subst (Firsts rs) (enter-walk (isUse (sheetAt t) s l) spans (traverse (alone (treeAt (sheetAt t) row)))) (h spans f)
+
+  pub first-none : Accepted t → (row : ℕ) → row ≡ 0 → (rest : Bool) (ws : List ℕ) → FirstWalk row rest ws ws
+  first-none ok row z rest ws s a l h =
+      from-walk s l row rest ws ws (walk-none t Firsts (λ (u : List Span) (e : Tree). step s l u (rowOf e)) ok row z rest ws)
+
+  pub first-turn : Accepted t → (row : ℕ) → (row ≡ 0 → ⊥) → row ≤ getD t 2 0 → (rest : Bool) (w : Row) → w ≡ rowAt t row
+      → (p : Kids) → p ≡ kidsOf w → (next : ℕ) → next ≡ cond rest (w .next) 0 → (ws s₀ s₁ s₂ s₃ s₄ : List ℕ)
+      → FirstStep w ws s₀ → FirstWalk (p .first) true s₀ s₁ → FirstWalk (p .second) true s₁ s₂ → FirstWalk (p .third) true s₂ s₃
+      → FirstWalk next true s₃ s₄ → FirstWalk row rest ws s₄
+  first-turn ok row ne high rest w is p ps next ns ws s₀ s₁ s₂ s₃ s₄ h₀ h₁ h₂ h₃ h₄ s a l h =
+      let part : (v : ℕ) (x y : List ℕ) → FirstWalk v true x y → Walks s l v true x y = λ v x y q. to-walk s l v true x y (q s a l h) in
+      from-walk s l row rest ws s₄
+      (walk-turn t Firsts (λ (u : List Span) (e : Tree). step s l u (rowOf e)) ok (step s l) (λ u v. refl) row ne high rest w is p ps next ns
+      ws s₀ s₁ s₂ s₃ s₄ (h₀ s a l h) (part _ _ _ h₁) (part _ _ _ h₂) (part _ _ _ h₃) (part _ _ _ h₄))

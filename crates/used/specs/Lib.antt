@@ -1,0 +1,9 @@
+pub mod Own
+pub mod Walk
+pub mod Undefined
+pub mod Reads
+pub mod Firsts
+pub mod Collects
+pub mod Adds
+pub mod Assigned
+pub mod UsedVars

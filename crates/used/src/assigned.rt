@@ -1,0 +1,67 @@
+// `gather_assigned_vars`: the names of a query that a pattern assigns.
+
+use crate::own::owns;
+use branches::next_of;
+use gather::scope::Scope;
+use names::Names;
+use trees::Row;
+use trees::row_at;
+ghost use mathlib.Core.Path.{_≡_};
+ghost use mathlib.Core.Bool.{cond};
+ghost use mathlib.Core.List.{List};
+ghost use Prim.Native.Nat.{_≤_, _<_};
+ghost use lib.ListN.{length, getD};
+ghost use Rattle.trees.specs.Kinds.{isPattern};
+ghost use Rattle.gather.specs.Sheets.{Accepted};
+ghost use Rattle.used.specs.Assigned.{LeafStep, AssignedWalk};
+
+// The kinds of a variable, an array and an object.
+const VAR: u16 = 6;
+
+const ARRAY: u16 = 7;
+
+const OBJECT: u16 = 9;
+
+// The first part of an array or an object, 0 for any other row.
+fn pattern_of(w: Row) -> usize
+    ensures { λ r. ⌜ r ≡ cond (isPattern w) (w .first) 0 ⌝ }
+{
+    if w.kind == ARRAY {
+        return w.first as usize;
+    }
+    if w.kind == OBJECT {
+        return w.first as usize;
+    }
+    0
+}
+
+// A row: a variable of the query is a name.
+fn leaf_step(scope: Scope, w: Row, names: Names) -> Names
+    requires { ⌜ w .name < 128 ⌝ }
+    ensures { λ r. ⌜ LeafStep scope w names r ⌝ }
+{
+    if w.kind != VAR {
+        return names;
+    }
+    let name = w.name as usize;
+    if owns(scope, name) {
+        return names.insert(name);
+    }
+    names
+}
+
+// The pattern at a row, with the rest of its chain. Its names come to `names`.
+pub fn assigned_vars(tables: &[u16], scope: Scope, row: usize, names: Names) -> Names
+    requires { ⌜ Accepted (now tables) × (row ≤ getD (now tables) 2 0) ⌝ }
+    ensures { λ r. ⌜ AssignedWalk (now (tables .entry)) scope row names r ⌝ }
+{
+    if row == 0 {
+        return names;
+    }
+    let w = row_at(tables, row);
+    let inner = pattern_of(w);
+    let next = next_of(w, true);
+    let mut s = leaf_step(scope, w, names);
+    s = assigned_vars(tables, scope, inner, s);
+    assigned_vars(tables, scope, next, s)
+}

@@ -1,0 +1,51 @@
+// What a variable is to a query: one of its own, a use of such a one, or undefined.
+
+use gather::scope::Scope;
+use gather::special::is_special;
+use names::Names;
+use trees::Row;
+ghost use mathlib.Core.Path.{_≡_};
+ghost use Prim.Native.Nat.{_≤_, _<_};
+ghost use lib.ListN.{length};
+ghost use Rattle.used.specs.Own.{Owns, IsUndefined, IsUse};
+
+// Is it a local or an unscoped name?
+pub fn owns(scope: Scope, name: usize) -> bool
+    requires { ⌜ name < 128 ⌝ }
+    ensures { λ r. ⌜ Owns scope name r ⌝ }
+{
+    if scope.locals.contains(name) {
+        return true;
+    }
+    scope.unscoped.contains(name)
+}
+
+// Is the variable neither of this query nor an input?
+pub fn is_undefined(tables: &[u16], scope: Scope, w: Row) -> bool
+    requires { ⌜ (8192 ≤ length (now tables)) × (w .name < 128) ⌝ }
+    ensures { λ r. ⌜ IsUndefined (now (tables .entry)) scope w r ⌝ }
+{
+    if is_special(tables, w.name) {
+        return false;
+    }
+    let name = w.name as usize;
+    if owns(scope, name) {
+        return false;
+    }
+    !scope.inputs.contains(name)
+}
+
+// Does the variable use a name of this query? `extras` are the names that the extra argument of the expression binds.
+pub fn is_use(tables: &[u16], scope: Scope, extras: Names, w: Row) -> bool
+    requires { ⌜ (8192 ≤ length (now tables)) × (w .name < 128) ⌝ }
+    ensures { λ r. ⌜ IsUse (now (tables .entry)) scope extras w r ⌝ }
+{
+    if is_special(tables, w.name) {
+        return false;
+    }
+    let name = w.name as usize;
+    if owns(scope, name) {
+        return !extras.contains(name);
+    }
+    false
+}
