@@ -1,0 +1,6 @@
+pub mod Stored
+pub mod Sound
+pub mod Ranges
+pub mod Lines
+pub mod Texts
+pub mod Agrees
