@@ -20,7 +20,7 @@ use Rattle.scopes.specs.NameSets.{NameSet, contains, elements}
 use Rattle.scopes.specs.Scopes.{Span, spanIn}
 use Rattle.analysis.specs.States.{QuerySchedule, scheduleOf}
 use Rattle.answers.specs.Rows.{mark, queryRows, placeRows, localRow, setRows, rowsOf}
-use Rattle.answers.specs.Text.{section}
+use Rattle.answers.specs.Text.{section, answerText}
 use Rattle.answer.specs.Stored.{wordAt, setAt, placeAt, SpanIn, Analysed, StoredAt, Stored}
 use Rattle.answer.specs.Sound.{mark-low}
 use Rattle.answer.specs.Ranges.{texts, texts-same, concat-append, concat-concat, concat-map, concat-filter}
@@ -132,3 +132,15 @@ module _ (w : List ℕ) (n : ℕ) (few : n ≤ 32) (b : List ℕ) (at : ℕ) (c 
       (ap (λ (m : ℕ). (bytes heading ++ (newline ∷ [])) ++ (texts f 1 m ++ (newline ∷ []))) is
       ∙ section-same rows f heading n schedules (λ q l u. same q (scheduleOf schedules q) (stored q l (omega arith))))
       (puts-then b at (bytes heading ++ (newline ∷ [])) d s _ c r first (puts-then d s (texts f 1 k) e t (newline ∷ []) c r lines last))
+
+-- ---- the answer
+
+abbrev pub PutsAnswer : List ℕ → ℕ → List ℕ → ℕ → List ℕ → ℕ → Type 0
+PutsAnswer w n b at c r = (schedules : List QuerySchedule) → Stored w schedules → Puts b at (answerText n schedules) c r
+
+pub put-all : (w : List ℕ) (n : ℕ) (b : List ℕ) (at : ℕ) (c : List ℕ) (r : ℕ) (d : List ℕ) (s : ℕ) (e : List ℕ) (t : ℕ)
+    → PutsSection queryRows "query placed input" w n b at c r → PutsSection placeRows "query place index reached" w n c r d s
+    → PutsSection setRows "query set name line col" w n d s e t → PutsAnswer w n b at e t
+unfolding answerText
+put-all w n b at c r d s e t queries places sets schedules stored =
+    puts-then b at _ c r _ e t (queries schedules stored) (puts-then c r _ d s _ e t (places schedules stored) (sets schedules stored))

@@ -3,4 +3,5 @@ pub mod Sound
 pub mod Ranges
 pub mod Lines
 pub mod Texts
+pub mod Listed
 pub mod Agrees
