@@ -1,0 +1,146 @@
+-- The lines that the words give are those of the schedules that they store.
+use mathlib.Core.Path.{_≡_, refl, sym, ap, ap₂, _∙_}
+use mathlib.Core.Bool.{Bool, cond}
+use mathlib.Core.List.{List, [], _∷_, _++_, map, append-assoc, append-nil}
+use mathlib.Core.Option.{Option, none, some}
+use Prim.Native.Nat.{ℕ, suc, _+_, _-_, _*_, _/_, _%_, _≤_, _<_}
+use Prim.Native.String.{String}
+use native.Mathlib.Omega.{arith}
+use native.Mathlib.Numerals.{add-one}
+use lib.ListN.{getD}
+use Rattle.basics.specs.Ranges.{range}
+use Rattle.names.specs.Sets.{member}
+use Rattle.text.specs.Bytes.{newline, bytes}
+use Rattle.writer.specs.Writes.{Puts, puts-then}
+use Rattle.writer.specs.Decimal.{line}
+use Rattle.turns.specs.Turns as turns
+use Rattle.trees.specs.Lists.{concatMap, isSome}
+use Rattle.trees.specs.Sheet.{nameBound}
+use Rattle.scopes.specs.NameSets.{NameSet, contains, elements}
+use Rattle.scopes.specs.Scopes.{Span, spanIn}
+use Rattle.analysis.specs.States.{QuerySchedule, scheduleOf}
+use Rattle.answers.specs.Rows.{mark, queryRows, placeRows, localRow, setRows, rowsOf}
+use Rattle.answers.specs.Text.{section, answerText}
+use Rattle.answer.specs.Stored.{wordAt, setAt, placeAt, SpanIn, Analysed, StoredAt, Stored}
+use Rattle.answer.specs.Sound.{mark-low}
+use Rattle.answer.specs.Ranges.{texts, texts-same, concat-append, concat-concat, concat-map, concat-filter}
+use Rattle.answer.specs.Lines.{puts-as}
+use Rattle.answer.specs.Texts.{queryText, placeLine, placesText, localLine, nameLine, setsText, query-never, query-once, places-never, places-once, sets-never, sets-once}
+
+-- ---- a query
+
+module _ (w : List ℕ) (q : ℕ) where
+  module _ (a : QuerySchedule) (s : Analysed w q a) where
+    once : wordAt w q 0 ≡ 0 → ⊥
+    once e = omega (arith, s .placed, e)
+
+    query-analysed : concatMap line (queryRows q (some a)) ≡ queryText w q
+    query-analysed =
+        let p : mark (turns.placed (a .definitions) (a .count) nameBound) ≡ wordAt w q 0 - 1 = omega (arith, s .placed) in
+        append-nil _ ∙ ap₂ (λ (m n : ℕ). line (q ∷ m ∷ n ∷ [])) p (sym (s .input)) ∙ sym (query-once w q once)
+
+    place-same : (k : ℕ) → k < a .count
+        → (let i = getD (turns.order (a .definitions) (a .count) nameBound) k 0 in
+        line (q ∷ k ∷ i ∷ mark (turns.reached (a .definitions) (a .count) nameBound i) ∷ [])) ≡ placeLine w q k
+    unfolding placeLine
+    place-same k l =
+        let i = getD (turns.order (a .definitions) (a .count) nameBound) k 0 in
+        let n = s .places k l in
+        let m = mark-low (turns.reached (a .definitions) (a .count) nameBound i) in
+        let e : i ≡ placeAt w q k / 2 = omega (arith, n .both, m) in
+        let g : mark (turns.reached (a .definitions) (a .count) nameBound i) ≡ placeAt w q k % 2 = omega (arith, n .both, m) in
+        ap₂ (λ (x y : ℕ). line (q ∷ k ∷ x ∷ y ∷ [])) e g
+
+    places-analysed : concatMap line (placeRows q (some a)) ≡ placesText w q
+    unfolding texts
+    places-analysed =
+        concat-map line _ (range 0 (a .count))
+        ∙ texts-same _ (placeLine w q) 0 (a .count) (λ k l u. place-same k u)
+        ∙ ap (texts (placeLine w q) 0) (sym (s .count)) ∙ sym (places-once w q once)
+
+    local-same : (x : ℕ) → concatMap line (localRow q x (spanIn (a .scope .locals) x)) ≡ localLine w q x
+    unfolding localLine
+    local-same x = go (spanIn (a .scope .locals) x) (s .locals x) (s .spans x)
+      where
+        go : (o : Option Span) → isSome o ≡ member (setAt w q 3) x → ((p : Span) → o ≡ some p → SpanIn (wordAt w q (16 + x)) p)
+            → concatMap line (localRow q x o)
+            ≡ cond (member (setAt w q 3) x) (line (q ∷ 1 ∷ x ∷ (wordAt w q (16 + x) / 65536) ∷ (wordAt w q (16 + x) % 65536) ∷ [])) []
+        go none h spans = rw (sym h)
+        go (some p) h spans =
+            let n = spans p refl in
+            let e : p .line ≡ wordAt w q (16 + x) / 65536 = omega (arith, n .line, n .col, n .both) in
+            let g : p .col ≡ wordAt w q (16 + x) % 65536 = omega (arith, n .line, n .col, n .both) in
+            rw (sym h) (append-nil _ ∙ ap₂ (λ (l k : ℕ). line (q ∷ 1 ∷ x ∷ l ∷ k ∷ [])) e g)
+
+    locals-analysed : concatMap line (concatMap (λ x. localRow q x (spanIn (a .scope .locals) x)) (range 0 nameBound)) ≡ texts (localLine w q) 0 128
+    unfolding texts
+    locals-analysed = concat-concat line _ (range 0 nameBound) ∙ texts-same _ (localLine w q) 0 128 (λ x l u. local-same x)
+
+    names-analysed : (set : ℕ) (names : NameSet) → ((x : ℕ) → contains names x ≡ member (setAt w q (2 * set + 1)) x)
+        → concatMap line (map (λ x. q ∷ set ∷ x ∷ 0 ∷ 0 ∷ []) (elements names)) ≡ texts (nameLine w q set) 0 128
+    unfolding texts elements nameLine
+    names-analysed set names has =
+        concat-map line _ (elements names) ∙ concat-filter _ (contains names) (range 0 nameBound)
+        ∙ texts-same _ (nameLine w q set) 0 128 (λ x l u. ap (λ (b : Bool). cond b (line (q ∷ set ∷ x ∷ 0 ∷ 0 ∷ [])) []) (has x))
+
+    sets-analysed : concatMap line (setRows q (some a)) ≡ setsText w q
+    sets-analysed =
+        let k = concatMap (λ x. localRow q x (spanIn (a .scope .locals) x)) (range 0 nameBound) in
+        let l = map (λ x. q ∷ 2 ∷ x ∷ 0 ∷ 0 ∷ []) (elements (a .scope .unscoped)) in
+        let m = map (λ x. q ∷ 3 ∷ x ∷ 0 ∷ 0 ∷ []) (elements (a .scope .inputs)) in
+        concat-append line k (l ++ m)
+        ∙ ap₂ (λ (x y : List ℕ). x ++ y) locals-analysed (concat-append line l m ∙ ap₂ (λ (x y : List ℕ). x ++ y)
+        (names-analysed 2 (a .scope .unscoped) (s .unscoped)) (names-analysed 3 (a .scope .inputs) (s .inputs)))
+        ∙ sym (sets-once w q once)
+
+  pub query-stored : (o : Option QuerySchedule) → StoredAt w q o → concatMap line (queryRows q o) ≡ queryText w q
+  query-stored none s = append-nil _ ∙ sym (query-never w q s)
+  query-stored (some a) s = query-analysed a s
+
+  pub places-stored : (o : Option QuerySchedule) → StoredAt w q o → concatMap line (placeRows q o) ≡ placesText w q
+  places-stored none s = sym (places-never w q s)
+  places-stored (some a) s = places-analysed a s
+
+  pub sets-stored : (o : Option QuerySchedule) → StoredAt w q o → concatMap line (setRows q o) ≡ setsText w q
+  sets-stored none s = sym (sets-never w q s)
+  sets-stored (some a) s = sets-analysed a s
+
+-- ---- a section
+
+module _ (rows : ℕ → Option QuerySchedule → List (List ℕ)) (f : ℕ → List ℕ) (heading : String) (n : ℕ) (schedules : List QuerySchedule) where
+  section-same : ((q : ℕ) → 1 ≤ q → q ≤ n → concatMap line (rows q (scheduleOf schedules q)) ≡ f q)
+      → (bytes heading ++ (newline ∷ [])) ++ (texts f 1 (n + 1) ++ (newline ∷ [])) ≡ section heading (rowsOf rows n schedules)
+  unfolding section rowsOf texts
+  section-same same =
+      append-assoc (bytes heading) (newline ∷ []) (texts f 1 (n + 1) ++ (newline ∷ []))
+      ∙ ap (λ (l : List ℕ). bytes heading ++ (newline ∷ (l ++ (newline ∷ []))))
+      (sym (concat-concat line _ (range 1 (suc n)) ∙ ap (texts _ 1) (sym (add-one n)) ∙ texts-same _ f 1 (n + 1) (λ q l u. same q l (omega arith))))
+
+-- What a call that writes a section ensures.
+abbrev pub PutsSection : (ℕ → Option QuerySchedule → List (List ℕ)) → String → List ℕ → ℕ → List ℕ → ℕ → List ℕ → ℕ → Type 0
+PutsSection rows heading w n b at c r =
+    (schedules : List QuerySchedule) → Stored w schedules → Puts b at (section heading (rowsOf rows n schedules)) c r
+
+module _ (w : List ℕ) (n : ℕ) (few : n ≤ 32) (b : List ℕ) (at : ℕ) (c : List ℕ) (r : ℕ) where
+  -- The heading, the lines of the queries, and an empty line.
+  pub put-section : (rows : ℕ → Option QuerySchedule → List (List ℕ)) (f : ℕ → List ℕ) (heading : String)
+      → ((q : ℕ) (o : Option QuerySchedule) → StoredAt w q o → concatMap line (rows q o) ≡ f q)
+      → (d : List ℕ) (s : ℕ) → Puts b at (bytes heading ++ (newline ∷ [])) d s
+      → (e : List ℕ) (t k : ℕ) → k ≡ n + 1 → Puts d s (texts f 1 k) e t → Puts e t (newline ∷ []) c r → PutsSection rows heading w n b at c r
+  put-section rows f heading same d s first e t k is lines last schedules stored =
+      puts-as b at c r _ (section heading (rowsOf rows n schedules))
+      (ap (λ (m : ℕ). (bytes heading ++ (newline ∷ [])) ++ (texts f 1 m ++ (newline ∷ []))) is
+      ∙ section-same rows f heading n schedules (λ q l u. same q (scheduleOf schedules q) (stored q l (omega arith))))
+      (puts-then b at (bytes heading ++ (newline ∷ [])) d s _ c r first (puts-then d s (texts f 1 k) e t (newline ∷ []) c r lines last))
+
+-- ---- the answer
+
+abbrev pub PutsAnswer : List ℕ → ℕ → List ℕ → ℕ → List ℕ → ℕ → Type 0
+PutsAnswer w n b at c r = (schedules : List QuerySchedule) → Stored w schedules → Puts b at (answerText n schedules) c r
+
+pub put-all : (w : List ℕ) (n : ℕ) (b : List ℕ) (at : ℕ) (c : List ℕ) (r : ℕ) (d : List ℕ) (s : ℕ) (e : List ℕ) (t : ℕ)
+    → PutsSection queryRows "query placed input" w n b at c r → PutsSection placeRows "query place index reached" w n c r d s
+    → PutsSection setRows "query set name line col" w n d s e t → PutsAnswer w n b at e t
+unfolding answerText
+put-all w n b at c r d s e t queries places sets schedules stored =
+    puts-then b at _ c r _ e t (queries schedules stored) (puts-then c r _ d s _ e t (places schedules stored) (sets schedules stored))
