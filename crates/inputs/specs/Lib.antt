@@ -1,0 +1,5 @@
+pub mod Outside
+pub mod WayKept
+pub mod Around
+pub mod RustInputs
+pub mod EveryInput
