@@ -14,7 +14,7 @@ use Rattle.trees.specs.Lists.{isSome}
 use Rattle.trees.specs.ListLaws.{all-kept, all-filter}
 use Rattle.trees.specs.declared.Row.{Row}
 use Rattle.trees.specs.Sheet.{nameBound}
-use Rattle.scopes.specs.NameSets.{NameSet, contains, insert, elements}
+use Rattle.scopes.specs.NameSets.{contains, insert, elements}
 use Rattle.scopes.specs.Scopes.{Span, Scope, spanIn, isLocal, owns, notBelow, addUnscoped, addInput, useInput, varExists}
 use Rattle.scopes.specs.Below.{unscoped-owns}
 use Rattle.scopes.specs.Shadowed.{Found, InputsFound}
@@ -98,24 +98,27 @@ unfolding addUnscoped
 unscoped-found parents [] sc f = f
 unscoped-found parents (x ∷ xs) sc f = unscoped-found parents xs (addUnscoped sc x) f
 
--- The inputs of the scope c that a does not own rise, and are found around a, if c's are found below p, which owns no more than a.
+-- A name that is not the scope's own.
+abbrev pub foreign : Scope → ℕ → Bool
+foreign a x = not (owns a x)
+
+-- It is not owned.
+not-owned : (a : Scope) (x : ℕ) → foreign a x ≡ true → owns a x ≡ false
+not-owned a x h = ⊎-elim (λ (e : owns a x ≡ true). absurd (not-both h (ap not e))) (λ (e : owns a x ≡ false). e) (bool-cases (owns a x))
+
+-- The inputs of the scope c that are foreign to a rise, and are found around a, if c's are found below p, which owns no more than a.
 pub rise-found : (parents : List Scope) (p a c : Scope) → ((x : ℕ) → owns a x ≡ false → owns p x ≡ false) → InputsFound (p ∷ parents) c
-    → InputsFound parents a
-    → InputsFound parents (foldl addInput (useInput (c .usesInput) a) (filter (λ x. not (owns a x)) (elements (c .inputs))))
+    → InputsFound parents a → InputsFound parents (foldl addInput (useInput (c .usesInput) a) (filter (foreign a) (elements (c .inputs))))
 unfolding elements
 rise-found parents p a c n f g =
-    go (filter (λ x. not (owns a x)) (elements (c .inputs))) (all-kept (λ x. not (owns a x)) (elements (c .inputs)))
-    (all-filter (contains (c .inputs)) (λ x. not (owns a x)) (elements (c .inputs)) (all-kept (contains (c .inputs)) (range 0 nameBound)))
+    go (filter (foreign a) (elements (c .inputs))) (all-kept (foreign a) (elements (c .inputs)))
+    (all-filter (contains (c .inputs)) (foreign a) (elements (c .inputs)) (all-kept (contains (c .inputs)) (range 0 nameBound)))
     (useInput (c .usesInput) a) (flag-found parents a (c .usesInput) g)
   where
-    foreign : (b : Bool) → not b ≡ true → b ≡ false
-    foreign true h = sym h
-    foreign false h = refl
-
-    go : (xs : List ℕ) → all (λ x. not (owns a x)) xs ≡ true → all (contains (c .inputs)) xs ≡ true → (sc : Scope) → InputsFound parents sc
+    go : (xs : List ℕ) → all (foreign a) xs ≡ true → all (contains (c .inputs)) xs ≡ true → (sc : Scope) → InputsFound parents sc
         → InputsFound parents (foldl addInput sc xs)
     go [] h i sc k = k
     go (y ∷ xs) h i sc k =
-        go xs (and-right (not (owns a y)) _ h) (and-right (contains (c .inputs) y) _ i) (addInput sc y)
+        go xs (and-right (foreign a y) _ h) (and-right (contains (c .inputs) y) _ i) (addInput sc y)
         (one-found parents sc y
-        (found-outside p parents y (n y (foreign (owns a y) (and-left (not (owns a y)) _ h))) (f y (and-left (contains (c .inputs) y) _ i))) k)
+        (found-outside p parents y (n y (not-owned a y (and-left (foreign a y) _ h))) (f y (and-left (contains (c .inputs) y) _ i))) k)

@@ -1,12 +1,11 @@
 -- A name is never in a query's inputs without being found in a scope around it: for the Rust's way to analyse, of any sheet, inputs that
 -- rose from comprehensions included.
 use mathlib.Core.Path.{_≡_, refl, sym, ap, _∙_, subst}
-use mathlib.Core.Bool.{Bool, true, false, cond, not}
-use mathlib.Core.List.{List, [], _∷_, _++_, foldl, List·Memᴰ, List·Memᴰ·cases-cons, List·Memᴰ·append-cases, List·Memᴰ·not-nil}
+use mathlib.Core.Bool.{Bool, false, cond}
+use mathlib.Core.List.{List, [], _∷_, _++_, foldl, List·Memᴰ·not-nil}
 use mathlib.Core.Logic.{⊎-elim}
-use mathlib.Core.Option.{Option, none, some}
+use mathlib.Core.Option.{Option, some}
 use Prim.Native.Nat.{ℕ, zero, suc}
-use lib.Dec.{eqb}
 use lib.ListN.{length}
 use borrow.Author.Tests.{eq-eqb}
 use Rattle.basics.specs.Truth.{not-both}
@@ -17,55 +16,26 @@ use Rattle.trees.specs.Trees.{Tree, rowOf, chain, outputsOf}
 use Rattle.trees.specs.Traverse.{vars}
 use Rattle.trees.specs.Statements.{stmtsOf}
 use Rattle.scopes.specs.NameSets.{contains, empty, elements}
-use Rattle.scopes.specs.Scopes.{Scope, noScope, owns, addLocal, addUnscoped, addInput, useInput}
+use Rattle.scopes.specs.Scopes.{Scope, noScope, owns, addLocal, addInput, useInput}
 use Rattle.scopes.specs.Gather.{gatherAssignedVars}
 use Rattle.scopes.specs.GatherLocals.{gatherLocalVars}
-use Rattle.scopes.specs.Shadowed.{Found, InputsFound, inputs-found}
-use Rattle.analysis.specs.States.{Fault, sound, QuerySchedule, Run, State, scheduleOf, scopeIn, setScope, setRun, ifSound, inTurn}
+use Rattle.scopes.specs.Shadowed.{InputsFound, inputs-found}
+use Rattle.analysis.specs.States.{Fault, sound, QuerySchedule, Run, State, scheduleOf, scopeIn, setRun, ifSound}
 use Rattle.analysis.specs.Queries.{outputScope, scheduled}
-use Rattle.repeats.specs.Ways.{Way, propagateBy, processStmtsBy, analyzeOutputExprBy, analyzeQueryBy}
+use Rattle.repeats.specs.Ways.{propagateBy, processStmtsBy, analyzeOutputExprBy, analyzeQueryBy}
 use Rattle.repeats.specs.RustWay.{noRun, Answer, take, rustWay, rustAnalyze, rustAnalyzeQuerySnippet}
 use Rattle.repeats.specs.RustWrites.{fault-cases}
 use Rattle.repeats.specs.Beside.{isSound, ifSound-failed}
-use Rattle.inputs.specs.Outside.{flag-found, unscoped-found, output-owns, rise-found}
-use Rattle.inputs.specs.Around.{ScopeOf, gathered, flagged, risen, bound, Around, outer, inside, output, body, all-risen}
-use Rattle.inputs.specs.WayKept.{Holds, Good, good-two, good-scope, good-run, Kept, good-stmts, good-outputs}
-
--- A schedule, and the scopes around its query in which its inputs are found: the analysis of the query below these gave the schedule.
-pub record Placed (sheet : Sheet) (a : QuerySchedule) : Type 0 where
-  pub levels : ℕ
-  pub parents : List Scope
-  pub outputs : List Tree
-  pub around : Around sheet parents (a .query) outputs
-  pub gave : scheduleOf (rustAnalyze levels sheet parents (a .query) outputs .schedules) (a .query) ≡ some a
-  pub found : InputsFound parents (a .scope)
-
--- Each schedule of a table.
-abbrev pub AllPlaced : Sheet → List QuerySchedule → Type 0
-AllPlaced sheet schedules = (a : QuerySchedule) → List·Memᴰ a schedules → Placed sheet a
-
--- The scope of a query in its run.
-abbrev pub scopeAfter : Run → ℕ → Scope
-scopeAfter r q = scopeIn (scheduleOf (r .schedules) q)
-
--- A run of a query below parents: its schedules are placed, and without a fault the query's inputs are found in the parents.
-pub record Known (sheet : Sheet) (parents : List Scope) (q : ℕ) (r : Run) : Type 0 where
-  pub placed : AllPlaced sheet (r .schedules)
-  pub found : r .fault ≡ sound → InputsFound parents (scopeAfter r q)
+use Rattle.inputs.specs.Outside.{flag-found, unscoped-found, output-owns, foreign, rise-found}
+use Rattle.inputs.specs.Around.{ScopeOf, gathered, flagged, bound, Around, outer, inStmt, inOutput, inEvery, all-risen}
+use Rattle.inputs.specs.Placed.{AllPlaced, scopeAfter, Known, placed-append, placed-cons}
+use Rattle.inputs.specs.Steps.{Holds, Good, good-two, good-scope, good-run}
+use Rattle.inputs.specs.WayKept.{Kept, good-stmts, good-outputs}
 
 -- What the query's scope has while it is analysed.
-pub record Good-scope (sheet : Sheet) (parents : List Scope) (q : ℕ) (outputs : List Tree) (sc : Scope) : Type 0 where
+pub record ScopeSoFar (sheet : Sheet) (parents : List Scope) (q : ℕ) (outputs : List Tree) (sc : Scope) : Type 0 where
   pub found : InputsFound parents sc
   pub of : ScopeOf sheet parents q outputs sc
-
--- Two tables, one in front of the other.
-placed-append : (sheet : Sheet) (T U : List QuerySchedule) → AllPlaced sheet T → AllPlaced sheet U → AllPlaced sheet (T ++ U)
-placed-append sheet T U h k a m = ⊎-elim (λ (t : List·Memᴰ a T). h a t) (λ (t : List·Memᴰ a U). k a t) (List·Memᴰ·append-cases T m)
-
--- One more schedule.
-placed-cons : (sheet : Sheet) (a : QuerySchedule) (T : List QuerySchedule) → Placed sheet a → AllPlaced sheet T → AllPlaced sheet (a ∷ T)
-placed-cons sheet a T h k b m =
-    ⊎-elim (λ (e : b ≡ a). subst (Placed sheet) (sym e) h) (λ (t : List·Memᴰ b T). k b t) (List·Memᴰ·cases-cons m)
 
 -- ---- one level, with the claim for what stands below
 
@@ -74,7 +44,7 @@ module _ (sheet : Sheet) (answer : Answer)
     (parents : List Scope) (q : ℕ) (outputs : List Tree) (at : Around sheet parents q outputs) where
   -- What its scope has.
   abbrev S : Scope → Type 0
-  S sc = Good-scope sheet parents q outputs sc
+  S sc = ScopeSoFar sheet parents q outputs sc
 
   -- A run enters the table.
   take-holds : (ps : List Scope) (b : ℕ) (ts : List Tree) → Around sheet ps b ts → Good S (AllPlaced sheet) (take (answer ps b ts))
@@ -91,7 +61,7 @@ module _ (sheet : Sheet) (answer : Answer)
   unfolding propagateBy rustWay
   rises p e h f s n o =
       let c = scopeAfter (answer (p ∷ parents) (rowOf e .third) (outputsOf e)) (rowOf e .third) in
-      let xs = filter (λ x. not (owns (s .scope) x)) (elements (c .inputs)) in
+      let xs = filter (foreign (s .scope)) (elements (c .inputs)) in
       good-scope S (AllPlaced sheet) (foldl addInput (useInput (c .usesInput) (s .scope)) xs)
       (record {
         found = rise-found parents p (s .scope) c n (claim (p ∷ parents) (rowOf e .third) (outputsOf e) h .found f) (o .here .found);
@@ -99,31 +69,31 @@ module _ (sheet : Sheet) (answer : Answer)
       }) s o
 
   -- So the Rust's way keeps it.
-  way-kept : Kept sheet (rustWay sheet answer parents) S (AllPlaced sheet)
+  way-kept : Kept sheet (rustWay sheet answer parents) (stmtsOf sheet q) outputs S (AllPlaced sheet)
   unfolding rustWay take setRun
   way-kept = record {
     flag = λ sc b h. record { found = flag-found parents sc b (h .found); of = flagged sc b (h .of) };
-    extra = λ sc arg h.
+    extra = λ st m e arg is has sc h.
         record {
           found = unscoped-found parents (elements (gatherAssignedVars sheet parents false arg noScope .unscoped)) sc (h .found);
-          of = bound sc arg (h .of);
+          of = bound st m e arg is has sc (h .of);
         };
-    compr = λ e s o.
-        let below = inside parents q outputs at (s .scope) (o .here .of) e in
+    compr = λ st m e n s o.
+        let below = inStmt parents q outputs at (s .scope) (o .here .of) st m e n in
         let t = take-holds (s .scope ∷ parents) (rowOf e .third) (outputsOf e) below s o in
         good-two S (AllPlaced sheet) (take (answer (s .scope ∷ parents) (rowOf e .third) (outputsOf e)))
         (λ u. propagateBy sheet (rustWay sheet answer parents) (u .scope) e u) s o t
         (λ f. rises (s .scope) e below f (take (answer (s .scope ∷ parents) (rowOf e .third) (outputsOf e)) s) (λ x n. n) t);
-    output = λ e s o.
+    output = λ e n s o.
         let p = outputScope (s .scope) in
-        let below = output parents q outputs at (s .scope) (o .here .of) e in
+        let below = inOutput parents q outputs at (s .scope) (o .here .of) e n in
         let t = take-holds (p ∷ parents) (rowOf e .third) (outputsOf e) below s o in
         good-two S (AllPlaced sheet) (take (answer (p ∷ parents) (rowOf e .third) (outputsOf e)))
         (λ u. propagateBy sheet (rustWay sheet answer parents) (outputScope (u .scope)) e u) s o t
         (λ f. rises p e below f (take (answer (p ∷ parents) (rowOf e .third) (outputsOf e)) s) (output-owns (s .scope)) t);
-    body = λ key value b s o.
+    body = λ st m key value domain b is s o.
         take-holds (foldl addLocal noScope (vars (chain key ++ chain value)) ∷ (s .scope ∷ parents)) b []
-        (body parents q outputs at (s .scope) (o .here .of) key value b) s o;
+        (inEvery parents q outputs at (s .scope) (o .here .of) st m key value domain b is) s o;
   }
 
   -- The state in which the query's analysis ends.
@@ -137,8 +107,8 @@ module _ (sheet : Sheet) (answer : Answer)
   last-holds : Holds S (AllPlaced sheet) last
   last-holds =
       let begin : State = record { scope = gatherLocalVars sheet parents (stmtsOf sheet q) outputs; firstUses = []; definitions = []; run = noRun } in
-      good-outputs sheet (rustWay sheet answer parents) S (AllPlaced sheet) way-kept outputs _
-      (good-stmts sheet (rustWay sheet answer parents) S (AllPlaced sheet) way-kept (stmtsOf sheet q) 0 begin
+      good-outputs sheet (rustWay sheet answer parents) (stmtsOf sheet q) outputs S (AllPlaced sheet) way-kept _
+      (good-stmts sheet (rustWay sheet answer parents) (stmtsOf sheet q) outputs S (AllPlaced sheet) way-kept (stmtsOf sheet q) (λ st m. m) 0 begin
       (record {
         here = record { found = inputs-found sheet parents (stmtsOf sheet q) outputs; of = gathered };
         table = λ a m. absurd (List·Memᴰ·not-nil m);
@@ -146,7 +116,7 @@ module _ (sheet : Sheet) (answer : Answer)
 
 -- A run that ends in the state s: its schedules are placed, and the query's inputs are found.
 ended-known : (sheet : Sheet) (levels : ℕ) (parents : List Scope) (q : ℕ) (outputs : List Tree) → Around sheet parents q outputs → (n : ℕ) (s : State)
-    → Holds (Good-scope sheet parents q outputs) (AllPlaced sheet) s
+    → Holds (ScopeSoFar sheet parents q outputs) (AllPlaced sheet) s
     → rustAnalyze levels sheet parents q outputs ≡ ifSound (s .run .fault) (scheduled q n s) (s .run)
     → Known sheet parents q (rustAnalyze levels sheet parents q outputs)
 unfolding scheduled
@@ -174,7 +144,7 @@ ended-known sheet levels parents q outputs at n s o r =
     a : QuerySchedule
     a = record { query = q; scope = s .scope; count = n; definitions = s .definitions }
 
--- No scope has inputs to be found.
+-- The empty scope has no inputs.
 none-found : (parents : List Scope) → InputsFound parents noScope
 unfolding contains empty
 none-found parents x h = absurd (not-both h refl)
