@@ -3,4 +3,5 @@ pub mod Asked
 pub mod Leaving
 pub mod TextLines
 pub mod LineBounds
+pub mod Passed
 pub mod Trials
