@@ -23,7 +23,7 @@ const ARRAY: u16 = 7;
 const OBJECT: u16 = 9;
 
 // The first part of an array or an object, 0 for any other row.
-fn pattern_of(w: Row) -> usize
+pub fn pattern_of(w: Row) -> usize
     ensures { λ r. ⌜ r ≡ cond (isPattern w) (w .first) 0 ⌝ }
 {
     if w.kind == ARRAY {

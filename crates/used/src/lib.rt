@@ -2,6 +2,7 @@
 
 pub mod assigned;
 pub mod first;
+pub mod index;
 pub mod own;
 pub mod reads;
 pub mod undefined;
