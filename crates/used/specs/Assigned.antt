@@ -1,7 +1,7 @@
 -- The walk over a pattern.
 use mathlib.Core.Path.{_≡_, refl, sym, ap, _∙_, subst}
-use mathlib.Core.Bool.{Bool, true, false, cond, _||_}
-use mathlib.Core.List.{List, [], _∷_, _++_, foldl, map}
+use mathlib.Core.Bool.{Bool, true, false, cond}
+use mathlib.Core.List.{List, [], _∷_, _++_, map}
 use mathlib.Core.Logic.{_⊎_, inl, inr}
 use Prim.Native.Nat.{ℕ, _≤_, _<_}
 use native.Mathlib.Omega.{arith}
@@ -24,7 +24,7 @@ use Rattle.uses.specs.Uses.{nameOf, assignedVars}
 use Rattle.branches.specs.Descent.{Onward}
 use Rattle.branches.specs.RowTrees.{row-descends}
 use Rattle.branches.specs.Onwards.{left-falls, onward-low}
-use Rattle.branches.specs.Walks.{aloneAt, overLeaves, leaves-none, leaves-row}
+use Rattle.branches.specs.Walks.{overLeaves, leaves-none, leaves-row}
 use Rattle.gather.specs.declared.scope.Scope.{Scope}
 use Rattle.gather.specs.Sheets.{countsAt, specialAt, sheetAt, Accepted}
 use Rattle.gather.specs.Agrees.{Sets}

@@ -2,18 +2,16 @@
 use mathlib.Core.Path.{_≡_, refl, sym, ap, _∙_, subst}
 use mathlib.Core.Bool.{Bool, true, false, cond}
 use mathlib.Core.List.{List, [], _∷_, _++_, map}
-use Prim.Native.Nat.{ℕ, suc, _+_, _*_, _≤_, _<_}
+use Prim.Native.Nat.{ℕ, suc, _+_, _*_, _≤_}
 use native.Mathlib.Omega.{arith}
 use lib.ListN.{length, getD}
 use borrow.Author.Tests.{eq-eqb, ne-eqb}
 use Rattle.names.specs.declared.Names.{Names}
-use Rattle.turns.specs.Definitions.{Definition}
 use Rattle.trees.specs.declared.Row.{Row}
 use Rattle.trees.specs.Sheet.{rowAt}
-use Rattle.trees.specs.Kinds.{isVar, isPattern, isRefBrack}
-use Rattle.trees.specs.Trees.{Tree, treeAt}
+use Rattle.trees.specs.Kinds.{isPattern, isRefBrack}
+use Rattle.trees.specs.Trees.{treeAt}
 use Rattle.scopes.specs.Scopes as spec
-use Rattle.scopes.specs.Scopes.{owns}
 use Rattle.uses.specs.Uses.{define, assignedVars}
 use Rattle.gather.specs.declared.scope.Scope.{Scope}
 use Rattle.gather.specs.Sheets.{sheetAt, Accepted}

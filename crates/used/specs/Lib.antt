@@ -9,3 +9,4 @@ pub mod Assigned
 pub mod UsedVars
 pub mod Appended
 pub mod Index
+pub mod Defining
