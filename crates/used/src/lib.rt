@@ -5,5 +5,6 @@ pub mod first;
 pub mod index;
 pub mod own;
 pub mod reads;
+pub mod step;
 pub mod undefined;
 pub mod vars;

@@ -1,9 +1,8 @@
 // The names that an expression uses, and the definitions that its brackets make.
 
-use crate::assigned::assigned_vars;
 use crate::index::define_index;
 use crate::index::index_of;
-use crate::own::is_use;
+use crate::step::used_step;
 use branches::kids_of;
 use branches::next_of;
 use gather::scope::Scope;
@@ -13,46 +12,13 @@ use trees::row_at;
 ghost use Prim.Native.Nat.{_≤_, _<_};
 ghost use lib.ListN.{length, getD};
 ghost use Rattle.gather.specs.Sheets.{Accepted};
-ghost use Rattle.used.specs.UsedVars.{UsedVar, UsedStep};
 ghost use Rattle.used.specs.Index.{IndexFits};
 ghost use Rattle.used.specs.Defining.{indexRow, Room, Fresh, Here, Walked, Gathered};
-
-// The kinds of a variable and a bracket.
-const VAR: u16 = 6;
-
-const BRACKET: u16 = 16;
 
 // The names, and how many definitions there are.
 pub struct Used {
     pub names: Names,
     pub count: usize,
-}
-
-// A variable.
-fn used_var(tables: &[u16], scope: Scope, extras: Names, w: Row, names: Names) -> Names
-    requires { ⌜ (8192 ≤ length (now tables)) × (w .name < 128) ⌝ }
-    ensures { λ r. ⌜ UsedVar (now (tables .entry)) scope extras w names r ⌝ }
-{
-    if is_use(tables, scope, extras, w) {
-        let name = w.name as usize;
-        return names.insert(name);
-    }
-    names
-}
-
-// Any expression: a bracket uses the names in its index.
-fn used_step(tables: &[u16], scope: Scope, extras: Names, w: Row, names: Names) -> Names
-    requires { ⌜ Accepted (now tables) × (w .name < 128) × (w .second ≤ getD (now tables) 2 0) ⌝ }
-    ensures { λ r. ⌜ UsedStep (now (tables .entry)) scope extras w names r ⌝ }
-{
-    if w.kind == VAR {
-        return used_var(tables, scope, extras, w, names);
-    }
-    if w.kind == BRACKET {
-        let index = w.second as usize;
-        return assigned_vars(tables, scope, index, names);
-    }
-    names
 }
 
 // No name so far, and as many definitions.
