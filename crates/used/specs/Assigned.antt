@@ -1,7 +1,7 @@
 -- The walk over a pattern.
 use mathlib.Core.Path.{_≡_, refl, sym, ap, _∙_, subst}
-use mathlib.Core.Bool.{Bool, true, false, cond, _||_}
-use mathlib.Core.List.{List, [], _∷_, _++_, foldl, map}
+use mathlib.Core.Bool.{Bool, true, false, cond}
+use mathlib.Core.List.{List, [], _∷_, _++_, map}
 use mathlib.Core.Logic.{_⊎_, inl, inr}
 use Prim.Native.Nat.{ℕ, _≤_, _<_}
 use native.Mathlib.Omega.{arith}
@@ -24,7 +24,7 @@ use Rattle.uses.specs.Uses.{nameOf, assignedVars}
 use Rattle.branches.specs.Descent.{Onward}
 use Rattle.branches.specs.RowTrees.{row-descends}
 use Rattle.branches.specs.Onwards.{left-falls, onward-low}
-use Rattle.branches.specs.Walks.{aloneAt, overLeaves, leaves-none, leaves-row}
+use Rattle.branches.specs.Walks.{overLeaves, leaves-none, leaves-row}
 use Rattle.gather.specs.declared.scope.Scope.{Scope}
 use Rattle.gather.specs.Sheets.{countsAt, specialAt, sheetAt, Accepted}
 use Rattle.gather.specs.Agrees.{Sets}
@@ -149,6 +149,18 @@ module _ (t : List ℕ) where
           go (inl p) = rw (p, var-leaf (rowAt t row) p) (over-is [] (rowAt t row .first))
           go (inr p) = rw (p, none-is) (sym (append-nil (leafAt s (rowAt t row))))
 
+      pub assigned-zero : assignedVars s (treeAt (sheetAt t) 0) ≡ []
+      assigned-zero = assigned-is 0 ∙ none-is
+
+      pub assigned-row : (row : ℕ) → 1 ≤ row → row ≤ getD t 2 0
+          → let w = rowAt t row in let names : ℕ → List ℕ = λ r. assignedVars s (treeAt (sheetAt t) r) in
+          names row ≡ ((leafAt s w ++ names (cond (isPattern w) (w .first) 0)) ++ names (w .next))
+      assigned-row row low high =
+          let w = rowAt t row in
+          let inner = cond (isPattern w) (w .first) 0 in
+          assigned-is row ∙ row-is row low high ∙ ap (λ (l : List ℕ). (leafAt s w ++ l) ++ from (w .next)) (sym (assigned-is inner))
+          ∙ ap (λ (l : List ℕ). (leafAt s w ++ assignedVars s (treeAt (sheetAt t) inner)) ++ l) (sym (assigned-is (w .next)))
+
   module _ (k : Scope) where
     -- The names come to the set, for every scope that the code's stands for.
     abbrev pub AssignedWalk : ℕ → Names → Names → Type 0
@@ -156,13 +168,12 @@ module _ (t : List ℕ) where
 
     module _ (ok : Accepted t) where
       pub assigned-none : (row : ℕ) → row ≡ 0 → (a : Names) → AssignedWalk row a a
-      assigned-none row z a s h = rw (z, assigned-is s 0, none-is s ok) (adds-none a)
+      assigned-none row z a s h = rw (z, assigned-zero s ok) (adds-none a)
 
       pub assigned-turn : (row : ℕ) → (row ≡ 0 → ⊥) → row ≤ getD t 2 0 → (w : Row) → w ≡ rowAt t row
           → (inner : ℕ) → inner ≡ cond (isPattern w) (w .first) 0 → (next : ℕ) → next ≡ w .next → (a b c d : Names)
           → LeafStep k w a b → AssignedWalk inner b c → AssignedWalk next c d → AssignedWalk row a d
       assigned-turn row ne high w is inner i next n a b c d h₀ h₁ h₂ s h =
-          let parts : from s row ≡ ((leafAt s w ++ from s inner) ++ from s next) = rw (i, n, is) (row-is s ok row (omega arith) high) in
-          let p = subst (λ (l : List ℕ). Adds b l c) (assigned-is s inner) (h₁ s h) in
-          let q = subst (λ (l : List ℕ). Adds c l d) (assigned-is s next) (h₂ s h) in
-          subst (λ (l : List ℕ). Adds a l d) (sym (assigned-is s row ∙ parts)) (adds-then a c d _ _ (adds-then a b c _ _ (h₀ s h) p) q)
+          let names : ℕ → List ℕ = λ r. assignedVars s (treeAt (sheetAt t) r) in
+          let parts : names row ≡ ((leafAt s w ++ names inner) ++ names next) = rw (i, n, is) (assigned-row s ok row (omega arith) high) in
+          subst (λ (l : List ℕ). Adds a l d) (sym parts) (adds-then a c d _ _ (adds-then a b c _ _ (h₀ s h) (h₁ s h)) (h₂ s h))

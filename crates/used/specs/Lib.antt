@@ -7,3 +7,6 @@ pub mod Collects
 pub mod Adds
 pub mod Assigned
 pub mod UsedVars
+pub mod Appended
+pub mod Index
+pub mod Defining

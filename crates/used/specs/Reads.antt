@@ -15,7 +15,7 @@ use Rattle.uses.specs.Uses.{readsInput}
 use Rattle.branches.specs.declared.Kids.{Kids}
 use Rattle.branches.specs.Kids.{kidsOf}
 use Rattle.branches.specs.Walks.{alone}
-use Rattle.gather.specs.Sheets.{countsAt, specialAt, sheetAt, Accepted}
+use Rattle.gather.specs.Sheets.{sheetAt, Accepted}
 use Rattle.used.specs.Walk.{exprBy, Walk, walk-none, walk-turn}
 
 -- Whether a variable up to this row passes a test.

@@ -8,7 +8,7 @@ use native.Mathlib.Omega.{arith}
 use lib.ListN.{getD}
 use borrow.Author.Tests.{eq-eqb, ne-eqb}
 use Rattle.trees.specs.declared.Row.{Row}
-use Rattle.trees.specs.Sheet.{Sheet, rowAt}
+use Rattle.trees.specs.Sheet.{rowAt}
 use Rattle.trees.specs.Kinds.{isVar}
 use Rattle.trees.specs.Lists.{find}
 use Rattle.trees.specs.Trees.{Tree, rowOf, treeAt}
@@ -19,7 +19,7 @@ use Rattle.branches.specs.declared.Kids.{Kids}
 use Rattle.branches.specs.Kids.{kidsOf}
 use Rattle.branches.specs.Walks.{alone}
 use Rattle.gather.specs.declared.scope.Scope.{Scope}
-use Rattle.gather.specs.Sheets.{countsAt, specialAt, sheetAt, Accepted}
+use Rattle.gather.specs.Sheets.{sheetAt, Accepted}
 use Rattle.gather.specs.Agrees.{Sets}
 use Rattle.used.specs.Own.{IsUndefined}
 use Rattle.used.specs.Walk.{exprBy, Walk, walk-none, walk-turn}

@@ -8,9 +8,8 @@ use trees::Row;
 use trees::row_at;
 ghost use mathlib.Core.Path.{_≡_};
 ghost use mathlib.Core.Bool.{cond};
-ghost use mathlib.Core.List.{List};
 ghost use Prim.Native.Nat.{_≤_, _<_};
-ghost use lib.ListN.{length, getD};
+ghost use lib.ListN.{getD};
 ghost use Rattle.trees.specs.Kinds.{isPattern};
 ghost use Rattle.gather.specs.Sheets.{Accepted};
 ghost use Rattle.used.specs.Assigned.{LeafStep, AssignedWalk};
@@ -23,7 +22,7 @@ const ARRAY: u16 = 7;
 const OBJECT: u16 = 9;
 
 // The first part of an array or an object, 0 for any other row.
-fn pattern_of(w: Row) -> usize
+pub fn pattern_of(w: Row) -> usize
     ensures { λ r. ⌜ r ≡ cond (isPattern w) (w .first) 0 ⌝ }
 {
     if w.kind == ARRAY {

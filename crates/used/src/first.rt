@@ -7,8 +7,6 @@ use gather::scope::Scope;
 use names::Names;
 use trees::Row;
 use trees::row_at;
-ghost use mathlib.Core.Path.{_≡_};
-ghost use mathlib.Core.List.{List};
 ghost use Prim.Native.Nat.{_≤_, _<_};
 ghost use lib.ListN.{length, getD};
 ghost use Rattle.gather.specs.Sheets.{Accepted};
@@ -17,7 +15,7 @@ ghost use Rattle.used.specs.Firsts.{FirstUse, FirstStep, FirstWalk};
 // The kind of a variable.
 const VAR: u16 = 6;
 
-// A position takes the place of no use: 1 + line * LINE + column.
+// A first use is the word 1 + line * LINE + column, and none is 0.
 const LINE: u64 = 65536;
 
 // A use of a name. The first one stays.
@@ -45,7 +43,7 @@ fn first_step(tables: &[u16], scope: Scope, extras: Names, w: Row, firsts: &mut 
     }
 }
 
-// The expression at a row, with the rest of its chain if `rest`.
+// The expression at a row, with the rest of its chain if `rest`. `firsts` has a word a name.
 pub fn first_uses(
     tables: &[u16],
     scope: Scope,

@@ -2,7 +2,9 @@
 
 pub mod assigned;
 pub mod first;
+pub mod index;
 pub mod own;
 pub mod reads;
+pub mod step;
 pub mod undefined;
 pub mod vars;

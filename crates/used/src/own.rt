@@ -4,7 +4,6 @@ use gather::scope::Scope;
 use gather::special::is_special;
 use names::Names;
 use trees::Row;
-ghost use mathlib.Core.Path.{_≡_};
 ghost use Prim.Native.Nat.{_≤_, _<_};
 ghost use lib.ListN.{length};
 ghost use Rattle.used.specs.Own.{Owns, IsUndefined, IsUse};

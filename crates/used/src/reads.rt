@@ -6,7 +6,6 @@ use gather::special::is_input;
 use trees::Row;
 use trees::row_at;
 ghost use mathlib.Core.Path.{_≡_};
-ghost use mathlib.Core.List.{List};
 ghost use Prim.Native.Nat.{_≤_};
 ghost use lib.ListN.{length, getD};
 ghost use Rattle.uses.specs.Uses.{readsInput};

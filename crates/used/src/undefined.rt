@@ -7,7 +7,6 @@ use gather::scope::Scope;
 use trees::Row;
 use trees::row_at;
 ghost use mathlib.Core.Path.{_≡_};
-ghost use mathlib.Core.List.{List};
 ghost use Prim.Native.Nat.{_≤_, _<_};
 ghost use lib.ListN.{length, getD};
 ghost use Rattle.gather.specs.Sheets.{Accepted};

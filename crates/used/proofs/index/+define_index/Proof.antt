@@ -1,0 +1,138 @@
+-- The walk goes on to later rows only, and what the calls on the way append is what a row's turn appends.
+use mathlib.Core.Path.{_≡_, _∙_}
+use Prim.Native.Nat.{ℕ, _<_}
+use native.Mathlib.Omega.{arith}
+use borrow.Author.Needs.{needs}
+use borrow.Fn.Kinds.{In}
+use borrow.Fn.PlainCycle.{Measures, is, falls, and}
+use Rattle.trees.specs.Sheet.{rowAt, row-fields}
+use Rattle.gather.specs.Walking.{remains, row-low, low-name}
+use Rattle.used.specs.Assigned.{LeafCalls, leaf-calls}
+use Rattle.used.specs.Index.{index-none, leaf-fits, inner-fits, next-fits, index-turn}
+use Rattle.used.proofs.index.define_index.Reads as define-index
+use Rattle.used.proofs.index.define_index.Kinds as kinds
+use Rattle.used.proofs.index.+define_index.Lts-define_index as lts
+use Rattle.branches.proofs.next_of.Reads as next-of-reads
+use Rattle.used.proofs.assigned.pattern_of.Reads as pattern-of-reads
+use Rattle.used.proofs.index.define_leaf.Reads as define-leaf-reads
+use Rattle.trees.proofs.row_at.Reads as row-at-reads
+use Rattle.used.proofs.index.+define_index.{statement}
+use Rattle.used.proofs.index.+define_index.Tie.{close}
+
+abbrev μ : Measures 2 kinds.ps ℕ
+μ κs a = remains (a .0 .now) (a .1 .1 .1 .0)
+
+abbrev here : ℕ → In 2 kinds.ps
+here m = and 2 kinds.ps (is 2 kinds.ps μ m) define-index.Pre
+
+abbrev below : ℕ → In 2 kinds.ps
+below m = and 2 kinds.ps (falls 2 kinds.ps _<_ μ m) define-index.Pre
+
+abbrev known : ℕ → lts.Claims
+known m = (
+  row-at-reads.Asked,
+  row-at-reads.Learnt,
+  pattern-of-reads.Asked,
+  pattern-of-reads.Learnt,
+  next-of-reads.Asked,
+  next-of-reads.Learnt,
+  define-leaf-reads.Asked,
+  define-leaf-reads.Learnt,
+  below m,
+  define-index.Post,
+)
+
+returns : (m : ℕ) → lts.Need-returns (known m) (here m) define-index.Post
+returns m c = index-none _ _ (c .before .before .before .pre .1 .0) _ (c .if1 .taken) _ _ _ _
+
+row-at-requires : (m : ℕ) → lts.Need-row-at-requires (known m) (here m) define-index.Post
+row-at-requires m c κs =
+    let pre = c .before .before .before .pre .1 in
+    (pre .0 .room, row-low _ (pre .0) _ (c .if1 .left) (pre .1))
+
+-- The row that was read.
+row-is : (m : ℕ) (c : lts.After-row-at (known m) (here m) define-index.Post)
+    → c .row-at .result ≡ rowAt (c .before .before .before .before .args .tables .now) (c .before .before .before .before .args .row)
+row-is m c = c .row-at .ensures ∙ row-fields _ _
+
+pattern-of-requires : (m : ℕ) → lts.Need-pattern-of-requires (known m) (here m) define-index.Post
+pattern-of-requires m c κs = search needs
+
+next-of-requires : (m : ℕ) → lts.Need-next-of-requires (known m) (here m) define-index.Post
+next-of-requires m c κs = search needs
+
+leaf-requires : (m : ℕ) → lts.Need-define-leaf-requires (known m) (here m) define-index.Post
+leaf-requires m c κs =
+    let n = c .before in
+    let r = n .before .before in
+    let start = r .before .before .before .before in
+    let pre = start .pre .1 in (
+      rw (row-is m r) (low-name _ (pre .0) _ (r .before .if1 .left) (pre .1)),
+      leaf-fits _ _ (pre .0) _ (r .before .if1 .left) (pre .1) _ (row-is m r) _ (n .before .pattern-of .ensures) _ (n .next-of .ensures)
+          (start .args .statement) (start .args .used) _ _ (pre .2),
+    )
+
+ready : (m : ℕ) (c : lts.After-next-of (known m) (here m) define-index.Post)
+    → LeafCalls (c .before .before .before .before .before .before .args .tables .now) m (c .before .pattern-of .result) (c .next-of .result)
+ready m c =
+    let r = c .before .before in
+    let start = r .before .before .before .before in
+    leaf-calls _ (start .pre .1 .0) _ (r .before .if1 .left) (start .pre .1 .1) m (start .pre .0) _ (row-is m r) _ (c .before .pattern-of .ensures) _ (c .next-of .ensures)
+
+inner-requires : (m : ℕ) → lts.Need-define-index-requires (known m) (here m) define-index.Post
+inner-requires m c κs =
+    let n = c .before .before .before .before .before in
+    let r = n .before .before in
+    let pre = r .before .before .before .before .pre .1 in
+    let k = ready m n .inner in
+    let d = c .before .before .before in (
+      k .0,
+      (
+        pre .0,
+        k .1,
+        inner-fits _ _ (pre .0) _ (r .before .if1 .left) (pre .1) _ (row-is m r) _ (n .before .pattern-of .ensures) _ (n .next-of .ensures)
+            _ _ _ _ (pre .2) _ _ _ (d .define-leaf .ensures) _ (omega (arith, d .define-leaf .kept .1 .1 .1 .1 .1 .0)),
+      ),
+    )
+
+next-requires : (m : ℕ) → lts.Need-define-index-requires-2 (known m) (here m) define-index.Post
+next-requires m c κs =
+    let n = c .before .before .before .before .before .before .before .before .before in
+    let r = n .before .before in
+    let pre = r .before .before .before .before .pre .1 in
+    let k = ready m n .next in
+    let d = c .before .before .before .before .before .before .before in
+    let i = c .before .before .before in (
+      k .0,
+      (
+        pre .0,
+        k .1,
+        next-fits _ _ (pre .0) _ (r .before .if1 .left) (pre .1) _ (row-is m r) _ (n .before .pattern-of .ensures) _ (n .next-of .ensures)
+            _ _ _ _ (pre .2) _ _ _ (d .define-leaf .ensures) _ _ (i .define-index .ensures) _
+            (omega (arith, d .define-leaf .kept .1 .1 .1 .1 .1 .0, i .define-index .kept .1 .1 .1 .1 .1 .1 .0)),
+      ),
+    )
+
+same-length : (m : ℕ) → lts.Need-same-length (known m) (here m) define-index.Post
+same-length m c = search needs
+
+returns-2 : (m : ℕ) → lts.Need-returns-2 (known m) (here m) define-index.Post
+returns-2 m c =
+    let n = c .before .before .before .before .before .before .before .before .before .before .before .before in
+    let r = n .before .before in
+    let pre = r .before .before .before .before .pre .1 in
+    index-turn _ _ (pre .0) _ (r .before .if1 .left) (pre .1) _ (row-is m r) _ (n .before .pattern-of .ensures) _ (n .next-of .ensures)
+    _ _ _ _ _ _ _ _ _ _ (c .before .before .before .before .before .before .before .before .before .before .define-leaf .ensures) (c .before .before .before .before .before .before .define-index .ensures) (c .before .before .define-index2 .ensures)
+
+pub +define-index-spec : {M : Type 1} → statement M
++define-index-spec = close μ λ m.
+    lts.spec (known m) (here m) define-index.Post
+    (returns m)
+    (row-at-requires m)
+    (pattern-of-requires m)
+    (next-of-requires m)
+    (leaf-requires m)
+    (inner-requires m)
+    (next-requires m)
+    (same-length m)
+    (returns-2 m)

@@ -1,0 +1,165 @@
+-- The walk over an index that defines its names.
+use mathlib.Core.Path.{_≡_, refl, sym, ap, _∙_, subst}
+use mathlib.Core.Bool.{Bool, true, false, cond}
+use mathlib.Core.List.{List, [], _∷_, _++_, map}
+use Prim.Native.Nat.{ℕ, suc, _+_, _*_, _≤_}
+use native.Mathlib.Omega.{arith}
+use lib.ListN.{length, getD}
+use borrow.Author.Tests.{eq-eqb, ne-eqb}
+use Rattle.names.specs.declared.Names.{Names}
+use Rattle.trees.specs.declared.Row.{Row}
+use Rattle.trees.specs.Sheet.{rowAt}
+use Rattle.trees.specs.Kinds.{isPattern, isRefBrack}
+use Rattle.trees.specs.Trees.{treeAt}
+use Rattle.scopes.specs.Scopes as spec
+use Rattle.uses.specs.Uses.{define, assignedVars}
+use Rattle.gather.specs.declared.scope.Scope.{Scope}
+use Rattle.gather.specs.Sheets.{sheetAt, Accepted}
+use Rattle.gather.specs.Agrees.{Sets}
+use Rattle.used.specs.Own.{Holds, Owns}
+use Rattle.used.specs.Assigned.{leafAt, assigned-zero, assigned-row}
+use Rattle.used.specs.Appended.{Appended, appended-none, appended-then, Pushed}
+
+-- ---- lengths
+
+module _ {A B : Type 0} where
+  pub map-length : (f : A → B) (l : List A) → length (map f l) ≡ length l
+  map-length f [] = refl
+  map-length f (x ∷ l) = ap suc (map-length f l)
+
+  map-append : (f : A → B) (k l : List A) → map f (k ++ l) ≡ (map f k ++ map f l)
+  map-append f [] l = refl
+  map-append f (x ∷ k) l = ap (λ (r : List B). f x ∷ r) (map-append f k l)
+
+module _ {A : Type 0} where
+  pub append-length : (k l : List A) → length (k ++ l) ≡ length k + length l
+  append-length [] l = omega arith
+  append-length (x ∷ k) l = let e = append-length k l in omega (arith, e)
+
+-- ---- what `index_of` answers
+
+module _ (w : Row) where
+  pub is-bracket : w .kind ≡ 16 → w .second ≡ cond (isRefBrack w) (w .second) 0
+  is-bracket e = sym (rw (eq-eqb (w .kind) 16 e))
+
+  pub no-bracket : (w .kind ≡ 16 → ⊥) → 0 ≡ cond (isRefBrack w) (w .second) 0
+  no-bracket ne = sym (rw (ne-eqb (w .kind) 16 ne))
+
+-- ---- names that are defined
+
+module _ (k : Scope) where
+  -- There is room for a row for each name on the list, for a scope that the code's stands for.
+  pub record Fits (names : spec.Scope → List ℕ) (count size : ℕ) : Type 0 where
+    pub scope : spec.Scope
+    pub sets : Sets k scope
+    pub low : 4 * (count + length (names scope)) ≤ size
+
+  -- The names on the list were defined from those in the set, for every scope that the code's stands for.
+  pub record Defined (i : ℕ) (names : spec.Scope → List ℕ) (used : Names) (ws rs : List ℕ) (a b : ℕ) : Type 0 where
+    pub count : (s : spec.Scope) → Sets k s → b ≡ a + length (names s)
+    pub rows : (s : spec.Scope) → Sets k s → (l : List ℕ) → Holds used l → Appended ws rs a b (map (λ (x : ℕ). define i x l) (names s))
+
+  abbrev pub LeafFits : Row → ℕ → ℕ → Type 0
+  LeafFits w count size = Fits (λ s. leafAt s w) count size
+
+  abbrev pub LeafDefined : ℕ → Row → Names → List ℕ → List ℕ → ℕ → ℕ → Type 0
+  LeafDefined i w used ws rs a b = Defined i (λ s. leafAt s w) used ws rs a b
+
+  pub defined-none : (i : ℕ) (names : spec.Scope → List ℕ) (used : Names) (ws : List ℕ) (a : ℕ)
+      → ((s : spec.Scope) → Sets k s → names s ≡ []) → Defined i names used ws ws a a
+  defined-none i names used ws a none = record {
+    count = λ s h. rw (none s h) (omega arith);
+    rows = λ s h l e. rw (none s h) (appended-none ws a);
+  }
+
+  pub defined-then : (i : ℕ) (m n : spec.Scope → List ℕ) (used : Names) (ws us rs : List ℕ) (a b c : ℕ)
+      → Defined i m used ws us a b → Defined i n used us rs b c → Defined i (λ s. m s ++ n s) used ws rs a c
+  defined-then i m n used ws us rs a b c p q = record {
+    count = λ s h. omega (arith, p .count s h, q .count s h, append-length (m s) (n s));
+    rows = λ s h l e.
+        subst (Appended ws rs a c) (sym (map-append (λ (x : ℕ). define i x l) (m s) (n s)))
+        (appended-then ws us rs a b c _ _ (p .rows s h l e) (q .rows s h l e));
+  }
+
+  pub defined-as : (i : ℕ) (m n : spec.Scope → List ℕ) (used : Names) (ws rs : List ℕ) (a b : ℕ)
+      → ((s : spec.Scope) → m s ≡ n s) → Defined i m used ws rs a b → Defined i n used ws rs a b
+  defined-as i m n used ws rs a b is p = record {
+    count = λ s h. rw (sym (is s)) (p .count s h);
+    rows = λ s h l e. rw (sym (is s)) (p .rows s h l e);
+  }
+
+  -- ---- a leaf
+
+  module _ (i : ℕ) (w : Row) (used : Names) (ws : List ℕ) (a : ℕ) where
+    pub leaf-undefined : (w .kind ≡ 6 → ⊥) → LeafDefined i w used ws ws a a
+    leaf-undefined ne = defined-none i (λ s. leafAt s w) used ws a (λ s h. rw (ne-eqb (w .kind) 6 ne))
+
+    module _ (v : w .kind ≡ 6) (o : Bool) (owned : Owns k (w .name) o) where
+      pub leaf-not-own : o ≡ false → LeafDefined i w used ws ws a a
+      leaf-not-own p = defined-none i (λ s. leafAt s w) used ws a (λ s h. rw (eq-eqb (w .kind) 6 v, sym (owned s h), p))
+
+      own-is : o ≡ true → (s : spec.Scope) → Sets k s → leafAt s w ≡ w .name ∷ []
+      own-is p s h = rw (eq-eqb (w .kind) 6 v, sym (owned s h), p)
+
+      pub leaf-room : o ≡ true → (size : ℕ) → LeafFits w a size → 4 * a + 4 ≤ size
+      leaf-room p size f =
+          let e : length (leafAt (f .scope) w) ≡ 1 = ap length (own-is p (f .scope) (f .sets)) in
+          omega (arith, e, f .low)
+
+      pub leaf-defined : o ≡ true → (rs : List ℕ) → Pushed i (w .name) used a ws rs → LeafDefined i w used ws rs a (a + 1)
+      leaf-defined p rs put = record {
+        count = λ s h. rw (own-is p s h) refl;
+        rows = λ s h l e. rw (own-is p s h) (put l e);
+      }
+
+-- ---- the walk
+
+module _ (t : List ℕ) (k : Scope) where
+  abbrev names : ℕ → spec.Scope → List ℕ
+  names row s = assignedVars s (treeAt (sheetAt t) row)
+
+  abbrev pub IndexFits : ℕ → ℕ → ℕ → Type 0
+  IndexFits row count size = Fits k (λ s. assignedVars s (treeAt (sheetAt t) row)) count size
+
+  abbrev pub IndexDefined : ℕ → ℕ → Names → List ℕ → List ℕ → ℕ → ℕ → Type 0
+  IndexDefined i row used ws rs a b = Defined k i (λ s. assignedVars s (treeAt (sheetAt t) row)) used ws rs a b
+
+  module _ (ok : Accepted t) where
+    pub index-none : (row : ℕ) → row ≡ 0 → (i : ℕ) (used : Names) (ws : List ℕ) (a : ℕ) → IndexDefined i row used ws ws a a
+    index-none row z i used ws a = defined-none k i (names row) used ws a (λ s h. rw (z, assigned-zero t s ok))
+
+    module _ (row : ℕ) (ne : row ≡ 0 → ⊥) (high : row ≤ getD t 2 0) (w : Row) (is : w ≡ rowAt t row)
+        (inner : ℕ) (i-is : inner ≡ cond (isPattern w) (w .first) 0) (next : ℕ) (n-is : next ≡ w .next) where
+      parts : (s : spec.Scope) → ((leafAt s w ++ names inner s) ++ names next s) ≡ names row s
+      parts s = sym (rw (i-is, n-is, is) (assigned-row t s ok row (omega arith) high))
+
+      sum : (s : spec.Scope) → length (names row s) ≡ length (leafAt s w) + length (names inner s) + length (names next s)
+      sum s =
+          ap length (sym (parts s)) ∙ append-length (leafAt s w ++ names inner s) (names next s)
+          ∙ ap (λ (n : ℕ). n + length (names next s)) (append-length (leafAt s w) (names inner s))
+
+      module _ (i : ℕ) (used : Names) (a size : ℕ) (fits : IndexFits row a size) where
+        pub leaf-fits : LeafFits k w a size
+        leaf-fits = record { scope = fits .scope; sets = fits .sets; low = omega (arith, fits .low, sum (fits .scope)) }
+
+        module _ (ws us : List ℕ) (b : ℕ) (leaf : LeafDefined k i w used ws us a b) where
+          pub inner-fits : (n : ℕ) → n ≡ size → IndexFits inner b n
+          inner-fits n e =
+              let s = fits .scope in
+              record { scope = s; sets = fits .sets; low = omega (arith, e, fits .low, sum s, leaf .count s (fits .sets)) }
+
+          pub next-fits : (vs : List ℕ) (c : ℕ) → IndexDefined i inner used us vs b c → (n : ℕ) → n ≡ size → IndexFits next c n
+          next-fits vs c d n e =
+              let s = fits .scope in
+              record {
+                scope = s;
+                sets = fits .sets;
+                low = omega (arith, e, fits .low, sum s, leaf .count s (fits .sets), d .count s (fits .sets));
+              }
+
+      pub index-turn : (i : ℕ) (used : Names) (ws us vs rs : List ℕ) (a b c d : ℕ) → LeafDefined k i w used ws us a b
+          → IndexDefined i inner used us vs b c → IndexDefined i next used vs rs c d → IndexDefined i row used ws rs a d
+      index-turn i used ws us vs rs a b c d p q r =
+          defined-as k i (λ s. (leafAt s w ++ names inner s) ++ names next s) (names row) used ws rs a d parts
+          (defined-then k i (λ s. leafAt s w ++ names inner s) (names next) used ws vs rs a c d
+          (defined-then k i (λ s. leafAt s w) (names inner) used ws us vs a b c p q) r)

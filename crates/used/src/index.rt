@@ -1,0 +1,98 @@
+// The definitions that the index of a bracket makes: of each name in it, from the names that what is indexed uses.
+
+use crate::assigned::pattern_of;
+use crate::own::owns;
+use branches::next_of;
+use gather::scope::Scope;
+use names::Names;
+use trees::Row;
+use trees::row_at;
+ghost use mathlib.Core.Path.{_≡_};
+ghost use mathlib.Core.Bool.{cond};
+ghost use Prim.Native.Nat.{_+_, _*_, _≤_, _<_};
+ghost use lib.ListN.{length, getD};
+ghost use Rattle.trees.specs.Kinds.{isRefBrack};
+ghost use Rattle.gather.specs.Sheets.{Accepted};
+ghost use Rattle.used.specs.Appended.{Pushed};
+ghost use Rattle.used.specs.Index.{LeafFits, LeafDefined, IndexFits, IndexDefined};
+
+// The kinds of a variable and a bracket.
+const VAR: u16 = 6;
+
+const BRACKET: u16 = 16;
+
+// The index of a bracket, 0 for any other row.
+pub fn index_of(w: Row) -> usize
+    ensures { λ r. ⌜ r ≡ cond (isRefBrack w) (w .second) 0 ⌝ }
+{
+    if w.kind == BRACKET {
+        return w.second as usize;
+    }
+    0
+}
+
+// Row `count`: the statement defines the name from the names `used`.
+fn push_definition(
+    statement: usize,
+    name: usize,
+    used: Names,
+    count: usize,
+    definitions: &mut [u64],
+)
+    requires { ⌜ 4 * count + 4 ≤ length (now definitions) ⌝ }
+    ensures { λ _. ⌜ Pushed statement name used count (now (definitions .entry)) (now (definitions .exit)) ⌝ }
+{
+    let at = 4 * count;
+    let words = used.words;
+    definitions[at] = statement as u64;
+    definitions[at + 1] = name as u64;
+    definitions[at + 2] = words[0];
+    definitions[at + 3] = words[1];
+}
+
+// A row of the index: a variable of the query is defined. Hands back the count of rows.
+fn define_leaf(
+    scope: Scope,
+    statement: usize,
+    w: Row,
+    used: Names,
+    count: usize,
+    definitions: &mut [u64],
+) -> usize
+    requires { ⌜ (w .name < 128) × LeafFits scope w count (length (now definitions)) ⌝ }
+    ensures { λ r. ⌜ LeafDefined scope statement w used (now (definitions .entry)) (now (definitions .exit)) count r ⌝ }
+{
+    if w.kind != VAR {
+        return count;
+    }
+    let name = w.name as usize;
+    if owns(scope, name) {
+        push_definition(statement, name, used, count, definitions);
+        return count + 1;
+    }
+    count
+}
+
+// The index at a row, with the rest of its chain. Its definitions are appended from row `count` on; hands back the count of rows.
+pub fn define_index(
+    tables: &[u16],
+    scope: Scope,
+    statement: usize,
+    row: usize,
+    used: Names,
+    count: usize,
+    definitions: &mut [u64],
+) -> usize
+    requires { ⌜ Accepted (now tables) × (row ≤ getD (now tables) 2 0) × IndexFits (now tables) scope row count (length (now definitions)) ⌝ }
+    ensures { λ r. ⌜ IndexDefined (now (tables .entry)) scope statement row used (now (definitions .entry)) (now (definitions .exit)) count r ⌝ }
+{
+    if row == 0 {
+        return count;
+    }
+    let w = row_at(tables, row);
+    let inner = pattern_of(w);
+    let next = next_of(w, true);
+    let mut n = define_leaf(scope, statement, w, used, count, definitions);
+    n = define_index(tables, scope, statement, inner, used, n, definitions);
+    define_index(tables, scope, statement, next, used, n, definitions)
+}

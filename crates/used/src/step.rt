@@ -1,0 +1,43 @@
+// What a row uses by itself.
+
+use crate::assigned::assigned_vars;
+use crate::own::is_use;
+use gather::scope::Scope;
+use names::Names;
+use trees::Row;
+ghost use Prim.Native.Nat.{_≤_, _<_};
+ghost use lib.ListN.{length, getD};
+ghost use Rattle.gather.specs.Sheets.{Accepted};
+ghost use Rattle.used.specs.UsedVars.{UsedVar, UsedStep};
+
+// The kinds of a variable and a bracket.
+const VAR: u16 = 6;
+
+const BRACKET: u16 = 16;
+
+// A variable.
+fn used_var(tables: &[u16], scope: Scope, extras: Names, w: Row, names: Names) -> Names
+    requires { ⌜ (8192 ≤ length (now tables)) × (w .name < 128) ⌝ }
+    ensures { λ r. ⌜ UsedVar (now (tables .entry)) scope extras w names r ⌝ }
+{
+    if is_use(tables, scope, extras, w) {
+        let name = w.name as usize;
+        return names.insert(name);
+    }
+    names
+}
+
+// Any expression: a bracket uses the names in its index.
+pub fn used_step(tables: &[u16], scope: Scope, extras: Names, w: Row, names: Names) -> Names
+    requires { ⌜ Accepted (now tables) × (w .name < 128) × (w .second ≤ getD (now tables) 2 0) ⌝ }
+    ensures { λ r. ⌜ UsedStep (now (tables .entry)) scope extras w names r ⌝ }
+{
+    if w.kind == VAR {
+        return used_var(tables, scope, extras, w, names);
+    }
+    if w.kind == BRACKET {
+        let index = w.second as usize;
+        return assigned_vars(tables, scope, index, names);
+    }
+    names
+}
