@@ -1,33 +1,25 @@
--- The lines that the words give are those of the schedules that they store.
+-- The lines that the words give of a query are those of the schedule that they store.
 use mathlib.Core.Path.{_≡_, refl, sym, ap, ap₂, _∙_}
 use mathlib.Core.Bool.{Bool, cond}
-use mathlib.Core.List.{List, [], _∷_, _++_, map, append-assoc, append-nil}
+use mathlib.Core.List.{List, [], _∷_, _++_, map, append-nil}
 use mathlib.Core.Option.{Option, none, some}
-use Prim.Native.Nat.{ℕ, suc, _+_, _-_, _*_, _/_, _%_, _≤_, _<_}
-use Prim.Native.String.{String}
+use Prim.Native.Nat.{ℕ, _+_, _-_, _*_, _/_, _%_, _<_}
 use native.Mathlib.Omega.{arith}
-use native.Mathlib.Numerals.{add-one}
 use lib.ListN.{getD}
 use Rattle.basics.specs.Ranges.{range}
 use Rattle.names.specs.Sets.{member}
-use Rattle.text.specs.Bytes.{newline, bytes}
-use Rattle.writer.specs.Writes.{Puts, puts-then}
 use Rattle.writer.specs.Decimal.{line}
 use Rattle.turns.specs.Turns as turns
 use Rattle.trees.specs.Lists.{concatMap, isSome}
 use Rattle.trees.specs.Sheet.{nameBound}
 use Rattle.scopes.specs.NameSets.{NameSet, contains, elements}
 use Rattle.scopes.specs.Scopes.{Span, spanIn}
-use Rattle.analysis.specs.States.{QuerySchedule, scheduleOf}
-use Rattle.answers.specs.Rows.{mark, queryRows, placeRows, localRow, setRows, rowsOf}
-use Rattle.answers.specs.Text.{section, answerText}
-use Rattle.answer.specs.Stored.{wordAt, setAt, placeAt, SpanIn, Analysed, StoredAt, Stored}
+use Rattle.analysis.specs.States.{QuerySchedule}
+use Rattle.answers.specs.Rows.{mark, queryRows, placeRows, localRow, setRows}
+use Rattle.answer.specs.Stored.{wordAt, setAt, placeAt, SpanIn, Analysed, StoredAt}
 use Rattle.answer.specs.Sound.{mark-low}
 use Rattle.answer.specs.Ranges.{texts, texts-same, concat-append, concat-concat, concat-map, concat-filter}
-use Rattle.answer.specs.Lines.{puts-as}
 use Rattle.answer.specs.Texts.{queryText, placeLine, placesText, localLine, nameLine, setsText, query-never, query-once, places-never, places-once, sets-never, sets-once}
-
--- ---- a query
 
 module _ (w : List ℕ) (q : ℕ) where
   module _ (a : QuerySchedule) (s : Analysed w q a) where
@@ -104,43 +96,3 @@ module _ (w : List ℕ) (q : ℕ) where
   pub sets-stored : (o : Option QuerySchedule) → StoredAt w q o → concatMap line (setRows q o) ≡ setsText w q
   sets-stored none s = sym (sets-never w q s)
   sets-stored (some a) s = sets-analysed a s
-
--- ---- a section
-
-module _ (rows : ℕ → Option QuerySchedule → List (List ℕ)) (f : ℕ → List ℕ) (heading : String) (n : ℕ) (schedules : List QuerySchedule) where
-  section-same : ((q : ℕ) → 1 ≤ q → q ≤ n → concatMap line (rows q (scheduleOf schedules q)) ≡ f q)
-      → (bytes heading ++ (newline ∷ [])) ++ (texts f 1 (n + 1) ++ (newline ∷ [])) ≡ section heading (rowsOf rows n schedules)
-  unfolding section rowsOf texts
-  section-same same =
-      append-assoc (bytes heading) (newline ∷ []) (texts f 1 (n + 1) ++ (newline ∷ []))
-      ∙ ap (λ (l : List ℕ). bytes heading ++ (newline ∷ (l ++ (newline ∷ []))))
-      (sym (concat-concat line _ (range 1 (suc n)) ∙ ap (texts _ 1) (sym (add-one n)) ∙ texts-same _ f 1 (n + 1) (λ q l u. same q l (omega arith))))
-
--- What a call that writes a section ensures.
-abbrev pub PutsSection : (ℕ → Option QuerySchedule → List (List ℕ)) → String → List ℕ → ℕ → List ℕ → ℕ → List ℕ → ℕ → Type 0
-PutsSection rows heading w n b at c r =
-    (schedules : List QuerySchedule) → Stored w schedules → Puts b at (section heading (rowsOf rows n schedules)) c r
-
-module _ (w : List ℕ) (n : ℕ) (few : n ≤ 32) (b : List ℕ) (at : ℕ) (c : List ℕ) (r : ℕ) where
-  -- The heading, the lines of the queries, and an empty line.
-  pub put-section : (rows : ℕ → Option QuerySchedule → List (List ℕ)) (f : ℕ → List ℕ) (heading : String)
-      → ((q : ℕ) (o : Option QuerySchedule) → StoredAt w q o → concatMap line (rows q o) ≡ f q)
-      → (d : List ℕ) (s : ℕ) → Puts b at (bytes heading ++ (newline ∷ [])) d s
-      → (e : List ℕ) (t k : ℕ) → k ≡ n + 1 → Puts d s (texts f 1 k) e t → Puts e t (newline ∷ []) c r → PutsSection rows heading w n b at c r
-  put-section rows f heading same d s first e t k is lines last schedules stored =
-      puts-as b at c r _ (section heading (rowsOf rows n schedules))
-      (ap (λ (m : ℕ). (bytes heading ++ (newline ∷ [])) ++ (texts f 1 m ++ (newline ∷ []))) is
-      ∙ section-same rows f heading n schedules (λ q l u. same q (scheduleOf schedules q) (stored q l (omega arith))))
-      (puts-then b at (bytes heading ++ (newline ∷ [])) d s _ c r first (puts-then d s (texts f 1 k) e t (newline ∷ []) c r lines last))
-
--- ---- the answer
-
-abbrev pub PutsAnswer : List ℕ → ℕ → List ℕ → ℕ → List ℕ → ℕ → Type 0
-PutsAnswer w n b at c r = (schedules : List QuerySchedule) → Stored w schedules → Puts b at (answerText n schedules) c r
-
-pub put-all : (w : List ℕ) (n : ℕ) (b : List ℕ) (at : ℕ) (c : List ℕ) (r : ℕ) (d : List ℕ) (s : ℕ) (e : List ℕ) (t : ℕ)
-    → PutsSection queryRows "query placed input" w n b at c r → PutsSection placeRows "query place index reached" w n c r d s
-    → PutsSection setRows "query set name line col" w n d s e t → PutsAnswer w n b at e t
-unfolding answerText
-put-all w n b at c r d s e t queries places sets schedules stored =
-    puts-then b at _ c r _ e t (queries schedules stored) (puts-then c r _ d s _ e t (places schedules stored) (sets schedules stored))

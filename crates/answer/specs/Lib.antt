@@ -5,3 +5,4 @@ pub mod Lines
 pub mod Texts
 pub mod Listed
 pub mod Agrees
+pub mod Sections

@@ -31,7 +31,7 @@ pub mark-low : (b : Bool) → mark b ≤ 1
 mark-low true = omega arith
 mark-low false = omega arith
 
-pub held : {A : Type 0} (o : Option A) → isSome o ≡ true → (C : Type 0) → ((a : A) → o ≡ some a → C) → C
+held : {A : Type 0} (o : Option A) → isSome o ≡ true → (C : Type 0) → ((a : A) → o ≡ some a → C) → C
 held none h C f = absurd (not-both h refl)
 held (some a) h C f = f a refl
 

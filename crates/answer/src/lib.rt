@@ -12,7 +12,7 @@ use crate::sets::put_sets;
 ghost use Prim.Native.Nat.{_≤_};
 ghost use lib.ListN.{length};
 ghost use Rattle.answer.specs.Sound.{Sound};
-ghost use Rattle.answer.specs.Agrees.{PutsAnswer};
+ghost use Rattle.answer.specs.Sections.{PutsAnswer};
 
 // The three sections, about this many queries. Answers the place behind them.
 pub fn put_answer(answers: &[u64], queries: usize, answer: &mut [u8], at: usize) -> usize

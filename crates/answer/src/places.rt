@@ -14,7 +14,7 @@ ghost use Rattle.writer.specs.Writes.{Puts};
 ghost use Rattle.answers.specs.Rows.{placeRows};
 ghost use Rattle.answer.specs.Sound.{Sound};
 ghost use Rattle.answer.specs.Texts.{placesText};
-ghost use Rattle.answer.specs.Agrees.{PutsSection};
+ghost use Rattle.answer.specs.Sections.{PutsSection};
 
 // The lines of a query: none where it is never analysed.
 fn put_query_places(answers: &[u64], q: usize, answer: &mut [u8], at: usize) -> usize

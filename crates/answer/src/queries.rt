@@ -12,7 +12,7 @@ ghost use Rattle.writer.specs.Writes.{Puts};
 ghost use Rattle.answers.specs.Rows.{queryRows};
 ghost use Rattle.answer.specs.Sound.{Sound};
 ghost use Rattle.answer.specs.Texts.{queryText};
-ghost use Rattle.answer.specs.Agrees.{PutsSection};
+ghost use Rattle.answer.specs.Sections.{PutsSection};
 
 // The line of a query. One that is never analysed has placed 2.
 fn put_query(answers: &[u64], q: usize, answer: &mut [u8], at: usize) -> usize

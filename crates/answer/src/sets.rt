@@ -18,7 +18,7 @@ ghost use Rattle.answer.specs.Stored.{setAt};
 ghost use Rattle.answer.specs.Sound.{Sound, Bounds};
 ghost use Rattle.answer.specs.Ranges.{texts};
 ghost use Rattle.answer.specs.Texts.{localLine, nameLine, setsText};
-ghost use Rattle.answer.specs.Agrees.{PutsSection};
+ghost use Rattle.answer.specs.Sections.{PutsSection};
 
 // A set of a query: 1 the locals, 2 unscoped, 3 inputs.
 fn set_at(answers: &[u64], q: usize, set: usize) -> Names
@@ -31,6 +31,7 @@ fn set_at(answers: &[u64], q: usize, set: usize) -> Names
     }
 }
 
+// The locals of a query.
 fn put_locals(answers: &[u64], q: usize, answer: &mut [u8], at: usize) -> usize
     requires { ⌜ (4736 ≤ length (now answers)) × (1 ≤ q) × (q ≤ 32) × Bounds (now answers) q ⌝ }
     ensures { λ r. ⌜ Puts (now (answer .entry)) at (texts (localLine (now (answers .entry)) q) 0 128) (now (answer .exit)) r ⌝ }
@@ -47,6 +48,7 @@ fn put_locals(answers: &[u64], q: usize, answer: &mut [u8], at: usize) -> usize
     place
 }
 
+// The names of another set of it, which have no position.
 fn put_names(answers: &[u64], q: usize, set: usize, answer: &mut [u8], at: usize) -> usize
     requires { ⌜ (4736 ≤ length (now answers)) × (1 ≤ q) × (q ≤ 32) × (1 ≤ set) × (set ≤ 3) ⌝ }
     ensures { λ r. ⌜ Puts (now (answer .entry)) at (texts (nameLine (now (answers .entry)) q set) 0 128) (now (answer .exit)) r ⌝ }

@@ -1,6 +1,6 @@
 -- The sections, one behind the other.
 use borrow.Author.Needs.{needs}
-use Rattle.answer.specs.Agrees.{put-all}
+use Rattle.answer.specs.Sections.{put-all}
 use Rattle.answer.proofs.put_answer.Statement.{statement}
 use Rattle.answer.proofs.put_answer.Tie as tie
 

@@ -1,4 +1,4 @@
--- The loop's invariant: the heading and the lines of the queries below q are written.
+-- The loop's invariant: the lines of the queries below q are written behind the heading.
 use mathlib.Core.Path.{_∙_}
 use Prim.Native.Nat.{_+_, _-_, _≤_}
 use native.Mathlib.Omega.{arith}
@@ -9,7 +9,8 @@ use Rattle.answers.specs.Rows.{queryRows}
 use Rattle.answer.specs.Ranges.{texts}
 use Rattle.answer.specs.Lines.{run-first, run-next}
 use Rattle.answer.specs.Texts.{queryText}
-use Rattle.answer.specs.Agrees.{put-section, query-stored}
+use Rattle.answer.specs.Agrees.{query-stored}
+use Rattle.answer.specs.Sections.{put-section}
 use Rattle.answer.proofs.queries.put_queries.Statement.{statement}
 use Rattle.answer.proofs.queries.put_queries.Tie as tie
 
