@@ -10,3 +10,4 @@ pub mod Loops
 pub mod Vars
 pub mod Chains
 pub mod Locals
+pub mod Paths

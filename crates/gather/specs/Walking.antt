@@ -71,6 +71,10 @@ module _ (t : List ℕ) where
     pub chain-call : (m : ℕ) → remains r ≡ m → (next : ℕ) → next ≡ rowAt t r .next → Falls m next
     chain-call m e next ns = rw ns (goes _ m e (row-descends (countsAt t) t (ok .facts) r (omega arith) high .to-next))
 
+    -- The call on the first part.
+    pub first-call : (m : ℕ) → remains r ≡ m → (w : Row) → w ≡ rowAt t r → Falls m (w .first)
+    first-call m e w is = rw is (goes _ m e (row-descends (countsAt t) t (ok .facts) r (omega arith) high .to-first))
+
     -- What the first two fields name are rows.
     pub first-low : (w : Row) → w ≡ rowAt t r → w .first ≤ getD t 2 0
     first-low w is = rw is (onward-low (getD t 2 0) r _ (row-descends (countsAt t) t (ok .facts) r (omega arith) high .to-first))

@@ -6,6 +6,7 @@ pub mod input;
 pub mod locals;
 pub mod loops;
 pub mod outer;
+pub mod paths;
 pub mod scope;
 pub mod spans;
 pub mod special;
