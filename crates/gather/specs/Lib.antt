@@ -11,3 +11,4 @@ pub mod Vars
 pub mod Chains
 pub mod Locals
 pub mod Paths
+pub mod Builtins

@@ -1,6 +1,7 @@
 // Gathering the variables of a query into its scope.
 
 pub mod assigned;
+pub mod builtins;
 pub mod each;
 pub mod input;
 pub mod locals;
