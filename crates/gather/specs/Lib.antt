@@ -12,3 +12,4 @@ pub mod Chains
 pub mod Locals
 pub mod Paths
 pub mod Builtins
+pub mod Extra

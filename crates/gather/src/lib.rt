@@ -3,6 +3,7 @@
 pub mod assigned;
 pub mod builtins;
 pub mod each;
+pub mod extra;
 pub mod input;
 pub mod locals;
 pub mod loops;
