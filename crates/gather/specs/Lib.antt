@@ -13,3 +13,4 @@ pub mod Locals
 pub mod Paths
 pub mod Builtins
 pub mod Extra
+pub mod Statements

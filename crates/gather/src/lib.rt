@@ -12,4 +12,5 @@ pub mod paths;
 pub mod scope;
 pub mod spans;
 pub mod special;
+pub mod statements;
 pub mod vars;
