@@ -3,7 +3,7 @@ use mathlib.Core.Path.{_≡_, subst}
 use mathlib.Core.Bool.{Bool, true, false, cond}
 use mathlib.Core.List.{List}
 use mathlib.Core.Logic.{inl}
-use Prim.Native.Nat.{ℕ, _≤_, _<_}
+use Prim.Native.Nat.{ℕ, zero, suc, _≤_, _<_}
 use native.Mathlib.Omega.{arith}
 use lib.ListN.{getD}
 use Rattle.trees.specs.declared.Row.{Row}
@@ -16,10 +16,18 @@ use Rattle.branches.specs.RowTrees.{row-descends}
 use Rattle.branches.specs.Onwards.{left, left-falls, onward-low, row-onwards, name-low}
 use Rattle.gather.specs.Sheets.{countsAt, Accepted}
 
+left-most : (n v : ℕ) → left n v ≤ suc n
+unfolding left
+left-most n zero = omega arith
+left-most n (suc v) = omega arith
+
 module _ (t : List ℕ) where
   -- The measure of a walk at row r.
   abbrev pub remains : ℕ → ℕ
   remains r = left (getD t 2 0) r
+
+  pub few-remain : Accepted t → (v : ℕ) → remains v ≤ 513
+  few-remain ok v = omega (arith, left-most (getD t 2 0) v, ok .within .few-exprs)
 
   -- A call on row v, from a row with measure m.
   abbrev pub Falls : ℕ → ℕ → Type 0
@@ -70,6 +78,10 @@ module _ (t : List ℕ) where
     -- The call on the rest of a chain.
     pub chain-call : (m : ℕ) → remains r ≡ m → (next : ℕ) → next ≡ rowAt t r .next → Falls m next
     chain-call m e next ns = rw ns (goes _ m e (row-descends (countsAt t) t (ok .facts) r (omega arith) high .to-next))
+
+    -- The call on the first part.
+    pub first-call : (m : ℕ) → remains r ≡ m → (w : Row) → w ≡ rowAt t r → Falls m (w .first)
+    first-call m e w is = rw is (goes _ m e (row-descends (countsAt t) t (ok .facts) r (omega arith) high .to-first))
 
     -- What the first two fields name are rows.
     pub first-low : (w : Row) → w ≡ rowAt t r → w .first ≤ getD t 2 0

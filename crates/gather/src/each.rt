@@ -13,7 +13,7 @@ ghost use Rattle.gather.specs.Sheets.{Accepted};
 ghost use Rattle.gather.specs.Chains.{ReadEach, VarsEach};
 
 // The rest of the chain.
-fn next_at(tables: &[u16], row: usize) -> usize
+pub fn next_at(tables: &[u16], row: usize) -> usize
     requires { ⌜ (8192 ≤ length (now tables)) × (row ≤ 512) ⌝ }
     ensures { λ r. ⌜ r ≡ rowAt (now (tables .entry)) row .next ⌝ }
 {

@@ -35,7 +35,7 @@ pub fn gather_read(
     gather_loop_vars(tables, outer, row, rest, s, spans)
 }
 
-fn is_assign(w: Row) -> bool
+pub fn is_assign(w: Row) -> bool
     ensures { λ r. ⌜ r ≡ isAssign w ⌝ }
 {
     if w.kind == ASSIGN_EQ {

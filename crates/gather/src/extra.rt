@@ -1,0 +1,78 @@
+// `get_extra_arg`: the last parameter of a call of a built-in that has one parameter more than its arity.
+
+use crate::builtins::takes_from;
+use crate::each::next_at;
+use crate::paths::get_path_string;
+use trees::Row;
+use trees::row_at;
+ghost use mathlib.Core.Path.{_≡_};
+ghost use mathlib.Core.List.{List};
+ghost use Prim.Native.Nat.{_≤_, _<_};
+ghost use lib.ListN.{length, getD};
+ghost use Rattle.gather.specs.Sheets.{Accepted};
+ghost use Rattle.gather.specs.Extra.{after, EndAt, CallExtra, ExtraAt};
+
+const CALL: u16 = 13;
+
+// How many expressions a chain has, and the row of the last, or 0.
+pub struct End {
+    pub count: usize,
+    pub last: usize,
+}
+
+impl End {
+    // The same with a row in front.
+    fn after(self, row: usize) -> End
+        requires { ⌜ self .count < 1024 ⌝ }
+        ensures { λ r. ⌜ r ≡ after self row ⌝ }
+    {
+        let count = self.count + 1;
+        if self.count == 0 {
+            return End { count, last: row };
+        }
+        End {
+            count,
+            last: self.last,
+        }
+    }
+}
+
+fn end_of(tables: &[u16], row: usize) -> End
+    requires { ⌜ Accepted (now tables) × (row ≤ getD (now tables) 2 0) ⌝ }
+    ensures { λ r. ⌜ EndAt (now (tables .entry)) row r ⌝ }
+{
+    if row == 0 {
+        return End { count: 0, last: 0 };
+    }
+    let next = next_at(tables, row);
+    let end = end_of(tables, next);
+    end.after(row)
+}
+
+fn call_extra(tables: &[u16], w: Row) -> usize
+    requires { ⌜ Accepted (now tables) × (w .first ≤ getD (now tables) 2 0) × (w .second ≤ getD (now tables) 2 0) ⌝ }
+    ensures { λ r. ⌜ CallExtra (now (tables .entry)) w r ⌝ }
+{
+    let path = get_path_string(tables, w.first as usize);
+    let takes = takes_from(tables, 1, path);
+    let end = end_of(tables, w.second as usize);
+    if takes == end.count {
+        return end.last;
+    }
+    0
+}
+
+// The row of the extra argument of the expression at a row, or 0.
+pub fn get_extra_arg(tables: &[u16], row: usize) -> usize
+    requires { ⌜ Accepted (now tables) × (row ≤ getD (now tables) 2 0) ⌝ }
+    ensures { λ r. ⌜ ExtraAt (now (tables .entry)) row r ⌝ }
+{
+    if row == 0 {
+        return 0;
+    }
+    let w = row_at(tables, row);
+    if w.kind == CALL {
+        return call_extra(tables, w);
+    }
+    0
+}

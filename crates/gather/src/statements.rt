@@ -1,0 +1,86 @@
+// What a statement adds to its query's scope.
+
+use crate::each::gather_read_each;
+use crate::each::gather_vars_each;
+use crate::extra::get_extra_arg;
+use crate::locals::add_locals;
+use crate::scope::Scope;
+use crate::vars::gather_read;
+use crate::vars::gather_vars;
+use crate::vars::is_assign;
+use records::Statement;
+use trees::row_at;
+ghost use mathlib.Core.Path.{_≡_};
+ghost use mathlib.Core.List.{List};
+ghost use Prim.Native.Nat.{_≤_};
+ghost use lib.ListN.{length, getD};
+ghost use Rattle.gather.specs.Sheets.{Accepted};
+ghost use Rattle.gather.specs.Statements.{ExprStep, LiteralStep, StmtStep, Named};
+
+// The forms that are told apart.
+const SOME_VARS: u16 = 1;
+
+const SOME_IN: u16 = 2;
+
+const EXPR: u16 = 3;
+
+const NOT_EXPR: u16 = 4;
+
+// An expression by itself: an assignment binds, and so does an extra argument.
+fn gather_expr(tables: &[u16], outer: &[u64], row: usize, scope: Scope, spans: &mut [u64]) -> Scope
+    requires { ⌜ Accepted (now tables) × (128 ≤ length (now outer)) × (row ≤ getD (now tables) 2 0) × (128 ≤ length (now spans)) ⌝ }
+    ensures { λ r. ⌜ ExprStep (now (tables .entry)) (now (outer .entry)) row scope (now (spans .entry)) r (now (spans .exit)) ⌝ }
+{
+    if row == 0 {
+        return scope;
+    }
+    if is_assign(row_at(tables, row)) {
+        return gather_vars(tables, outer, row, true, false, scope, spans);
+    }
+    let s = gather_read(tables, outer, row, true, scope, spans);
+    let extra = get_extra_arg(tables, row);
+    gather_vars(tables, outer, extra, false, false, s, spans)
+}
+
+// Key and value of an `every` are seen in its body only.
+fn gather_literal(
+    tables: &[u16],
+    outer: &[u64],
+    st: Statement,
+    scope: Scope,
+    spans: &mut [u64],
+) -> Scope
+    requires { ⌜ Accepted (now tables) × (128 ≤ length (now outer)) × Named (now tables) st × (128 ≤ length (now spans)) ⌝ }
+    ensures { λ r. ⌜ LiteralStep (now (tables .entry)) (now (outer .entry)) st scope (now (spans .entry)) r (now (spans .exit)) ⌝ }
+{
+    if st.form == SOME_VARS {
+        return add_locals(tables, st.first as usize, scope, spans);
+    }
+    if st.form == SOME_IN {
+        let mut s = gather_vars_each(tables, outer, st.first as usize, true, scope, spans);
+        s = gather_vars_each(tables, outer, st.second as usize, true, s, spans);
+        return gather_read(tables, outer, st.third as usize, true, s, spans);
+    }
+    if st.form == EXPR {
+        return gather_expr(tables, outer, st.first as usize, scope, spans);
+    }
+    if st.form == NOT_EXPR {
+        return gather_expr(tables, outer, st.first as usize, scope, spans);
+    }
+    gather_read(tables, outer, st.third as usize, true, scope, spans)
+}
+
+// The modifiers come first.
+pub fn gather_stmt(
+    tables: &[u16],
+    outer: &[u64],
+    st: Statement,
+    scope: Scope,
+    spans: &mut [u64],
+) -> Scope
+    requires { ⌜ Accepted (now tables) × (128 ≤ length (now outer)) × Named (now tables) st × (128 ≤ length (now spans)) ⌝ }
+    ensures { λ r. ⌜ StmtStep (now (tables .entry)) (now (outer .entry)) st scope (now (spans .entry)) r (now (spans .exit)) ⌝ }
+{
+    let s = gather_read_each(tables, outer, st.with as usize, scope, spans);
+    gather_literal(tables, outer, st, s, spans)
+}
