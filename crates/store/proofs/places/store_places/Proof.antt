@@ -1,0 +1,88 @@
+-- The loop's invariant: the places below k are written.
+use mathlib.Core.Path.{refl}
+use Prim.Native.Nat.{_+_, _-_, _≤_}
+use native.Mathlib.Omega.{arith}
+use borrow.Author.Needs.{needs}
+use Rattle.store.specs.Writes.{Written, written-none, written-more, written-all}
+use Rattle.store.specs.Words.{placeWord}
+use Rattle.store.proofs.places.store_places.Statement.{statement}
+use Rattle.store.proofs.places.store_places.Tie as tie
+
+abbrev Inv-loop : tie.InvT-loop
+Inv-loop answers₀ base count order reached first k₀ answers k =
+    (k ≤ count) × Written answers₀ answers (4608 + base) k (placeWord order reached)
+
+abbrev μ-loop : tie.MeasureT-loop
+μ-loop answers₀ base count order reached first k₀ answers k = count - k
+
+add-first : tie.Need-add-first Inv-loop μ-loop
+add-first c = search needs
+
+loop-holds : tie.Need-loop-holds Inv-loop μ-loop
+loop-holds c = (omega arith, written-none _ _ _)
+
+mul-index : tie.Need-mul-index Inv-loop μ-loop
+mul-index c = search needs
+
+shared-slice-read-index : tie.Need-shared-slice-read-index Inv-loop μ-loop
+shared-slice-read-index c = search needs
+
+cast-place-word : tie.Need-cast-place-word Inv-loop μ-loop
+cast-place-word c = omega (arith, c .shared-slice-known3 .given (c .before .before .loop .k))
+
+mul-place-word : tie.Need-mul-place-word Inv-loop μ-loop
+mul-place-word c = omega (arith, c .shared-slice-known3 .given (c .before .before .loop .k))
+
+shared-slice-read-place-word : tie.Need-shared-slice-read-place-word Inv-loop μ-loop
+shared-slice-read-place-word c = c .before .before .before .before .before .before .before .pre .3 (c .before .before .before .loop .k) (omega arith)
+
+place-word-requires : tie.Need-place-word-requires Inv-loop μ-loop
+place-word-requires c κs = search needs
+
+add-answers : tie.Need-add-answers Inv-loop μ-loop
+add-answers c = search needs
+
+mul-answers : tie.Need-mul-answers Inv-loop μ-loop
+mul-answers c = search needs
+
+slice-write-answers : tie.Need-slice-write-answers Inv-loop μ-loop
+slice-write-answers c = omega (arith, c .before .before .before .before .loop .inv .1 .long)
+
+add-k : tie.Need-add-k Inv-loop μ-loop
+add-k c = search needs
+
+loop-less : tie.Need-loop-less Inv-loop μ-loop
+loop-less c = search needs
+
+loop-again : tie.Need-loop-again Inv-loop μ-loop
+loop-again c =
+    (omega arith, written-more _ _ _ _ _ (c .before .before .before .before .loop .inv .1) (omega arith) _ (c .place-word .ensures))
+
+same-length : tie.Need-same-length Inv-loop μ-loop
+same-length c = c .before .loop .inv .1 .long
+
+returns : tie.Need-returns Inv-loop μ-loop
+returns c = written-all _ _ _ _ _ (c .before .loop .inv .1) _ (omega arith)
+
+pub store-places-spec : {M : Type 1} → statement M
+store-places-spec =
+    tie.close
+    (tie.spec
+    Inv-loop
+    μ-loop
+    add-first
+    loop-holds
+    mul-index
+    shared-slice-read-index
+    cast-place-word
+    mul-place-word
+    shared-slice-read-place-word
+    place-word-requires
+    add-answers
+    mul-answers
+    slice-write-answers
+    add-k
+    loop-less
+    loop-again
+    same-length
+    returns)

@@ -1,0 +1,46 @@
+-- Words written one after the other into a list.
+use mathlib.Core.Path.{_≡_, refl, sym, ap, _∙_, subst}
+use mathlib.Core.List.{List}
+use mathlib.Core.Logic.{_⊎_, inl, inr}
+use Prim.Native.Nat.{ℕ, _+_, _≤_, _<_}
+use native.Mathlib.Omega.{arith}
+use lib.ListN.{length, getD, set, length-set}
+use lib.Seq.{getD-set-same, getD-set-other}
+use Rattle.basics.specs.Truth.{eq-cases}
+
+-- The list v is w, with f 0 to f (n - 1) from `at` up.
+pub record Written (w v : List ℕ) (at n : ℕ) (f : ℕ → ℕ) : Type 0 where
+  pub long : length v ≡ length w
+  pub within : (i : ℕ) → i < n → getD v (at + i) 0 ≡ f i
+  pub below : (i : ℕ) → i < at → getD v i 0 ≡ getD w i 0
+  pub above : (i : ℕ) → at + n ≤ i → getD v i 0 ≡ getD w i 0
+
+-- The words of a list.
+abbrev pub from : List ℕ → ℕ → ℕ
+from words i = getD words i 0
+
+module _ (w : List ℕ) (at : ℕ) (f : ℕ → ℕ) where
+  pub written-none : Written w w at 0 f
+  written-none = record {
+    long = refl;
+    within = λ i l. absurd (omega arith);
+    below = λ i l. refl;
+    above = λ i l. refl;
+  }
+
+  module _ (v : List ℕ) (n : ℕ) (h : Written w v at n f) where
+    pub written-more : at + n < length w → (x : ℕ) → x ≡ f n → Written w (set v (at + n) x) at (n + 1) f
+    written-more room x is = record {
+      long = length-set v (at + n) x ∙ h .long;
+      within = λ i l. go i l (eq-cases i n);
+      below = λ i l. getD-set-other v (at + n) i x 0 (λ e. omega (arith, e)) ∙ h .below i l;
+      above = λ i l. getD-set-other v (at + n) i x 0 (λ e. omega (arith, e)) ∙ h .above i (omega arith);
+    }
+      where
+        go : (i : ℕ) → i < n + 1 → (i ≡ n) ⊎ (i ≡ n → ⊥) → getD (set v (at + n) x) (at + i) 0 ≡ f i
+        go i l (inl e) =
+            ap (λ (k : ℕ). getD (set v (at + n) x) (at + k) 0) e ∙ getD-set-same v (at + n) x 0 (omega (arith, h .long, room)) ∙ is ∙ ap f (sym e)
+        go i l (inr ne) = getD-set-other v (at + n) (at + i) x 0 (λ e. ne (omega (arith, e))) ∙ h .within i (omega (arith, l, ne))
+
+    pub written-all : (m : ℕ) → n ≡ m → Written w v at m f
+    written-all m e = subst (λ (k : ℕ). Written w v at k f) e h

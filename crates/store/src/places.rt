@@ -1,0 +1,25 @@
+// The places of a query, behind the blocks: twice the statement's index, and 1 more where it was reached.
+
+use answer::layout::PLACES;
+ghost use mathlib.Core.Path.{_≡_};
+ghost use Prim.Native.Nat.{ℕ, _+_, _*_, _≤_, _<_};
+ghost use lib.ListN.{length, getD};
+ghost use Rattle.store.specs.Writes.{Written};
+ghost use Rattle.store.specs.Words.{placeWord};
+
+fn place_word(index: u16, reached: u16) -> u64
+    ensures { λ r. ⌜ r ≡ 2 * index + reached ⌝ }
+{
+    2 * (index as u64) + reached as u64
+}
+
+pub fn store_places(answers: &mut [u64], base: usize, count: usize, order: &[u16], reached: &[u16])
+    requires { ⌜ (4736 ≤ length (now answers)) × (base + count ≤ 128) × (count ≤ length (now order)) × ((k : ℕ) → k < count → getD (now order) k 0 < length (now reached)) ⌝ }
+    ensures { λ _. ⌜ Written (now (answers .entry)) (now (answers .exit)) (4608 + base) count (placeWord (now (order .entry)) (now (reached .entry))) ⌝ }
+{
+    let first = PLACES + base;
+    for k in 0..count {
+        let index = order[k];
+        answers[first + k] = place_word(index, reached[index as usize]);
+    }
+}
