@@ -5,6 +5,7 @@ pub mod builtins;
 pub mod each;
 pub mod extra;
 pub mod input;
+pub mod local_vars;
 pub mod locals;
 pub mod loops;
 pub mod outer;
