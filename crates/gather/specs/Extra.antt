@@ -30,7 +30,7 @@ last-of : (x : Tree) (l : List Tree) (n : ℕ) → length l ≡ n → last (x �
 last-of x [] n h = rw (sym h)
 last-of x (y ∷ l) n h = rw (ne-eqb n 0 (λ z. omega arith))
 
--- No built-in takes none, and then there is no argument.
+-- Where there is no built-in, 0 stands for what it takes: a chain of no arguments has no last.
 beyond-is : (o : Option Builtin) (args : List Tree) → beyond o args ≡ cond (eqb (takes o) (length args)) (last args) none
 beyond-is none [] = refl
 beyond-is none (e ∷ args) = rw (ne-eqb 0 (length (e ∷ args)) (λ z. omega arith))

@@ -15,3 +15,4 @@ pub mod Paths
 pub mod Builtins
 pub mod Extra
 pub mod Statements
+pub mod Queries

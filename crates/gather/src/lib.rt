@@ -6,6 +6,7 @@ pub mod each;
 pub mod enclose;
 pub mod extra;
 pub mod input;
+pub mod local_vars;
 pub mod locals;
 pub mod loops;
 pub mod outer;

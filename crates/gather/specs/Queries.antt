@@ -1,0 +1,190 @@
+-- The statements of a query, row by row, and its scope.
+use mathlib.Core.Path.{_≡_, refl, sym, ap, _∙_, subst}
+use mathlib.Core.Bool.{Bool, true, false, _&&_, _||_, false≢true}
+use mathlib.Core.List.{List, [], _∷_, _++_, foldl}
+use mathlib.Core.Logic.{_⊎_, inl, inr, ⊎-elim}
+use mathlib.Core.Option.{Option, none, some}
+use Prim.Native.Nat.{ℕ, zero, suc, _+_, _/_, _≤_, _<_}
+use native.Mathlib.Omega.{arith}
+use lib.Dec.{eqb}
+use lib.ListN.{length, getD}
+use borrow.Author.Tests.{eqb-true}
+use Rattle.basics.specs.Truth.{and-left, and-right, or-cases}
+use Rattle.basics.specs.Lists.{all}
+use Rattle.records.specs.declared.Statement.{Statement}
+use Rattle.records.specs.Layout.{statementAt, firstAt}
+use Rattle.fields.specs.Fields.{expressions, first, second, third, fieldFrom, forms, formFields, limitOf}
+use Rattle.accepted.specs.Kinds.{all-getD}
+use Rattle.trees.specs.Sheet.{sheetOf}
+use Rattle.trees.specs.Trees.{treeAt, chain}
+use Rattle.trees.specs.Statements.{Stmt, noStatement, literalOf, stmtsFrom, stmtsOf}
+use Rattle.scopes.specs.Scopes as spec
+use Rattle.scopes.specs.Scopes.{noScope}
+use Rattle.scopes.specs.Gather.{gatherVars}
+use Rattle.scopes.specs.GatherLocals.{gatherStmt, gatherLocalVars}
+use Rattle.branches.specs.RowTrees.{rows-length, rows-at}
+use Rattle.branches.specs.Onwards.{left, left-falls, onward-low}
+use Rattle.gather.specs.declared.scope.Scope.{Scope}
+use Rattle.gather.specs.Sheets.{countsAt, sheetAt, Accepted}
+use Rattle.gather.specs.Agrees.{NoNames, WithoutLocals}
+use Rattle.gather.specs.Outers.{Outer}
+use Rattle.gather.specs.Spans.{Agrees, Steps, agrees-without}
+use Rattle.gather.specs.Chains.{chainAt, VarsEach}
+use Rattle.gather.specs.Statements.{Named, StmtStep}
+
+abbrev isThere : Option spec.Span → Bool
+isThere none = false
+isThere (some p) = true
+
+-- ---- what the table of forms says: the first three fields are expressions
+
+exprField : ℕ → Bool
+exprField n = eqb (fieldFrom n .section) 0 || eqb (fieldFrom n .section) expressions
+
+exprFields : ℕ → Bool
+exprFields fs = exprField (fs / first) && (exprField (fs / second) && exprField (fs / third))
+
+forms-have : all exprFields forms ≡ true
+unfolding exprFields exprField forms fieldFrom
+forms-have = refl
+
+none-have : exprFields 0 ≡ true
+unfolding exprFields exprField fieldFrom
+none-have = refl
+
+form-has : (form : ℕ) → exprFields (formFields form) ≡ true
+unfolding formFields
+form-has form = all-getD exprFields forms 0 forms-have none-have form
+
+module _ (t : List ℕ) where
+  expr-low : (n v : ℕ) → exprField n ≡ true → v ≤ limitOf (countsAt t) (fieldFrom n .section) → v ≤ getD t 2 0
+  unfolding exprField
+  expr-low n v p h = ⊎-elim none-low some-low (or-cases (eqb (fieldFrom n .section) 0) (eqb (fieldFrom n .section) expressions) p)
+    where
+      none-low : eqb (fieldFrom n .section) 0 ≡ true → v ≤ getD t 2 0
+      none-low q = let low : v ≤ limitOf (countsAt t) 0 = rw (eqb-true (fieldFrom n .section) 0 q) at h in omega arith
+
+      some-low : eqb (fieldFrom n .section) expressions ≡ true → v ≤ getD t 2 0
+      some-low q = let low : v ≤ limitOf (countsAt t) expressions = rw (eqb-true (fieldFrom n .section) expressions q) at h in low
+
+  -- The statement at a row.
+  abbrev stmtAt : ℕ → Stmt
+  stmtAt row = record { literal = literalOf (sheetAt t) (statementAt t row); withMods = chain (treeAt (sheetAt t) (statementAt t row .with)) }
+
+  abbrev stmtsAt : ℕ → List Stmt
+  stmtsAt row = stmtsFrom (sheetAt t) (length (sheetAt t .statements)) row
+
+  abbrev pub stmtsLeft : ℕ → ℕ
+  stmtsLeft row = left (getD t 3 0) row
+
+  module _ (ok : Accepted t) where
+    pub named-at : (row : ℕ) → (row ≡ 0 → ⊥) → row ≤ getD t 3 0 → Named t (statementAt t row)
+    unfolding exprFields
+    named-at row there high =
+        let k = ok .facts .statement row (omega arith) high in
+        let fs = formFields (statementAt t row .form) in
+        let p = form-has (statementAt t row .form) in
+        let q = and-right (exprField (fs / first)) _ p in
+        record {
+          first = expr-low (fs / first) _ (and-left (exprField (fs / first)) _ p) (k .in-first .in-range);
+          second = expr-low (fs / second) _ (and-left (exprField (fs / second)) _ q) (k .in-second .in-range);
+          third = expr-low (fs / third) _ (and-right (exprField (fs / second)) _ q) (k .in-third .in-range);
+          with = k .in-with;
+        }
+
+    -- ---- the chain of statements
+
+    count-is : length (sheetAt t .statements) ≡ getD t 3 0
+    unfolding sheetAt sheetOf
+    count-is = rows-length (statementAt t) (getD t 3 0)
+
+    statement-is : (i : ℕ) → i < getD t 3 0 → getD (sheetAt t .statements) i noStatement ≡ statementAt t (suc i)
+    unfolding sheetAt sheetOf
+    statement-is i h = rows-at (statementAt t) (getD t 3 0) i noStatement h
+
+    -- Is the number d enough from a row on?
+    abbrev Enough : ℕ → ℕ → Type 0
+    Enough d row = (row ≡ 0) ⊎ ((row ≤ getD t 3 0) × (getD t 3 0 < d + row))
+
+    falls : (d row v : ℕ) → getD t 3 0 < suc d + row → (v ≡ 0) ⊎ ((row < v) × (v ≤ getD t 3 0)) → Enough d v
+    falls d row v h (inl z) = inl z
+    falls d row v h (inr a) = inr (a .1, omega (arith, a .0))
+
+    stable : (d row : ℕ) → Enough d row → stmtsFrom (sheetAt t) (suc d) row ≡ stmtsFrom (sheetAt t) d row
+    unfolding stmtsFrom
+    stable zero zero e = refl
+    stable (suc d) zero e = refl
+    stable zero (suc i) (inl z) = absurd (omega arith)
+    stable zero (suc i) (inr h) = absurd (omega (arith, h .0, h .1))
+    stable (suc d) (suc i) (inl z) = absurd (omega arith)
+    stable (suc d) (suc i) (inr h) =
+        let on = ok .facts .statement (suc i) (omega arith) (h .0) .next in
+        rw (statement-is i (omega (arith, h .0))) (ap (λ (l : List Stmt). stmtAt (suc i) ∷ l) (stable d _ (falls d (suc i) _ (h .1) on)))
+
+    none-from : (d : ℕ) → stmtsFrom (sheetAt t) d 0 ≡ []
+    unfolding stmtsFrom
+    none-from zero = refl
+    none-from (suc d) = refl
+
+    stmts-none : stmtsAt 0 ≡ []
+    stmts-none = none-from (length (sheetAt t .statements))
+
+    stmts-row : (row : ℕ) → (row ≡ 0 → ⊥) → row ≤ getD t 3 0 → stmtsAt row ≡ stmtAt row ∷ stmtsAt (statementAt t row .next)
+    unfolding stmtsFrom
+    stmts-row zero there high = absurd (there refl)
+    stmts-row (suc i) there high =
+        sym (stable (length (sheetAt t .statements)) (suc i) (inr (high, omega (arith, count-is)))) ∙ rw (statement-is i (omega arith))
+
+    -- The call on the next statement.
+    pub next-stmt : (row m : ℕ) → (row ≡ 0 → ⊥) → row ≤ getD t 3 0 → stmtsLeft row ≡ m → (st : Statement) → st ≡ statementAt t row
+        → (stmtsLeft (st .next) < m) × (st .next ≤ getD t 3 0)
+    next-stmt row m there high e st is =
+        let on = ok .facts .statement row (omega arith) high .next in
+        rw is (subst (λ (n : ℕ). stmtsLeft (statementAt t row .next) < n) e (left-falls (getD t 3 0) row _ (omega arith) high on), onward-low (getD t 3 0) row _ on)
+
+  module _ (outer : List ℕ) where
+    abbrev pub StmtsStep : ℕ → Scope → List ℕ → Scope → List ℕ → Type 0
+    StmtsStep row = Steps outer (λ parents s. foldl (gatherStmt (sheetAt t) parents) s (stmtsAt row))
+
+    pub step-none : Accepted t → (row : ℕ) → row ≡ 0 → (k : Scope) (l : List ℕ) → StmtsStep row k l k l
+    step-none ok row z k l parents o s a = rw (z, stmts-none ok) a
+
+    pub step-row : Accepted t → (row : ℕ) → (row ≡ 0 → ⊥) → row ≤ getD t 3 0 → (st : Statement) → st ≡ statementAt t row
+        → (k s₀ s₁ : Scope) (l l₀ l₁ : List ℕ) → StmtStep t outer st k l s₀ l₀ → StmtsStep (st .next) s₀ l₀ s₁ l₁ → StmtsStep row k l s₁ l₁
+    step-row ok row there high st is k s₀ s₁ l l₀ l₁ h₀ h₁ parents o s a =
+        let here = subst (λ (v : Statement). StmtStep t outer v k l s₀ l₀) is h₀ in
+        let on = subst (λ (v : Statement). StmtsStep (v .next) s₀ l₀ s₁ l₁) is h₁ in
+        subst (λ (ss : List Stmt). Agrees s₁ l₁ (foldl (gatherStmt (sheetAt t) parents) s ss)) (sym (stmts-row ok row there high))
+        (on parents o _ (here parents o s a))
+
+    -- ---- a query's scope
+
+    -- The outputs are the chains at two rows.
+    abbrev pub Gathered : ℕ → ℕ → ℕ → Scope → List ℕ → Type 0
+    Gathered q key value r m = (parents : List spec.Scope) → Outer outer parents
+        → Agrees r m (gatherLocalVars (sheetAt t) parents (stmtsOf (sheetAt t) q) (chainAt t key ++ chainAt t value))
+
+    fold-both : {A B : Type 0} (f : B → A → B) (s : B) (k l : List A) → foldl f s (k ++ l) ≡ foldl f (foldl f s k) l
+    fold-both f s [] l = refl
+    fold-both f s (x ∷ k) l = fold-both f (f s x) k l
+
+    first-is : (q : ℕ) → 1 ≤ q → q ≤ getD t 4 0 → getD (0 ∷ sheetAt t .queries) q 0 ≡ firstAt t q
+    unfolding sheetAt sheetOf
+    first-is zero a b = absurd (omega arith)
+    first-is (suc q) a b = rows-at (firstAt t) (getD t 4 0) q 0 b
+
+    pub first-low : Accepted t → (q : ℕ) → 1 ≤ q → q ≤ getD t 4 0 → firstAt t q ≤ getD t 3 0
+    first-low ok q a b = ok .facts .query q a b .in-first
+
+    pub gathered : (q : ℕ) → 1 ≤ q → q ≤ getD t 4 0 → (row : ℕ) → row ≡ firstAt t q → (key value : ℕ) (k s₀ s₁ s₂ r : Scope) (l l₀ l₁ l₂ : List ℕ)
+        → NoNames k → StmtsStep row k l s₀ l₀ → VarsEach t outer key false s₀ l₀ s₁ l₁ → VarsEach t outer value false s₁ l₁ s₂ l₂
+        → WithoutLocals s₂ r → Gathered q key value r l₂
+    unfolding gatherLocalVars stmtsOf
+    gathered q low high row is key value k s₀ s₁ s₂ r l l₀ l₁ l₂ empty h₀ h₁ h₂ last parents o =
+        let start : Agrees k l noScope = record { sets = empty; placed = λ x p e. absurd (none-placed p e) } in
+        let h = h₂ parents o _ (h₁ parents o _ (h₀ parents o _ start)) in
+        rw (first-is q low high, sym is, fold-both (gatherVars (sheetAt t) parents false) (foldl (gatherStmt (sheetAt t) parents) noScope (stmtsAt row)) (chainAt t key) (chainAt t value))
+        (agrees-without s₂ l₂ r _ h last)
+      where
+        none-placed : (p : spec.Span) → none ≡ some p → ⊥
+        none-placed p e = false≢true (ap isThere e)

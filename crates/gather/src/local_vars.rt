@@ -1,0 +1,46 @@
+// `gather_local_vars`: the scope of a query before its statements are analysed.
+
+use crate::each::gather_vars_each;
+use crate::scope::Scope;
+use crate::statements::gather_stmt;
+use records::first_at;
+use records::statement_at;
+ghost use mathlib.Core.Path.{_≡_};
+ghost use mathlib.Core.List.{List};
+ghost use Prim.Native.Nat.{_≤_};
+ghost use lib.ListN.{length, getD};
+ghost use Rattle.gather.specs.Sheets.{Accepted};
+ghost use Rattle.gather.specs.Queries.{StmtsStep, Gathered};
+
+// The statements from a row on.
+fn gather_stmts(tables: &[u16], outer: &[u64], row: usize, scope: Scope, spans: &mut [u64]) -> Scope
+    requires { ⌜ Accepted (now tables) × (128 ≤ length (now outer)) × (row ≤ getD (now tables) 3 0) × (128 ≤ length (now spans)) ⌝ }
+    ensures { λ r. ⌜ StmtsStep (now (tables .entry)) (now (outer .entry)) row scope (now (spans .entry)) r (now (spans .exit)) ⌝ }
+{
+    if row == 0 {
+        return scope;
+    }
+    let st = statement_at(tables, row);
+    let s = gather_stmt(tables, outer, st, scope, spans);
+    gather_stmts(tables, outer, st.next as usize, s, spans)
+}
+
+// The query's outputs are the chains at `key` and `value`.
+pub fn gather_local_vars(
+    tables: &[u16],
+    outer: &[u64],
+    query: usize,
+    key: usize,
+    value: usize,
+    spans: &mut [u64],
+) -> Scope
+    requires { ⌜ Accepted (now tables) × (128 ≤ length (now outer)) × (1 ≤ query) × (query ≤ getD (now tables) 4 0) × (key ≤ getD (now tables) 2 0) × (value ≤ getD (now tables) 2 0) × (128 ≤ length (now spans)) ⌝ }
+    ensures { λ r. ⌜ Gathered (now (tables .entry)) (now (outer .entry)) query key value r (now (spans .exit)) ⌝ }
+{
+    let none = Scope::empty();
+    let row = first_at(tables, query) as usize;
+    let mut s = gather_stmts(tables, outer, row, none, spans);
+    s = gather_vars_each(tables, outer, key, false, s, spans);
+    s = gather_vars_each(tables, outer, value, false, s, spans);
+    s.remove_shadowed()
+}
