@@ -9,7 +9,7 @@ use native.Mathlib.Omega.{arith}
 use lib.Dec.{eqb}
 use lib.ListN.{length, getD}
 use borrow.Author.Tests.{eqb-true, eqb-false}
-use Rattle.basics.specs.Truth.{bool-cases, lt-cases}
+use Rattle.basics.specs.Truth.{bool-cases, lt-cases, eq-cases}
 use Rattle.names.specs.Sets.{member}
 use Rattle.names.specs.Laws.{member-below}
 use Rattle.turns.specs.Turns as turns
@@ -138,3 +138,20 @@ module _ (w : List ℕ) (q : ℕ) (k : Scope) (l : List ℕ) (count base : ℕ) 
       go : (eqb (a .query) p ≡ true) ⊎ (eqb (a .query) p ≡ false) → StoredAt v p (cond (eqb (a .query) p) (some a) (scheduleOf schedules p))
       go (inl e) = rw e (subst (λ (n : ℕ). Analysed v n a) (sym is ∙ eqb-true (a .query) p e) (stored-new a g))
       go (inr e) = rw e (stored-at p from to (λ x. eqb-false (a .query) p e (is ∙ sym x)) behind (scheduleOf schedules p) (h p from to))
+
+  -- The places of all queries then end at or below the next base.
+  pub behind-next : Behind w q base → (p : ℕ) → 1 ≤ p → p ≤ 32 → 1 ≤ wordAt v p 0 → wordAt v p 9 + wordAt v p 2 ≤ base + count
+  behind-next behind p from to h = go (eq-cases p q)
+    where
+      nine : wordAt v q 9 ≡ base
+      nine = word 9 (omega arith) ∙ b .head 9 (omega arith)
+
+      second : wordAt v q 2 ≡ count
+      second = word 2 (omega arith) ∙ b .head 2 (omega arith)
+
+      go : (p ≡ q) ⊎ (p ≡ q → ⊥) → wordAt v p 9 + wordAt v p 2 ≤ base + count
+      go (inl e) = subst (λ (n : ℕ). wordAt v n 9 + wordAt v n 2 ≤ base + count) (sym e) (omega (arith, nine, second))
+      go (inr ne) =
+          let first = same p from to ne 0 (omega arith) in
+          let k = behind p from to ne (omega (arith, first, h)) in
+          omega (arith, same p from to ne 9 (omega arith), same p from to ne 2 (omega arith), k)
