@@ -8,4 +8,3 @@ pub mod Statements
 pub mod ListLaws
 pub mod TreeRows
 pub mod StatementRows
-pub mod StatementWalks
