@@ -8,3 +8,4 @@ pub mod Statements
 pub mod ListLaws
 pub mod TreeRows
 pub mod StatementRows
+pub mod StatementWalks
