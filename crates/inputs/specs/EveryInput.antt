@@ -2,13 +2,12 @@
 -- at one place.
 use mathlib.Core.Path.{_≡_, refl, sym, ap, _∙_, subst}
 use mathlib.Core.Bool.{Bool, true, false}
-use mathlib.Core.List.{List, [], _∷_, List·Memᴰ, List·Memᴰ·head, List·Memᴰ·tail}
-use mathlib.Core.Logic.{_⊎_, inl, inr, ⊎-elim}
+use mathlib.Core.List.{List, [], _∷_}
+use mathlib.Core.Logic.{⊎-elim}
 use mathlib.Core.Option.{Option, none, some}
 use Prim.Native.Nat.{ℕ}
 use borrow.Author.Tests.{eqb-true}
 use Rattle.basics.specs.Truth.{bool-cases, not-both}
-use Rattle.trees.specs.Lists.{find, isSome}
 use Rattle.trees.specs.Sheet.{Sheet}
 use Rattle.trees.specs.Trees.{Tree}
 use Rattle.records.specs.Layout.{deepest}
@@ -17,6 +16,7 @@ use Rattle.scopes.specs.Scopes.{Scope, varExists}
 use Rattle.scopes.specs.Shadowed.{Found, InputsFound}
 use Rattle.analysis.specs.States.{sound, QuerySchedule, Run, scheduleOf, scopeIn}
 use Rattle.analysis.specs.Queries.{analyze, analyzeQuerySnippet, scheduleIn}
+use Rattle.sizes.specs.Lists.{find-some}
 use Rattle.repeats.specs.Lists.{orElse, orElse-none}
 use Rattle.repeats.specs.Distinct.{distinct}
 use Rattle.repeats.specs.Places.{family}
@@ -29,18 +29,6 @@ use Rattle.repeats.specs.QueryRepeats.{queriesOnce, rust-schedules}
 use Rattle.inputs.specs.Around.{Around, outer}
 use Rattle.inputs.specs.Placed.{Placed, scopeAfter}
 use Rattle.inputs.specs.RustInputs.{rust-known, every-placed}
-
--- What is found in a list is on it, and passes the test.
-find-some : {A : Type 0} {a : A} (p : A → Bool) (l : List A) → find p l ≡ some a → List·Memᴰ a l × (p a ≡ true)
-find-some p [] h = absurd (not-both (ap isSome h) refl)
-find-some {A} {a} p (x ∷ l) h = go (bool-cases (p x)) (λ q. find-some p l q)
-  where
-    go : (p x ≡ true) ⊎ (p x ≡ false) → (find p l ≡ some a → List·Memᴰ a l × (p a ≡ true)) → List·Memᴰ a (x ∷ l) × (p a ≡ true)
-    go (inl e) rest =
-        let r : some x ≡ some a = rw e at h in
-        let s : a ≡ x = cc in
-        (List·Memᴰ·head s, ap p s ∙ e)
-    go (inr e) rest = let r = rest (rw e at h) in (List·Memᴰ·tail (r .0), r .1)
 
 -- A query is analysed below the scopes around it, and neither it nor one below it has a schedule yet: without a fault its inputs are found
 -- in these scopes.
