@@ -23,6 +23,14 @@ pub fn clear_words(buffer: &mut [u64])
     }
 }
 
+pub fn clear_bytes(buffer: &mut [u8])
+    ensures { λ _. ⌜ now (buffer .exit) ≡ replicate (length (now (buffer .entry))) 0 ⌝ }
+{
+    for place in 0..buffer.len() {
+        buffer[place] = 0;
+    }
+}
+
 // The numbers below n at the front; the rest stays.
 pub fn count_up(buffer: &mut [u16], n: usize)
     requires { ⌜ (n ≤ 65536) × (n ≤ length (now buffer)) ⌝ }

@@ -8,7 +8,7 @@ ghost use mathlib.Core.Bool.{cond};
 ghost use Prim.Native.Nat.{_-_, _<_};
 ghost use lib.ListN.{getD};
 ghost use Rattle.basics.specs.Lists.{all};
-ghost use Rattle.names.specs.Sets.{member, members, Empty, Only, Inserted, Removed, Union, Difference, Next};
+ghost use Rattle.names.specs.Sets.{member, members, isEmpty, Empty, Only, Inserted, Removed, Union, Difference, Intersection, Next};
 ghost use Rattle.names.specs.Lowest.{LowestBit};
 
 // How many words a set has. The code says it here alone, and the proofs in proofs/Size.antt.
@@ -70,6 +70,24 @@ impl Names {
             rest.words[i] = self.words[i] & !other.words[i];
         }
         rest
+    }
+
+    // The members that are `other`'s too.
+    pub fn intersection(self, other: Names) -> Names
+        ensures { λ r. ⌜ Intersection (self .words) (other .words) (r .words) ⌝ }
+    {
+        let mut shared = self;
+        for i in 0..WORDS {
+            shared.words[i] = self.words[i] & other.words[i];
+        }
+        shared
+    }
+
+    // Is there no member?
+    pub fn is_empty(self) -> bool
+        ensures { λ r. ⌜ r ≡ isEmpty (self .words) ⌝ }
+    {
+        self.is_subset(Names::empty())
     }
 
     // Is every member one of `other`'s?
