@@ -55,7 +55,7 @@ up-below by k h p = ltb-true by k (rw (lt-leb k 32 h) at p)
 module _ (c : Counts) (t : List ℕ) (few : Within c) (ok : Accepted c t) where
   -- ---- what `enclosing` says of a row
 
-  encloses-at-place : (k : ℕ) (n : Named (namings c t) k) → 32 < k → k ≤ exprRow (c .exprs) → n .naming .place < k
+  pub encloses-at-place : (k : ℕ) (n : Named (namings c t) k) → 32 < k → k ≤ exprRow (c .exprs) → n .naming .place < k
       → queryOf c t k ≡ queryOf c t (n .naming .place)
   encloses-at-place zero n h l p = absurd (omega arith)
   encloses-at-place (suc k) n h l p =

@@ -38,7 +38,7 @@ below-kept = record {
 
 -- ---- the names of recorded definitions
 
-own-below : (sc : Scope) → Below sc → (d : Definition) → ownDefinition sc d ≡ true → d .var < nameBound
+pub own-below : (sc : Scope) → Below sc → (d : Definition) → ownDefinition sc d ≡ true → d .var < nameBound
 unfolding ownDefinition
 own-below sc b d h =
     ltb-true (d .var) nameBound

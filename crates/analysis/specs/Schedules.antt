@@ -62,7 +62,8 @@ module _ (sheet : Sheet) (test : Row → Bool) (rows : all test (sheet .exprs) �
         let s = foldl (analyzeOutputExpr sheet nested parents) t outputs in
         finished S q (length stmts) s (b .holds) (s .run .fault)
 
-    analyze-keeps : (n : ℕ) (parents : List Scope) (q : ℕ) (outputs : List Tree) (r : Run) → all (allRows test) outputs ≡ true → Each S (r .schedules)
+    -- At every level.
+    pub analyze-keeps : (n : ℕ) (parents : List Scope) (q : ℕ) (outputs : List Tree) (r : Run) → all (allRows test) outputs ≡ true → Each S (r .schedules)
         → Each S (analyze n sheet parents q outputs r .schedules)
     unfolding analyze
     analyze-keeps zero parents q outputs r h e = e

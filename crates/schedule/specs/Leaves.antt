@@ -34,7 +34,7 @@ zeros-drop l n z =
 zeros-after : (l : List ℕ) (n : ℕ) → ((i : ℕ) → n ≤ i → getD l i 0 ≡ 0) → l ≡ take n l ++ replicate (length l - n) 0
 zeros-after l n z = sym (take-append-drop n l) ∙ ap (λ (t : List ℕ). take n l ++ t) (zeros-drop l n z)
 
-getD-map-range : (f : ℕ → ℕ) (n i : ℕ) → i < n → getD (map f (range 0 n)) i 0 ≡ f i
+pub getD-map-range : (f : ℕ → ℕ) (n i : ℕ) → i < n → getD (map f (range 0 n)) i 0 ≡ f i
 unfolding range
 getD-map-range f n i h = let e : 0 + i ≡ i = omega arith in go 0 (n - 0) i (omega arith) ∙ ap f e
   where

@@ -12,7 +12,7 @@ use Rattle.records.specs.declared.Counts.{Counts}
 use Rattle.records.specs.Layout.{Within}
 use Rattle.spelling.specs.declared.Special.{Special}
 use Rattle.naming.specs.Lines.{firstLine}
-use Rattle.accepted.specs.Facts.{sheet-facts}
+use Rattle.accepted.specs.Facts.{SheetFacts, sheet-facts}
 use Rattle.trees.specs.Sheet.{nameBound, rowAt, rowsTo, sheetOf}
 use Rattle.branches.specs.Onwards.{name-low}
 use Rattle.scopes.specs.Below.{nameBelow}
@@ -29,9 +29,11 @@ rows-pass p at n h = go (n + 1 - 1) 1 (λ r l m. h r l (omega arith))
         and-intro (p (at a)) (all p (map at (counted (suc a) k))) (g a (omega arith) (omega arith))
         (go k (suc a) (λ r l m. g r (omega arith) (omega arith)))
 
+pub facts-names : (c : Counts) (x : Special) (t : List ℕ) → Within c → SheetFacts c t → NamesBelow (sheetOf c x t)
+unfolding sheetOf
+facts-names c x t few facts =
+    rows-pass nameBelow (rowAt t) (c .exprs) (λ r a b. lt-ltb (rowAt t r .name) nameBound (name-low c t few facts r a b))
+
 -- So what the theorems about recorded names ask of a sheet holds.
 pub low-names : (c : Counts) (x : Special) (t : List ℕ) → Within c → firstLine c t ≡ 0 → NamesBelow (sheetOf c x t)
-unfolding sheetOf
-low-names c x t few fine =
-    rows-pass nameBelow (rowAt t) (c .exprs)
-    (λ r a b. lt-ltb (rowAt t r .name) nameBound (name-low c t few (sheet-facts c t few fine) r a b))
+low-names c x t few fine = facts-names c x t few (sheet-facts c t few fine)
