@@ -1,12 +1,12 @@
 -- A scope's sets as words, and the scope of the definitions.
 use mathlib.Core.Path.{_≡_, refl, sym, ap, ap₂, _∙_}
-use mathlib.Core.Bool.{Bool, true, false, not, _||_, _&&_, and-true, and-false, cond}
-use mathlib.Core.List.{List, [], _∷_}
+use mathlib.Core.Bool.{Bool, true, false, not, _||_, _&&_, and-true, and-false, or-true, cond}
+use mathlib.Core.List.{List, [], _∷_, map, foldl}
 use mathlib.Core.Logic.{_⊎_, inl, inr}
 use mathlib.Core.Option.{some}
 use Prim.Native.Nat.{ℕ}
 use lib.Dec.{eqb}
-use Rattle.names.specs.Sets.{member, Empty, Inserted, Difference}
+use Rattle.names.specs.Sets.{member, Empty, Inserted, Union, Difference}
 use borrow.Author.Tests.{eqb-true, eq-eqb}
 use Rattle.basics.specs.Truth.{bool-cases, bool-ext}
 use Rattle.trees.specs.Lists.{isSome}
@@ -43,6 +43,17 @@ WithFlag k b r = (s : spec.Scope) → Sets k s → Sets r (useInput b s)
 abbrev pub WithoutLocals : Scope → Scope → Type 0
 WithoutLocals k r = (s : spec.Scope) → Sets k s → Sets r (removeShadowed s)
 
+-- Each local is unscoped too.
+abbrev pub openScope : spec.Scope → spec.Scope
+openScope s = foldl addUnscoped s (map (λ (p : spec.Span). p .name) (s .locals))
+
+abbrev pub Opened : Scope → Scope → Type 0
+Opened k r = (s : spec.Scope) → Sets k s → Sets r (openScope s)
+
+-- The locals and the unscoped names of k, the inputs and the flag of j.
+abbrev pub withInputsOf : Scope → Scope → Scope
+withInputsOf k j = record { locals = k .locals; unscoped = k .unscoped; inputs = j .inputs; uses = j .uses }
+
 -- ---- what holds of the definitions' additions
 
 eqb-sym : (a b : ℕ) → eqb a b ≡ eqb b a
@@ -68,6 +79,32 @@ shadowed (p ∷ spans) names x = shadowed spans (remove names (p .name)) x ∙ g
         ≡ (names x && not (isSome (cond (eqb (p .name) x) (some p) (spec.spanIn spans x))))
     go (inl e) is = rw (sym is, e) (sym (and-false (names x)))
     go (inr e) is = rw (sym is, e)
+
+-- The names of spans are unscoped.
+opened-has : (spans : List spec.Span) (s : spec.Scope) (x : ℕ)
+    → contains (foldl addUnscoped s (map (λ (p : spec.Span). p .name) spans) .unscoped) x ≡ (isSome (spec.spanIn spans x) || contains (s .unscoped) x)
+unfolding addUnscoped contains insert
+opened-has [] s x = refl
+opened-has (p ∷ spans) s x = opened-has spans (addUnscoped s (p .name)) x ∙ go (bool-cases (eqb (p .name) x)) (eqb-sym (p .name) x)
+  where
+    go : (eqb (p .name) x ≡ true) ⊎ (eqb (p .name) x ≡ false) → eqb (p .name) x ≡ eqb x (p .name)
+        → (isSome (spec.spanIn spans x) || (eqb x (p .name) || s .unscoped x))
+        ≡ (isSome (cond (eqb (p .name) x) (some p) (spec.spanIn spans x)) || s .unscoped x)
+    go (inl e) is = rw (sym is, e) (or-true (isSome (spec.spanIn spans x)))
+    go (inr e) is = rw (sym is, e)
+
+-- And nothing else changes.
+pub record Rest (s u : spec.Scope) : Type 0 where
+  pub locals : u .locals ≡ s .locals
+  pub inputs : u .inputs ≡ s .inputs
+  pub flag : u .usesInput ≡ s .usesInput
+
+pub opened-rest : (names : List ℕ) (s : spec.Scope) → Rest s (foldl addUnscoped s names)
+unfolding addUnscoped
+opened-rest [] s = record { locals = refl; inputs = refl; flag = refl }
+opened-rest (x ∷ names) s =
+    let h = opened-rest names (addUnscoped s x) in
+    record { locals = h .locals; inputs = h .inputs; flag = h .flag }
 
 -- ---- and so of the code's
 
@@ -120,6 +157,21 @@ module _ (k : Scope) where
     inputs = λ y. shadowed (s .locals) (s .inputs) y ∙ ap₂ (λ (b c : Bool). b && not c) (a .inputs y) (a .locals y) ∙ sym (put-m .has y);
     flag = a .flag;
   }
+
+  pub opened : (l : List ℕ) → Union (k .locals .words) (k .unscoped .words) l
+      → Opened k (record { locals = k .locals; unscoped = record { words = l }; inputs = k .inputs; uses = k .uses })
+  opened l put s a =
+      let rest = opened-rest (map (λ (p : spec.Span). p .name) (s .locals)) s in
+      record {
+        locals = λ y. ap (λ (spans : List spec.Span). isSome (spec.spanIn spans y)) (rest .locals) ∙ a .locals y;
+        unscoped = λ y. opened-has (s .locals) s y ∙ ap₂ (λ (b c : Bool). b || c) (a .locals y) (a .unscoped y) ∙ sym (put .has y);
+        inputs = λ y. ap (λ (names : NameSet). contains names y) (rest .inputs) ∙ a .inputs y;
+        flag = rest .flag ∙ a .flag;
+      }
+
+  pub with-inputs-of : (j : Scope) (s u : spec.Scope) → Sets k s → Sets j u
+      → Sets (withInputsOf k j) (record { locals = s .locals; unscoped = s .unscoped; inputs = u .inputs; usesInput = u .usesInput })
+  with-inputs-of j s u a b = record { locals = a .locals; unscoped = a .unscoped; inputs = b .inputs; flag = b .flag }
 
 pub no-names : (l : List ℕ) → Empty l
     → NoNames (record { locals = record { words = l }; unscoped = record { words = l }; inputs = record { words = l }; uses = false })

@@ -20,7 +20,7 @@ use Rattle.branches.specs.Walks.{alone, leavesBy, leavesBy-none, leavesBy-row}
 use Rattle.gather.specs.declared.scope.Scope.{Scope}
 use Rattle.gather.specs.Sheets.{countsAt, specialAt, sheetAt, Accepted}
 use Rattle.gather.specs.Agrees.{WithLocal, WithUnscoped, WithInput, WithFlag}
-use Rattle.gather.specs.Spans.{spanWord, Agrees, Steps, agrees-local, agrees-unscoped, agrees-input, agrees-flag}
+use Rattle.gather.specs.Spans.{spanWord, Short, Agrees, Steps, agrees-local, agrees-unscoped, agrees-input, agrees-flag}
 use Rattle.gather.specs.Outers.{Exists}
 use Rattle.gather.specs.Exprs.{exprBy}
 use Rattle.gather.specs.Inputs.{fold-vars}
@@ -45,10 +45,10 @@ module _ (t outer : List ℕ) where
     var-special p b is shadow r put parents o s a = rw (p, sym is) (agrees-flag k l r s a b put)
 
     module _ (other : isSpecial (sheetAt t) (w .name) ≡ false) (shadow : Bool) where
-      pub var-local : shadow ≡ true → w .name < length l → (r : Scope) → WithLocal k (w .name) r
+      pub var-local : shadow ≡ true → Short w → w .name < length l → (r : Scope) → WithLocal k (w .name) r
           → (m : List ℕ) → m ≡ set l (w .name) (spanWord w) → AssignVar w shadow k l r m
       unfolding assignVar
-      var-local p low r put m is parents o s a = rw (other, p, is) (agrees-local k l r s a w low put)
+      var-local p short low r put m is parents o s a = rw (other, p, is) (agrees-local k l r s a w short low put)
 
       module _ (plain : shadow ≡ false) (found : Bool) (exists : Exists outer w found) (r : Scope) where
         pub var-input : found ≡ true → WithInput k (w .name) r → AssignVar w shadow k l r l

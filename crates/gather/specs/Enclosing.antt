@@ -20,6 +20,7 @@ use Rattle.scopes.specs.Scopes.{Span, spanIn, isLocal, notBelow, varExists}
 use Rattle.gather.specs.declared.scope.Scope.{Scope}
 use Rattle.gather.specs.Agrees.{Sets}
 use Rattle.gather.specs.Outers.{Outer}
+use Rattle.gather.specs.Spans.{Placed, Agrees}
 
 -- The least line from which on a name exists, with a scope in which it may be a local at a line.
 unfoldable pub leastLine : Scope → ℕ → ℕ → ℕ → ℕ
@@ -92,3 +93,12 @@ encloses-at outer k spans inner h parents o s a lined w low line =
 pub encloses : (outer : List ℕ) (k : Scope) (spans inner : List ℕ) → EnclosedTo outer k spans 128 inner → Encloses outer k spans inner
 encloses outer k spans inner h parents o s a lined =
     record { has = λ w low line. encloses-at outer k spans inner h parents o s a lined w low line }
+
+-- ---- with the words of the locals
+
+pub placed-lined : (l : List ℕ) (s : spec.Scope) → Placed l s → Lined l s
+placed-lined l s h x p is = let w = h x p is in omega (arith, w .col, w .both)
+
+pub enclosed : (outer : List ℕ) (k : Scope) (spans inner : List ℕ) → Encloses outer k spans inner → (parents : List spec.Scope) → Outer outer parents
+    → (s : spec.Scope) → Agrees k spans s → Outer inner (s ∷ parents)
+enclosed outer k spans inner h parents o s a = h parents o s (a .sets) (placed-lined spans s (a .placed))

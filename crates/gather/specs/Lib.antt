@@ -11,6 +11,7 @@ pub mod Loops
 pub mod Vars
 pub mod Chains
 pub mod Locals
+pub mod Bodies
 pub mod Paths
 pub mod Builtins
 pub mod Extra

@@ -15,7 +15,7 @@ use Rattle.scopes.specs.Scopes.{addLocal}
 use Rattle.gather.specs.declared.scope.Scope.{Scope}
 use Rattle.gather.specs.Sheets.{Accepted}
 use Rattle.gather.specs.Agrees.{WithLocal}
-use Rattle.gather.specs.Spans.{spanWord, Agrees, agrees-local}
+use Rattle.gather.specs.Spans.{spanWord, Short, Agrees, agrees-local}
 use Rattle.gather.specs.Exprs.{exprBy, row-is}
 use Rattle.gather.specs.Inputs.{fold-vars}
 use Rattle.gather.specs.Chains.{chainAt, chain-none, chain-row}
@@ -26,8 +26,8 @@ LocalStep w k l r m = (s : spec.Scope) → Agrees k l s → Agrees r m (cond (is
 -- ---- the ways out of `local_step`
 
 module _ (w : Row) (k : Scope) (l : List ℕ) where
-  pub local-var : w .kind ≡ 6 → w .name < length l → (r : Scope) → WithLocal k (w .name) r → (m : List ℕ) → m ≡ set l (w .name) (spanWord w) → LocalStep w k l r m
-  local-var e low r put m is s a = rw (eq-eqb (w .kind) 6 e, is) (agrees-local k l r s a w low put)
+  pub local-var : w .kind ≡ 6 → Short w → w .name < length l → (r : Scope) → WithLocal k (w .name) r → (m : List ℕ) → m ≡ set l (w .name) (spanWord w) → LocalStep w k l r m
+  local-var e short low r put m is s a = rw (eq-eqb (w .kind) 6 e, is) (agrees-local k l r s a w short low put)
 
   pub local-other : (w .kind ≡ 6 → ⊥) → LocalStep w k l k l
   local-other ne s a = rw (ne-eqb (w .kind) 6 ne) a

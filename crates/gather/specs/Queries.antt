@@ -1,9 +1,8 @@
 -- The statements of a query, row by row, and its scope.
 use mathlib.Core.Path.{_≡_, refl, sym, ap, _∙_, subst}
-use mathlib.Core.Bool.{Bool, true, false, _&&_, _||_, false≢true}
-use mathlib.Core.List.{List, [], _∷_, _++_, foldl}
+use mathlib.Core.Bool.{Bool, true, false, _&&_, _||_}
+use mathlib.Core.List.{List, [], _∷_, _++_, foldl, foldl-append}
 use mathlib.Core.Logic.{_⊎_, inl, inr, ⊎-elim}
-use mathlib.Core.Option.{Option, none, some}
 use Prim.Native.Nat.{ℕ, zero, suc, _+_, _/_, _≤_, _<_}
 use native.Mathlib.Omega.{arith}
 use lib.Dec.{eqb}
@@ -28,13 +27,9 @@ use Rattle.gather.specs.declared.scope.Scope.{Scope}
 use Rattle.gather.specs.Sheets.{countsAt, sheetAt, Accepted}
 use Rattle.gather.specs.Agrees.{NoNames, WithoutLocals}
 use Rattle.gather.specs.Outers.{Outer}
-use Rattle.gather.specs.Spans.{Agrees, Steps, agrees-without}
+use Rattle.gather.specs.Spans.{Agrees, Steps, agrees-none, agrees-without}
 use Rattle.gather.specs.Chains.{chainAt, VarsEach}
 use Rattle.gather.specs.Statements.{Named, StmtStep}
-
-abbrev isThere : Option spec.Span → Bool
-isThere none = false
-isThere (some p) = true
 
 -- ---- what the table of forms says: the first three fields are expressions
 
@@ -68,10 +63,10 @@ module _ (t : List ℕ) where
       some-low q = let low : v ≤ limitOf (countsAt t) expressions = rw (eqb-true (fieldFrom n .section) expressions q) at h in low
 
   -- The statement at a row.
-  abbrev stmtAt : ℕ → Stmt
+  abbrev pub stmtAt : ℕ → Stmt
   stmtAt row = record { literal = literalOf (sheetAt t) (statementAt t row); withMods = chain (treeAt (sheetAt t) (statementAt t row .with)) }
 
-  abbrev stmtsAt : ℕ → List Stmt
+  abbrev pub stmtsAt : ℕ → List Stmt
   stmtsAt row = stmtsFrom (sheetAt t) (length (sheetAt t .statements)) row
 
   abbrev pub stmtsLeft : ℕ → ℕ
@@ -126,10 +121,10 @@ module _ (t : List ℕ) where
     none-from zero = refl
     none-from (suc d) = refl
 
-    stmts-none : stmtsAt 0 ≡ []
+    pub stmts-none : stmtsAt 0 ≡ []
     stmts-none = none-from (length (sheetAt t .statements))
 
-    stmts-row : (row : ℕ) → (row ≡ 0 → ⊥) → row ≤ getD t 3 0 → stmtsAt row ≡ stmtAt row ∷ stmtsAt (statementAt t row .next)
+    pub stmts-row : (row : ℕ) → (row ≡ 0 → ⊥) → row ≤ getD t 3 0 → stmtsAt row ≡ stmtAt row ∷ stmtsAt (statementAt t row .next)
     unfolding stmtsFrom
     stmts-row zero there high = absurd (there refl)
     stmts-row (suc i) there high =
@@ -164,11 +159,7 @@ module _ (t : List ℕ) where
     Gathered q key value r m = (parents : List spec.Scope) → Outer outer parents
         → Agrees r m (gatherLocalVars (sheetAt t) parents (stmtsOf (sheetAt t) q) (chainAt t key ++ chainAt t value))
 
-    fold-both : {A B : Type 0} (f : B → A → B) (s : B) (k l : List A) → foldl f s (k ++ l) ≡ foldl f (foldl f s k) l
-    fold-both f s [] l = refl
-    fold-both f s (x ∷ k) l = fold-both f (f s x) k l
-
-    first-is : (q : ℕ) → 1 ≤ q → q ≤ getD t 4 0 → getD (0 ∷ sheetAt t .queries) q 0 ≡ firstAt t q
+    pub first-is : (q : ℕ) → 1 ≤ q → q ≤ getD t 4 0 → getD (0 ∷ sheetAt t .queries) q 0 ≡ firstAt t q
     unfolding sheetAt sheetOf
     first-is zero a b = absurd (omega arith)
     first-is (suc q) a b = rows-at (firstAt t) (getD t 4 0) q 0 b
@@ -181,10 +172,6 @@ module _ (t : List ℕ) where
         → WithoutLocals s₂ r → Gathered q key value r l₂
     unfolding gatherLocalVars stmtsOf
     gathered q low high row is key value k s₀ s₁ s₂ r l l₀ l₁ l₂ empty h₀ h₁ h₂ last parents o =
-        let start : Agrees k l noScope = record { sets = empty; placed = λ x p e. absurd (none-placed p e) } in
-        let h = h₂ parents o _ (h₁ parents o _ (h₀ parents o _ start)) in
-        rw (first-is q low high, sym is, fold-both (gatherVars (sheetAt t) parents false) (foldl (gatherStmt (sheetAt t) parents) noScope (stmtsAt row)) (chainAt t key) (chainAt t value))
+        let h = h₂ parents o _ (h₁ parents o _ (h₀ parents o _ (agrees-none k l empty))) in
+        rw (first-is q low high, sym is, foldl-append (gatherVars (sheetAt t) parents false) (foldl (gatherStmt (sheetAt t) parents) noScope (stmtsAt row)) (chainAt t key) (chainAt t value))
         (agrees-without s₂ l₂ r _ h last)
-      where
-        none-placed : (p : spec.Span) → none ≡ some p → ⊥
-        none-placed p e = false≢true (ap isThere e)

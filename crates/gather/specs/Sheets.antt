@@ -9,6 +9,7 @@ use borrow.Author.Tests.{eq-eqb, ne-eqb}
 use Rattle.records.specs.declared.Counts.{Counts}
 use Rattle.records.specs.Layout.{Within}
 use Rattle.spelling.specs.declared.Special.{Special}
+use Rattle.naming.specs.Lines.{firstLine}
 use Rattle.accepted.specs.Facts.{SheetFacts}
 use Rattle.trees.specs.Sheet.{Sheet, sheetOf, isInput, isSpecial}
 
@@ -33,6 +34,7 @@ module _ (t : List ℕ) where
     pub room : 8192 ≤ length t
     pub within : Within countsAt
     pub facts : SheetFacts countsAt t
+    pub fine : firstLine countsAt t ≡ 0
 
   -- ---- the special names
 

@@ -1,7 +1,7 @@
 -- A query's scope with the places of its locals: a word for each name, its line above its column.
-use mathlib.Core.Path.{_≡_, refl, sym, ap, _∙_}
-use mathlib.Core.Bool.{Bool, true, false}
-use mathlib.Core.List.{List}
+use mathlib.Core.Path.{_≡_, refl, sym, ap, _∙_, subst}
+use mathlib.Core.Bool.{Bool, true, false, false≢true}
+use mathlib.Core.List.{List, map}
 use mathlib.Core.Logic.{_⊎_, inl, inr}
 use mathlib.Core.Option.{Option, none, some}
 use Prim.Native.Nat.{ℕ, _+_, _*_, _<_}
@@ -10,19 +10,31 @@ use lib.ListN.{length, getD, set}
 use lib.Seq.{getD-set-same, getD-set-other}
 use borrow.Author.Tests.{eqb-true, eqb-false}
 use Rattle.basics.specs.Truth.{bool-cases}
+use Rattle.trees.specs.Lists.{isSome}
 use Rattle.trees.specs.declared.Row.{Row}
 use Rattle.scopes.specs.Scopes as spec
-use Rattle.scopes.specs.Scopes.{Span, spanOf, spanIn, addLocal, addUnscoped, addInput, useInput, removeShadowed}
+use Rattle.scopes.specs.Scopes.{Span, spanOf, spanIn, noScope, addLocal, addUnscoped, addInput, useInput, removeShadowed}
 use Rattle.gather.specs.declared.scope.Scope.{Scope}
-use Rattle.gather.specs.Agrees.{Sets, WithLocal, WithUnscoped, WithInput, WithFlag, WithoutLocals}
+use Rattle.gather.specs.Agrees.{Sets, NoNames, WithLocal, WithUnscoped, WithInput, WithFlag, WithoutLocals, openScope, Opened, opened-rest}
 use Rattle.gather.specs.Outers.{Outer}
 
 abbrev pub spanWord : Row → ℕ
 spanWord w = w .line * 65536 + w .col
 
+-- The word n says where p stands.
+pub record SpanWord (n : ℕ) (p : Span) : Type 0 where
+  pub line : p .line < 65536
+  pub col : p .col < 65536
+  pub both : n ≡ p .line * 65536 + p .col
+
+-- The line and the column of a row have room in a word.
+pub record Short (w : Row) : Type 0 where
+  pub line : w .line < 65536
+  pub col : w .col < 65536
+
 -- Each local of s stands where its word says.
 abbrev pub Placed : List ℕ → spec.Scope → Type 0
-Placed l s = (x : ℕ) (p : Span) → spanIn (s .locals) x ≡ some p → getD l x 0 ≡ p .line * 65536 + p .col
+Placed l s = (x : ℕ) (p : Span) → spanIn (s .locals) x ≡ some p → SpanWord (getD l x 0) p
 
 -- The scope k with the words l is the scope s.
 pub record Agrees (k : Scope) (l : List ℕ) (s : spec.Scope) : Type 0 where
@@ -42,21 +54,28 @@ some-is p q e = ap (λ (o : Option Span). or-else o) e
     or-else none = p
     or-else (some x) = x
 
-place-local : (l : List ℕ) (s : spec.Scope) (w : Row) → w .name < length l → Placed l s → Placed (set l (w .name) (spanWord w)) (addLocal s w)
+place-local : (l : List ℕ) (s : spec.Scope) (w : Row) → Short w → w .name < length l → Placed l s → Placed (set l (w .name) (spanWord w)) (addLocal s w)
 unfolding addLocal
-place-local l s w low h x p is = go (bool-cases (eqb (w .name) x))
+place-local l s w short low h x p is = go (bool-cases (eqb (w .name) x))
   where
-    go : (eqb (w .name) x ≡ true) ⊎ (eqb (w .name) x ≡ false) → getD (set l (w .name) (spanWord w)) x 0 ≡ p .line * 65536 + p .col
+    here : getD (set l (w .name) (spanWord w)) (w .name) 0 ≡ spanWord w
+    here = getD-set-same l (w .name) (spanWord w) 0 low
+
+    go : (eqb (w .name) x ≡ true) ⊎ (eqb (w .name) x ≡ false) → SpanWord (getD (set l (w .name) (spanWord w)) x 0) p
     go (inl e) =
         let q : spanOf w ≡ p = some-is (spanOf w) p (rw e at is) in
-        ap (λ (i : ℕ). getD (set l (w .name) (spanWord w)) i 0) (sym (eqb-true (w .name) x e))
-        ∙ getD-set-same l (w .name) (spanWord w) 0 low ∙ ap (λ (y : Span). y .line * 65536 + y .col) q
+        subst (λ (i : ℕ). SpanWord (getD (set l (w .name) (spanWord w)) i 0) p) (eqb-true (w .name) x e)
+        (subst (SpanWord (getD (set l (w .name) (spanWord w)) (w .name) 0)) q (record { line = short .line; col = short .col; both = here }))
     go (inr e) =
-        getD-set-other l (w .name) x (spanWord w) 0 (λ z. eqb-false (w .name) x e (sym z)) ∙ h x p (rw e at is)
+        subst (λ (n : ℕ). SpanWord n p) (sym (getD-set-other l (w .name) x (spanWord w) 0 (λ z. eqb-false (w .name) x e (sym z)))) (h x p (rw e at is))
+
+-- There is no local yet.
+pub agrees-none : (k : Scope) (l : List ℕ) → NoNames k → Agrees k l noScope
+agrees-none k l empty = record { sets = empty; placed = λ x p e. absurd (false≢true (ap isSome e)) }
 
 module _ (k : Scope) (l : List ℕ) (r : Scope) (s : spec.Scope) (a : Agrees k l s) where
-  pub agrees-local : (w : Row) → w .name < length l → WithLocal k (w .name) r → Agrees r (set l (w .name) (spanWord w)) (addLocal s w)
-  agrees-local w low put = record { sets = put s w refl (a .sets); placed = place-local l s w low (a .placed) }
+  pub agrees-local : (w : Row) → Short w → w .name < length l → WithLocal k (w .name) r → Agrees r (set l (w .name) (spanWord w)) (addLocal s w)
+  agrees-local w short low put = record { sets = put s w refl (a .sets); placed = place-local l s w short low (a .placed) }
 
   pub agrees-unscoped : (x : ℕ) → WithUnscoped k x r → Agrees r l (addUnscoped s x)
   unfolding addUnscoped
@@ -73,3 +92,11 @@ module _ (k : Scope) (l : List ℕ) (r : Scope) (s : spec.Scope) (a : Agrees k l
   pub agrees-without : WithoutLocals k r → Agrees r l (removeShadowed s)
   unfolding removeShadowed
   agrees-without put = record { sets = put s (a .sets); placed = a .placed }
+
+  pub agrees-opened : Opened k r → Agrees r l (openScope s)
+  agrees-opened put = record {
+    sets = put s (a .sets);
+    placed = λ x p is.
+        let rest = opened-rest (map (λ (q : Span). q .name) (s .locals)) s in
+        a .placed x p (ap (λ (spans : List Span). spanIn spans x) (sym (rest .locals)) ∙ is);
+  }

@@ -16,7 +16,7 @@ use Rattle.scopes.specs.Scopes.{varExists, addInput, useInput}
 use Rattle.scopes.specs.Gather.{inputVar, gatherInputVars, gatherAssignedVars, gatherRead, gatherVars}
 use Rattle.gather.specs.declared.scope.Scope.{Scope}
 use Rattle.gather.specs.Sheets.{sheetAt, Accepted}
-use Rattle.gather.specs.Spans.{Steps}
+use Rattle.gather.specs.Spans.{SpanWord, Steps}
 use Rattle.gather.specs.Exprs.{exprBy, none-is, row-is, first-is, second-is}
 use Rattle.gather.specs.Inputs.{InputWalk}
 use Rattle.gather.specs.Assigned.{AssignWalk}
@@ -54,7 +54,7 @@ module _ (t outer : List ℕ) where
       let keeps : s .locals ≡ gatherInputVars (sheetAt t) parents (exprBy t rest row) s .locals = sym (gather-keeps (sheetAt t) parents (exprBy t rest row) s) in
       h₁ parents o _ (record {
         sets = h₀ parents o s (a .sets);
-        placed = subst (λ (ls : List spec.Span). (x : ℕ) (p : spec.Span) → spec.spanIn ls x ≡ some p → getD l x 0 ≡ p .line * 65536 + p .col) keeps (a .placed);
+        placed = subst (λ (ls : List spec.Span). (x : ℕ) (p : spec.Span) → spec.spanIn ls x ≡ some p → SpanWord (getD l x 0) p) keeps (a .placed);
       })
 
   -- ---- binding

@@ -37,7 +37,7 @@ impl End {
     }
 }
 
-fn end_of(tables: &[u16], row: usize) -> End
+pub fn end_of(tables: &[u16], row: usize) -> End
     requires { ⌜ Accepted (now tables) × (row ≤ getD (now tables) 2 0) ⌝ }
     ensures { λ r. ⌜ EndAt (now (tables .entry)) row r ⌝ }
 {

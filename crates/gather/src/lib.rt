@@ -1,6 +1,7 @@
 // Gathering the variables of a query into its scope.
 
 pub mod assigned;
+pub mod body;
 pub mod builtins;
 pub mod each;
 pub mod enclose;

@@ -3,7 +3,7 @@
 use names::Names;
 ghost use Prim.Native.Nat.{_<_};
 ghost use mathlib.Core.Path.{_≡_};
-ghost use Rattle.gather.specs.Agrees.{Sets, NoNames, WithLocal, WithUnscoped, WithInput, WithFlag, WithoutLocals};
+ghost use Rattle.gather.specs.Agrees.{Sets, NoNames, WithLocal, WithUnscoped, WithInput, WithFlag, WithoutLocals, Opened, withInputsOf};
 
 pub struct Scope {
     pub locals: Names,
@@ -84,6 +84,7 @@ impl Scope {
             uses: set || self.uses,
         }
     }
+
     // The locals leave inputs and unscoped.
     pub fn remove_shadowed(self) -> Scope
         ensures { λ r. ⌜ WithoutLocals self r ⌝ }
@@ -96,6 +97,36 @@ impl Scope {
             unscoped,
             inputs,
             uses: self.uses,
+        }
+    }
+
+    // Each local is unscoped too: it is seen at every line.
+    pub fn opened(self) -> Scope
+        ensures { λ r. ⌜ Opened self r ⌝ }
+    {
+        let locals = self.locals;
+        let unscoped = locals.union(self.unscoped);
+        let inputs = self.inputs;
+        Scope {
+            locals,
+            unscoped,
+            inputs,
+            uses: self.uses,
+        }
+    }
+
+    // The same locals and unscoped names, with the inputs and the flag of `other`.
+    pub fn with_inputs_of(self, other: Scope) -> Scope
+        ensures { λ r. ⌜ r ≡ withInputsOf self other ⌝ }
+    {
+        let locals = self.locals;
+        let unscoped = self.unscoped;
+        let inputs = other.inputs;
+        Scope {
+            locals,
+            unscoped,
+            inputs,
+            uses: other.uses,
         }
     }
 }

@@ -3,7 +3,7 @@ use mathlib.Core.Path.{_≡_, refl, sym, ap, _∙_, subst}
 use mathlib.Core.Bool.{Bool, true, false, cond}
 use mathlib.Core.List.{List, [], _∷_, _++_, foldl, map}
 use mathlib.Core.Logic.{_⊎_, inl, inr}
-use mathlib.Core.Option.{Option, none, some}
+use mathlib.Core.Option.{Option, none, some, Option·some-injective}
 use Prim.Native.Nat.{ℕ, _+_, _*_, _≤_, _<_}
 use native.Mathlib.Omega.{arith}
 use lib.Dec.{eqb}
@@ -37,9 +37,10 @@ abbrev pub wordOf : Option Span → ℕ
 wordOf none = 0
 wordOf (some p) = 1 + p .line * 65536 + p .col
 
--- The words hold the first uses, one a name.
+-- The words hold the first uses, one a name. Their lines and columns are low, so that a word can be taken apart again.
 pub record Firsts (ws : List ℕ) (spans : List Span) : Type 0 where
   pub has : (x : ℕ) → x < 128 → wordOf (spanIn spans x) ≡ getD ws x 0
+  pub low : (x : ℕ) (p : Span) → spanIn spans x ≡ some p → (p .line < 65536) × (p .col < 65536)
 
 -- ---- one use
 
@@ -55,9 +56,9 @@ module _ (w : Row) (low : w .name < 128) (ws : List ℕ) where
       go none e = absurd (ne (sym e))
       go (some p) e = h
 
-  pub use-enters : 128 ≤ length ws → getD ws (w .name) 0 ≡ 0 → FirstUse w ws (set ws (w .name) (1 + w .line * 65536 + w .col))
+  pub use-enters : (w .line < 65536) × (w .col < 65536) → 128 ≤ length ws → getD ws (w .name) 0 ≡ 0 → FirstUse w ws (set ws (w .name) (1 + w .line * 65536 + w .col))
   unfolding addFirstUse
-  use-enters room z spans h = go (spanIn spans (w .name)) (h .has (w .name) low)
+  use-enters short room z spans h = go (spanIn spans (w .name)) (h .has (w .name) low)
     where
       new : List ℕ
       new = set ws (w .name) (1 + w .line * 65536 + w .col)
@@ -70,8 +71,13 @@ module _ (w : Row) (low : w .name < 128) (ws : List ℕ) where
           rw p
           (h .has x l ∙ sym (getD-set-other ws (w .name) x (1 + w .line * 65536 + w .col) 0 (λ e. eqb-false (w .name) x p (sym e))))
 
+      short-at : (x : ℕ) (p : Span) → (eqb (w .name) x ≡ true) ⊎ (eqb (w .name) x ≡ false)
+          → cond (eqb (w .name) x) (some (spanOf w)) (spanIn spans x) ≡ some p → (p .line < 65536) × (p .col < 65536)
+      short-at x p (inl q) is = subst (λ (y : Span). (y .line < 65536) × (y .col < 65536)) (Option·some-injective (spanOf w) p (rw q at is)) short
+      short-at x p (inr q) is = h .low x p (rw q at is)
+
       go : (o : Option Span) → wordOf o ≡ getD ws (w .name) 0 → Firsts new (cond (isSome o) spans (spanOf w ∷ spans))
-      go none e = record { has = λ x l. at x l (bool-cases (eqb (w .name) x)) }
+      go none e = record { has = λ x l. at x l (bool-cases (eqb (w .name) x)); low = λ x p is. short-at x p (bool-cases (eqb (w .name) x)) is }
       go (some p) e = absurd (omega (arith, e, z))
 
 -- ---- a step

@@ -27,7 +27,7 @@ module _ {A B : Type 0} where
   map-length f [] = refl
   map-length f (x ∷ l) = ap suc (map-length f l)
 
-  map-append : (f : A → B) (k l : List A) → map f (k ++ l) ≡ (map f k ++ map f l)
+  pub map-append : (f : A → B) (k l : List A) → map f (k ++ l) ≡ (map f k ++ map f l)
   map-append f [] l = refl
   map-append f (x ∷ k) l = ap (λ (r : List B). f x ∷ r) (map-append f k l)
 

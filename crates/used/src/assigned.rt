@@ -35,7 +35,7 @@ pub fn pattern_of(w: Row) -> usize
 }
 
 // A row: a variable of the query is a name.
-fn leaf_step(scope: Scope, w: Row, names: Names) -> Names
+pub fn leaf_step(scope: Scope, w: Row, names: Names) -> Names
     requires { ⌜ w .name < 128 ⌝ }
     ensures { λ r. ⌜ LeafStep scope w names r ⌝ }
 {

@@ -19,7 +19,7 @@ const VAR: u16 = 6;
 const LINE: u64 = 65536;
 
 // A use of a name. The first one stays.
-fn add_first_use(w: Row, firsts: &mut [u64])
+pub fn add_first_use(w: Row, firsts: &mut [u64])
     requires { ⌜ (128 ≤ length (now firsts)) × (w .name < 128) ⌝ }
     ensures { λ _. ⌜ FirstUse w (now (firsts .entry)) (now (firsts .exit)) ⌝ }
 {

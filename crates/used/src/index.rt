@@ -32,7 +32,7 @@ pub fn index_of(w: Row) -> usize
 }
 
 // Row `count`: the statement defines the name from the names `used`.
-fn push_definition(
+pub fn push_definition(
     statement: usize,
     name: usize,
     used: Names,

@@ -2,6 +2,7 @@
 use mathlib.Core.Path.{sym, _∙_}
 use native.Mathlib.Omega.{arith}
 use borrow.Author.Needs.{needs}
+use Rattle.gather.specs.Spans.{Short}
 use Rattle.gather.specs.Assigned.{var-special, var-local, var-input, var-unscoped}
 use Rattle.gather.proofs.assigned.assign_var.Statement.{statement}
 use Rattle.gather.proofs.assigned.assign_var.Tie as tie
@@ -34,7 +35,9 @@ same-length c = search needs
 returns-2 : tie.Need-returns-2
 returns-2 c =
     let pre = c .before .before .before .before .before .before .before .before .before .before .before .before .pre in
-    var-local _ _ _ _ _ (sym (c .before .before .before .before .before .before .before .before .is-special .ensures) ∙ c .before .before .before .before .before .before .before .if1 .left) _ (c .before .before .before .before .before .if2 .taken) (omega (arith, pre .2, pre .3)) _ (c .add-local .ensures)
+    let fits = c .before .before .before .before .before .before .struct-known .given in
+    let short : Short (c .before .before .before .before .before .before .before .before .before .before .before .before .args .w) = record { line = omega (arith, fits); col = omega (arith, fits) } in
+    var-local _ _ _ _ _ (sym (c .before .before .before .before .before .before .before .before .is-special .ensures) ∙ c .before .before .before .before .before .before .before .if1 .left) _ (c .before .before .before .before .before .if2 .taken) short (omega (arith, pre .2, pre .3)) _ (c .add-local .ensures)
     _ (c .before .before .before .put-span .ensures)
 
 var-exists-requires : tie.Need-var-exists-requires

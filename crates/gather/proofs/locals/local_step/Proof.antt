@@ -1,6 +1,7 @@
 -- A variable, or nothing.
 use native.Mathlib.Omega.{arith}
 use borrow.Author.Needs.{needs}
+use Rattle.gather.specs.Spans.{Short}
 use Rattle.gather.specs.Locals.{local-var, local-other}
 use Rattle.gather.proofs.locals.local_step.Statement.{statement}
 use Rattle.gather.proofs.locals.local_step.Tie as tie
@@ -20,7 +21,9 @@ same-length c = search needs
 returns : tie.Need-returns
 returns c =
     let start = c .before .before .before .before .before .before .before .before .before in
-    local-var (start .args .w) _ _ (c .before .before .before .before .before .before .if1 .taken) (omega (arith, start .pre .0, start .pre .1)) _ (c .add-local .ensures) _ (c .before .before .before .before .put-span .ensures)
+    let fits = c .before .before .before .before .before .before .before .struct-known .given in
+    let short : Short (start .args .w) = record { line = omega (arith, fits); col = omega (arith, fits) } in
+    local-var (start .args .w) _ _ (c .before .before .before .before .before .before .if1 .taken) short (omega (arith, start .pre .0, start .pre .1)) _ (c .add-local .ensures) _ (c .before .before .before .before .put-span .ensures)
 
 returns-2 : tie.Need-returns-2
 returns-2 c = local-other (c .before .before .before .args .w) _ _ (c .if1 .left)
