@@ -21,6 +21,7 @@ use Rattle.answers.specs.Rows.{mark}
 use Rattle.answer.specs.Stored.{wordAt, setAt, SpanIn, PlaceIn, Analysed, StoredAt, Stored}
 use Rattle.gather.specs.declared.scope.Scope.{Scope}
 use Rattle.gather.specs.Agrees.{Sets}
+use Rattle.gather.specs.Spans.{SpanWord}
 use Rattle.store.specs.Writes.{Written}
 use Rattle.store.specs.Words.{placeWord, BlockWritten}
 
@@ -37,9 +38,14 @@ pub record Gives (a : QuerySchedule) (k : Scope) (l : List ℕ) (count : ℕ) (p
       → (let i = getD (turns.order (a .definitions) (a .count) nameBound) n 0 in
       PlaceIn (placeWord order reached n) i (mark (turns.reached (a .definitions) (a .count) nameBound i)))
 
--- The places of all other queries end at or below base.
-abbrev pub Behind : List ℕ → ℕ → ℕ → Type 0
-Behind w q base = (p : ℕ) → 1 ≤ p → p ≤ 32 → (p ≡ q → ⊥) → 1 ≤ wordAt w p 0 → wordAt w p 9 + wordAt w p 2 ≤ base
+-- The words of the locals are as they are gathered.
+pub span-in : {n : ℕ} {p : Span} → SpanWord n p → SpanIn n p
+span-in w = record { line = w .line; col = w .col; both = w .both }
+
+-- The places of each other query that has some end at or below base, or begin behind the `count` places from base on.
+abbrev pub Apart : List ℕ → ℕ → ℕ → ℕ → Type 0
+Apart w q base count = (p : ℕ) → 1 ≤ p → p ≤ 32 → (p ≡ q → ⊥) → 1 ≤ wordAt w p 0 → 1 ≤ wordAt w p 2
+    → (wordAt w p 9 + wordAt w p 2 ≤ base) ⊎ (base + count ≤ wordAt w p 9)
 
 two : (l : List ℕ) → length l ≡ 2 → (getD l 0 0 ∷ getD l 1 0 ∷ []) ≡ l
 two [] e = absurd (omega (arith, e))
@@ -100,12 +106,12 @@ module _ (w : List ℕ) (q : ℕ) (k : Scope) (l : List ℕ) (count base : ℕ) 
     same i h = s .below _ (omega arith) ∙ apart here i h
 
     -- A place that the query had.
-    place : (n y : ℕ) → y + n < base → getD v (4608 + y + n) 0 ≡ getD w (4608 + y + n) 0
-    place n y h = s .below _ (omega arith) ∙ b .above _ (omega arith)
+    place : (n y c : ℕ) → n < c → (y + c ≤ base) ⊎ (base + count ≤ y) → getD v (4608 + y + n) 0 ≡ getD w (4608 + y + n) 0
+    place n y c m (inl h) = s .below _ (omega arith) ∙ b .above _ (omega arith)
+    place n y c m (inr h) = s .above _ (omega arith) ∙ b .above _ (omega arith)
 
-    pub stored-old : Behind w q base → (a : QuerySchedule) → Analysed w p a
-        → Analysed v p a
-    stored-old behind a h = record {
+    pub stored-old : Apart w q base count → (a : QuerySchedule) → Analysed w p a → Analysed v p a
+    stored-old aside a h = record {
       placed = same 0 (omega arith) ∙ h .placed;
       input = same 1 (omega arith) ∙ h .input;
       count = same 2 (omega arith) ∙ h .count;
@@ -118,40 +124,32 @@ module _ (w : List ℕ) (q : ℕ) (k : Scope) (l : List ℕ) (count base : ℕ) 
           subst (λ (n : ℕ). SpanIn n r) (sym (same (16 + x) (omega arith))) (h .spans x r is);
       places = λ n m.
           let i = getD (turns.order (a .definitions) (a .count) nameBound) n 0 in
-          let e = behind p from to other (omega (arith, h .placed)) in
+          let e = aside p from to other (omega (arith, h .placed)) (omega (arith, h .count, m)) in
           subst (λ (y : ℕ). PlaceIn y i (mark (turns.reached (a .definitions) (a .count) nameBound i)))
-          (sym (ap (λ (y : ℕ). getD v (4608 + y + n) 0) (same 9 (omega arith)) ∙ place n (wordAt w p 9) (omega (arith, e, h .count, m)))) (h .places n m);
+          (sym (ap (λ (y : ℕ). getD v (4608 + y + n) 0) (same 9 (omega arith)) ∙ place n (wordAt w p 9) (wordAt w p 2) (omega (arith, h .count, m)) e)) (h .places n m);
     }
       where
         set : (i : ℕ) → i < 100 → setAt v p i ≡ setAt w p i
         set i l = ap₂ (λ (m n : ℕ). m ∷ n ∷ []) (same i (omega arith)) (same (i + 1) (omega arith))
 
-    stored-at : Behind w q base → (o : Option QuerySchedule) → StoredAt w p o → StoredAt v p o
-    stored-at behind none h = same 0 (omega arith) ∙ h
-    stored-at behind (some a) h = stored-old behind a h
+    stored-at : Apart w q base count → (o : Option QuerySchedule) → StoredAt w p o → StoredAt v p o
+    stored-at aside none h = same 0 (omega arith) ∙ h
+    stored-at aside (some a) h = stored-old aside a h
 
   -- The schedule is stored in front of the others.
-  pub stored-next : (schedules : List QuerySchedule) → Stored w schedules → Behind w q base → (a : QuerySchedule) → a .query ≡ q
+  pub stored-next : (schedules : List QuerySchedule) → Stored w schedules → Apart w q base count → (a : QuerySchedule) → a .query ≡ q
       → Gives a k l count placed order reached → Stored v (a ∷ schedules)
-  stored-next schedules h behind a is g p from to = go (bool-cases (eqb (a .query) p))
+  stored-next schedules h aside a is g p from to = go (bool-cases (eqb (a .query) p))
     where
       go : (eqb (a .query) p ≡ true) ⊎ (eqb (a .query) p ≡ false) → StoredAt v p (cond (eqb (a .query) p) (some a) (scheduleOf schedules p))
       go (inl e) = rw e (subst (λ (n : ℕ). Analysed v n a) (sym is ∙ eqb-true (a .query) p e) (stored-new a g))
-      go (inr e) = rw e (stored-at p from to (λ x. eqb-false (a .query) p e (is ∙ sym x)) behind (scheduleOf schedules p) (h p from to))
+      go (inr e) = rw e (stored-at p from to (λ x. eqb-false (a .query) p e (is ∙ sym x)) aside (scheduleOf schedules p) (h p from to))
 
-  -- The places of all queries then end at or below the next base.
-  pub behind-next : Behind w q base → (p : ℕ) → 1 ≤ p → p ≤ 32 → 1 ≤ wordAt v p 0 → wordAt v p 9 + wordAt v p 2 ≤ base + count
-  behind-next behind p from to h = go (eq-cases p q)
+  -- Where base is what the query's block said, each block says what it said.
+  pub bases-stay : base ≡ wordAt w q 9 → (p : ℕ) → 1 ≤ p → p ≤ 32 → wordAt v p 9 ≡ wordAt w p 9
+  bases-stay said p from to = go (eq-cases p q)
     where
-      nine : wordAt v q 9 ≡ base
-      nine = word 9 (omega arith) ∙ b .head 9 (omega arith)
-
-      second : wordAt v q 2 ≡ count
-      second = word 2 (omega arith) ∙ b .head 2 (omega arith)
-
-      go : (p ≡ q) ⊎ (p ≡ q → ⊥) → wordAt v p 9 + wordAt v p 2 ≤ base + count
-      go (inl e) = subst (λ (n : ℕ). wordAt v n 9 + wordAt v n 2 ≤ base + count) (sym e) (omega (arith, nine, second))
-      go (inr ne) =
-          let first = same p from to ne 0 (omega arith) in
-          let k = behind p from to ne (omega (arith, first, h)) in
-          omega (arith, same p from to ne 9 (omega arith), same p from to ne 2 (omega arith), k)
+      go : (p ≡ q) ⊎ (p ≡ q → ⊥) → wordAt v p 9 ≡ wordAt w p 9
+      go (inl e) =
+          subst (λ (n : ℕ). wordAt v n 9 ≡ wordAt w n 9) (sym e) (word 9 (omega arith) ∙ b .head 9 (omega arith) ∙ said)
+      go (inr ne) = same p from to ne 9 (omega arith)
