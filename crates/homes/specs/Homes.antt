@@ -1,0 +1,175 @@
+-- Which query the expressions lie in that an expression names: where it lies, but for the outputs of a comprehension, which lie in its query.
+use mathlib.Core.Path.{_≡_, refl, sym, ap, _∙_, subst}
+use mathlib.Core.Bool.{Bool, true, false}
+use mathlib.Core.List.{List, List·Memᴰ, List·Memᴰ·head, List·Memᴰ·tail}
+use mathlib.Core.Logic.{_⊎_, inl, inr, ⊎-elim}
+use Prim.Native.Nat.{ℕ, _/_, _≤_}
+use native.Mathlib.Omega.{arith}
+use lib.Dec.{eqb}
+use borrow.Author.Tests.{eqb-true}
+use Rattle.basics.specs.Truth.{bool-cases, or-cases}
+use Rattle.records.specs.declared.Counts.{Counts}
+use Rattle.records.specs.Layout.{Within, exprAt}
+use Rattle.fields.specs.declared.Field.{Field}
+use Rattle.fields.specs.Fields.{fieldFrom, query, first, second, third, kindFields, limitOf}
+use Rattle.naming.specs.Entries.{exprRow, target, placeOf, nextField, exprEntry, exprEntries}
+use Rattle.naming.specs.Faults.{isMember}
+use Rattle.naming.specs.Lines.{firstLine}
+use Rattle.naming.specs.EnclosingLaws.{queryOf, enclosing-query}
+use Rattle.accepted.specs.Accepted.{accepted}
+use Rattle.accepted.specs.FineFields.{Nests}
+use Rattle.accepted.specs.Rows.{FineExpr, fine-expr-row}
+use Rattle.accepted.specs.Places.{expr-place}
+use Rattle.trees.specs.declared.Row.{Row}
+use Rattle.trees.specs.Sheet.{rowAt}
+use Rattle.trees.specs.Kinds.{isPattern, isCompr, isCall, isAssign}
+use Rattle.trees.specs.Traverse.{Enters, nothing, params, fields}
+use Rattle.branches.specs.declared.Kids.{Kids}
+use Rattle.branches.specs.Kids.{entersOf, kidsBy, kidsOf, compr-enters-nothing}
+use Rattle.sizes.specs.Listed.{comprKind, kind-holds}
+use Rattle.sizes.specs.Named.{target-row, next-holds}
+use Rattle.homes.specs.Lying.{Holding, Lies, in-expr}
+use Rattle.homes.specs.Terms.{first-no-term, second-no-term, third-no-term, third-holds, compr-terms}
+
+-- ---- kinds that are no comprehension
+
+kind-no-compr : (w : Row) (n : ℕ) → comprKind n ≡ false → eqb (w .kind) n ≡ true → isCompr w ≡ false
+kind-no-compr w n h p = ap comprKind (eqb-true (w .kind) n p) ∙ h
+
+pub pattern-no-compr : (w : Row) → isPattern w ≡ true → isCompr w ≡ false
+pattern-no-compr w h = ⊎-elim (kind-no-compr w 7 refl) (kind-no-compr w 9 refl) (or-cases _ _ h)
+
+pub assign-no-compr : (w : Row) → isAssign w ≡ true → isCompr w ≡ false
+assign-no-compr w h = ⊎-elim (kind-no-compr w 20 refl) (kind-no-compr w 21 refl) (or-cases _ _ h)
+
+pub call-no-compr : (w : Row) → isCall w ≡ true → isCompr w ≡ false
+call-no-compr w h = kind-no-compr w 13 refl h
+
+-- ---- what is said of them
+
+module _ (c : Counts) (t : List ℕ) where
+  -- Three rows that lie in query q, or are none.
+  pub record Inside (q : ℕ) (k : Kids) : Type 0 where
+    pub first : Lies c t q (k .first)
+    pub second : Lies c t q (k .second)
+    pub third : Lies c t q (k .third)
+
+  -- The comprehension w, which lies in query q: its query is a later one, and in that lie its outputs.
+  pub record Opens (q : ℕ) (w : Row) : Type 0 where
+    pub nests : Nests c t q (w .third)
+    pub in-sheet : w .third ≤ c .queries
+    pub first : Lies c t (w .third) (w .first)
+    pub second : Lies c t (w .third) (w .second)
+
+module _ (c : Counts) (t : List ℕ) (few : Within c) (fine : firstLine c t ≡ 0) (q r : ℕ) (low : 1 ≤ r) (high : r ≤ c .exprs)
+    (here : queryOf c t (exprRow r) ≡ q) where
+  abbrev fs : ℕ
+  fs = kindFields (exprAt t r .kind)
+
+  row : FineExpr c t r
+  row = fine-expr-row c t r (accepted c t fine .fine-expr r low high)
+
+  -- ---- the fields among the entries of the row
+
+  abbrev Among : Field → ℕ → Type 0
+  Among f v = List·Memᴰ (exprEntry c t r f v) (exprEntries c t (isMember c t r) r)
+
+  among-first : Among (fieldFrom (fs / first)) (exprAt t r .first)
+  unfolding exprEntries
+  among-first = List·Memᴰ·tail (List·Memᴰ·head refl)
+
+  among-second : Among (fieldFrom (fs / second)) (exprAt t r .second)
+  unfolding exprEntries
+  among-second = List·Memᴰ·tail (List·Memᴰ·tail (List·Memᴰ·head refl))
+
+  among-third : Among (fieldFrom (fs / third)) (exprAt t r .third)
+  unfolding exprEntries
+  among-third = List·Memᴰ·tail (List·Memᴰ·tail (List·Memᴰ·tail (List·Memᴰ·head refl)))
+
+  among-next : Among (nextField (isMember c t r)) (exprAt t r .next)
+  unfolding exprEntries
+  among-next = List·Memᴰ·tail (List·Memᴰ·tail (List·Memᴰ·tail (List·Memᴰ·tail (List·Memᴰ·head refl))))
+
+  -- ---- parts: they lie where the whole does
+
+  part-lies : (f : Field) (v : ℕ) → Among f v → Holding f → f .term ≡ false → Lies c t q v
+  part-lies f v m h p =
+      subst (λ (i : ℕ). Lies c t i v) (ap (queryOf c t) (expr-place c t r row m .part p) ∙ here)
+      (in-expr c t few (accepted c t fine) r low high m h)
+
+  -- The rest of the chain.
+  pub next-lies : Lies c t q (rowAt t r .next)
+  unfolding rowAt fieldFrom
+  next-lies = part-lies (nextField (isMember c t r)) (exprAt t r .next) among-next (next-holds (isMember c t r)) (go (isMember c t r))
+    where
+      go : (b : Bool) → nextField b .term ≡ false
+      go true = refl
+      go false = refl
+
+  -- The fields of any kind but a comprehension: of a pattern, an assignment or a call among others.
+  pub fields-lie : isCompr (rowAt t r) ≡ false → Inside c t q (kidsBy fields (rowAt t r))
+  unfolding rowAt
+  fields-lie other =
+      let kind = exprAt t r .kind in
+      let small = row .kind-high in
+      let holds = kind-holds kind small in
+      record {
+        first = part-lies _ _ among-first (holds .in-first) (first-no-term kind small other);
+        second = part-lies _ _ among-second (holds .in-second) (second-no-term kind small other);
+        third = part-lies _ _ among-third (third-holds kind small other) (third-no-term kind small other);
+      }
+
+  -- What a walk enters.
+  pub kids-lie : Inside c t q (kidsOf (rowAt t r))
+  unfolding kidsOf
+  kids-lie = go (bool-cases (isCompr (rowAt t r)))
+    where
+      none : Inside c t q (kidsBy nothing (rowAt t r))
+      none = record { first = inl refl; second = inl refl; third = inl refl }
+
+      by : (e : Enters) → Inside c t q (kidsBy fields (rowAt t r)) → Inside c t q (kidsBy e (rowAt t r))
+      by nothing h = none
+      by params h = record { first = inl refl; second = h .second; third = inl refl }
+      by fields h = h
+
+      go : (isCompr (rowAt t r) ≡ true) ⊎ (isCompr (rowAt t r) ≡ false) → Inside c t q (kidsBy (entersOf (rowAt t r)) (rowAt t r))
+      go (inl p) = subst (λ (e : Enters). Inside c t q (kidsBy e (rowAt t r))) (sym (compr-enters-nothing (rowAt t r) p)) none
+      go (inr p) = by (entersOf (rowAt t r)) (fields-lie p)
+
+  -- ---- a comprehension
+
+  third-set : fieldFrom (fs / third) ≡ fieldFrom query → (1 ≤ exprAt t r .third) × (exprAt t r .third ≤ c .queries)
+  unfolding fieldFrom
+  third-set e =
+      let f = row .fields among-third in
+      (f .is-set (ap (λ (g : Field). g .set) e), subst (λ (g : Field). exprAt t r .third ≤ limitOf c (g .section)) e (f .in-range))
+
+  -- A term lies in the comprehension's query.
+  term-lies : fieldFrom (fs / third) ≡ fieldFrom query → (f : Field) (v : ℕ) → Among f v → Holding f → (f .term ≡ true) ⊎ (f .section ≡ 0)
+      → Lies c t (exprAt t r .third) v
+  unfolding placeOf fieldFrom
+  term-lies is f v m h (inl p) =
+      let s = third-set is in
+      let v3 = exprAt t r .third in
+      let to : target c (fieldFrom query) v3 ≡ v3 = target-row c 0 (record { field = fieldFrom query; value = v3; place = 0 }) (s .0) (s .1) in
+      let at : placeOf c f (exprAt t r) r ≡ v3 = rw p to in
+      subst (λ (i : ℕ). Lies c t i v) (ap (queryOf c t) at ∙ enclosing-query c t v3 (omega (arith, s .1, few .few-queries)))
+      (in-expr c t few (accepted c t fine) r low high m h)
+  term-lies is f v m h (inr z) =
+      let none : v ≤ limitOf c 0 = subst (λ (i : ℕ). v ≤ limitOf c i) z (row .fields m .in-range) in
+      inl (omega arith)
+
+  pub compr-opens : isCompr (rowAt t r) ≡ true → Opens c t q (rowAt t r)
+  unfolding rowAt fieldFrom
+  compr-opens is =
+      let kind = exprAt t r .kind in
+      let terms = compr-terms kind (row .kind-high) is in
+      let holds = kind-holds kind (row .kind-high) in
+      let set = third-set (terms .third-query) in
+      let section = ap (λ (f : Field). f .section) (terms .third-query) in
+      record {
+        nests = subst (λ (i : ℕ). Nests c t i (exprAt t r .third)) here (row .fields among-third .nests (set .0) section);
+        in-sheet = set .1;
+        first = term-lies (terms .third-query) _ _ among-first (holds .in-first) (terms .first-term);
+        second = term-lies (terms .third-query) _ _ among-second (holds .in-second) (terms .second-term);
+      }
