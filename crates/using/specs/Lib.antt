@@ -1,0 +1,4 @@
+pub mod Gathers
+pub mod Defined
+pub mod UsesVars
+pub mod UsesMods

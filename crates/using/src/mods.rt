@@ -1,0 +1,39 @@
+// The modifiers of a statement: the expressions of a chain, each alone.
+
+use crate::Using;
+use crate::vars::use_vars;
+use frame::Progress;
+use gather::each::next_at;
+use names::Names;
+ghost use Prim.Native.Nat.{_≤_};
+ghost use lib.ListN.{length, getD};
+ghost use Rattle.sizes.specs.Sizes.{total};
+ghost use Rattle.sizes.specs.Leaves.{bracketVars};
+ghost use Rattle.gather.specs.Sheets.{Accepted};
+ghost use Rattle.gather.specs.Chains.{chainAt};
+ghost use Rattle.frame.specs.Frames.{Ready};
+ghost use Rattle.using.specs.UsesMods.{UsesMods};
+
+// The names that they use come to `names`.
+pub fn use_mods(
+    tables: &[u16],
+    statement: usize,
+    row: usize,
+    p: Progress,
+    names: Names,
+    firsts: &mut [u64],
+    work: &mut [u64],
+) -> Using
+    requires { ⌜ Accepted (now tables) × (row ≤ getD (now tables) 2 0) × (128 ≤ length (now firsts)) × Ready (now tables) p (now firsts) (now work) (total bracketVars (chainAt (now tables) row)) ⌝ }
+    ensures { λ r. ⌜ UsesMods (now (tables .entry)) statement row p names (now (firsts .entry)) (now (work .entry)) r (now (firsts .exit)) (now (work .exit)) ⌝ }
+{
+    if row == 0 {
+        return Using { progress: p, names };
+    }
+    let next = next_at(tables, row);
+    let none = Names::empty();
+    let used = use_vars(tables, none, statement, row, false, p, firsts, work);
+    let progress = used.progress;
+    let all = names.union(used.names);
+    use_mods(tables, statement, next, progress, all, firsts, work)
+}
