@@ -1,0 +1,47 @@
+-- By the first word of the block.
+use borrow.Author.Needs.{needs}
+use Rattle.comprs.specs.Takes.{taken-none, taken-some}
+use Rattle.comprs.proofs.taken.taken_by.Statement.{statement}
+use Rattle.comprs.proofs.taken.taken_by.Tie as tie
+
+block-word-requires : tie.Need-block-word-requires
+block-word-requires c κs = search needs
+
+empty-requires : tie.Need-empty-requires
+empty-requires c κs = search needs
+
+returns : tie.Need-returns
+returns c =
+    let start = c .before .before .before .before in
+    taken-none (start .args .work .now) _ (start .pre .1) (start .pre .2) _ (c .before .before .block-word .ensures) (c .before .if1 .taken) _ (c .empty .ensures)
+
+block-word-requires-2 : tie.Need-block-word-requires-2
+block-word-requires-2 c κs = search needs
+
+block-word-requires-3 : tie.Need-block-word-requires-3
+block-word-requires-3 c κs = search needs
+
+add-block-word : tie.Need-add-block-word
+add-block-word c = search needs
+
+block-word-requires-4 : tie.Need-block-word-requires-4
+block-word-requires-4 c κs = search needs
+
+returns-2 : tie.Need-returns-2
+returns-2 c =
+    let start = c .before .before .before .before .before .before in
+    taken-some (start .args .work .now) _ (start .pre .1) (start .pre .2) _ (c .before .before .before .before .block-word .ensures) (c .before .before .before .if1 .left) _ _ _ (c .before .before .block-word2 .ensures)
+    (c .before .block-word3 .ensures) (c .block-word4 .ensures)
+
+pub taken-by-spec : {M : Type 1} → statement M
+taken-by-spec =
+    tie.close
+    (tie.spec
+    block-word-requires
+    empty-requires
+    returns
+    block-word-requires-2
+    block-word-requires-3
+    add-block-word
+    block-word-requires-4
+    returns-2)

@@ -1,0 +1,125 @@
+-- The walk goes on to later rows only, and what the calls on the way gather is what a row's turn gathers.
+use mathlib.Core.Path.{_≡_, _∙_}
+use Prim.Native.Nat.{ℕ, _<_}
+use borrow.Author.Needs.{needs}
+use borrow.Fn.Kinds.{In}
+use borrow.Fn.PlainCycle.{Measures, is, falls, and}
+use Rattle.trees.specs.Sheet.{rowAt, row-fields}
+use Rattle.gather.specs.Walking.{remains, Calls, row-low, calls}
+use Rattle.comprs.specs.Queries.{row-query}
+use Rattle.comprs.specs.Used.{used-none, used-turn}
+use Rattle.comprs.proofs.walk.comprs_used.Reads as comprs-used
+use Rattle.comprs.proofs.walk.comprs_used.Kinds as kinds
+use Rattle.comprs.proofs.walk.+comprs_used.Lts-comprs_used as lts
+use Rattle.branches.proofs.kids_of.Reads as kids-of-reads
+use Rattle.branches.proofs.next_of.Reads as next-of-reads
+use Rattle.comprs.proofs.walk.compr_step.Reads as compr-step-reads
+use Rattle.trees.proofs.row_at.Reads as row-at-reads
+use Rattle.comprs.proofs.walk.+comprs_used.{statement}
+use Rattle.comprs.proofs.walk.+comprs_used.Tie.{close}
+
+abbrev μ : Measures 2 kinds.ps ℕ
+μ κs a = remains (a .0 .now) (a .1 .1 .1 .0)
+
+abbrev here : ℕ → In 2 kinds.ps
+here m = and 2 kinds.ps (is 2 kinds.ps μ m) comprs-used.Pre
+
+abbrev below : ℕ → In 2 kinds.ps
+below m = and 2 kinds.ps (falls 2 kinds.ps _<_ μ m) comprs-used.Pre
+
+abbrev known : ℕ → lts.Claims
+known m = (
+  row-at-reads.Asked,
+  row-at-reads.Learnt,
+  kids-of-reads.Asked,
+  kids-of-reads.Learnt,
+  next-of-reads.Asked,
+  next-of-reads.Learnt,
+  compr-step-reads.Asked,
+  compr-step-reads.Learnt,
+  below m,
+  comprs-used.Post,
+)
+
+returns : (m : ℕ) → lts.Need-returns (known m) (here m) comprs-used.Post
+returns m c =
+    let start = c .before .before .before in
+    used-none _ (start .pre .1 .0) _ (start .args .work .now) _ (c .if1 .taken) (start .args .rest) _
+
+row-at-requires : (m : ℕ) → lts.Need-row-at-requires (known m) (here m) comprs-used.Post
+row-at-requires m c κs =
+    let pre = c .before .before .before .pre .1 in
+    (pre .0 .room, row-low _ (pre .0) _ (c .if1 .left) (pre .1))
+
+-- The row that was read.
+row-is : (m : ℕ) (c : lts.After-row-at (known m) (here m) comprs-used.Post)
+    → c .row-at .result ≡ rowAt (c .before .before .before .before .args .tables .now) (c .before .before .before .before .args .row)
+row-is m c = c .row-at .ensures ∙ row-fields _ _
+
+kids-of-requires : (m : ℕ) → lts.Need-kids-of-requires (known m) (here m) comprs-used.Post
+kids-of-requires m c κs = search needs
+
+next-of-requires : (m : ℕ) → lts.Need-next-of-requires (known m) (here m) comprs-used.Post
+next-of-requires m c κs = search needs
+
+step-requires : (m : ℕ) → lts.Need-compr-step-requires (known m) (here m) comprs-used.Post
+step-requires m c κs =
+    let r = c .before .before in
+    let pre = r .before .before .before .before .pre .1 in
+    (pre .2, row-query _ (pre .0) _ (r .before .if1 .left) (pre .1) _ (row-is m r))
+
+ready : (m : ℕ) (c : lts.After-next-of (known m) (here m) comprs-used.Post)
+    → let start = c .before .before .before .before .before .before in
+    Calls (start .args .tables .now) m (start .args .rest) (c .before .before .row-at .result) (c .before .kids-of .result)
+ready m c =
+    let r = c .before .before in
+    let start = r .before .before .before .before in
+    calls _ (start .pre .1 .0) _ (r .before .if1 .left) (start .pre .1 .1) m (start .pre .0) _ _ (row-is m r) _ (c .before .kids-of .ensures)
+
+first-requires : (m : ℕ) → lts.Need-comprs-used-requires (known m) (here m) comprs-used.Post
+first-requires m c κs =
+    let pre = c .before .before .before .before .before .before .before .pre .1 in
+    let k = ready m (c .before) .first in
+    (k .0, (pre .0, k .1, pre .2))
+
+second-requires : (m : ℕ) → lts.Need-comprs-used-requires-2 (known m) (here m) comprs-used.Post
+second-requires m c κs =
+    let pre = c .before .before .before .before .before .before .before .before .pre .1 in
+    let k = ready m (c .before .before) .second in
+    (k .0, (pre .0, k .1, pre .2))
+
+third-requires : (m : ℕ) → lts.Need-comprs-used-requires-3 (known m) (here m) comprs-used.Post
+third-requires m c κs =
+    let pre = c .before .before .before .before .before .before .before .before .before .pre .1 in
+    let k = ready m (c .before .before .before) .third in
+    (k .0, (pre .0, k .1, pre .2))
+
+next-requires : (m : ℕ) → lts.Need-comprs-used-requires-4 (known m) (here m) comprs-used.Post
+next-requires m c κs =
+    let pre = c .before .before .before .before .before .before .before .before .before .before .pre .1 in
+    let n = c .before .before .before .before in
+    let k = ready m n .next in
+    (rw (n .next-of .ensures) (k .0), (pre .0, rw (n .next-of .ensures) (k .1), pre .2))
+
+returns-2 : (m : ℕ) → lts.Need-returns-2 (known m) (here m) comprs-used.Post
+returns-2 m c =
+    let n = c .before .before .before .before .before in
+    let r = n .before .before in
+    let start = r .before .before .before .before in
+    used-turn _ (start .pre .1 .0) _ (start .args .work .now) _ (r .before .if1 .left) (start .pre .1 .1) (start .args .rest) _ (row-is m r) _ (n .before .kids-of .ensures) _
+    (n .next-of .ensures) _ _ _ _ _ _ (c .before .before .before .before .compr-step .ensures) (c .before .before .before .comprs-used .ensures) (c .before .before .comprs-used2 .ensures) (c .before .comprs-used3 .ensures)
+    (c .comprs-used4 .ensures)
+
+pub +comprs-used-spec : {M : Type 1} → statement M
++comprs-used-spec = close μ λ m.
+    lts.spec (known m) (here m) comprs-used.Post
+    (returns m)
+    (row-at-requires m)
+    (kids-of-requires m)
+    (next-of-requires m)
+    (step-requires m)
+    (first-requires m)
+    (second-requires m)
+    (third-requires m)
+    (next-requires m)
+    (returns-2 m)

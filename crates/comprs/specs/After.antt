@@ -1,0 +1,76 @@
+-- After the query of a comprehension was analysed, with a fault or without.
+use mathlib.Core.Path.{_≡_, refl, sym, ap, _∙_, subst}
+use mathlib.Core.Bool.{true, false}
+use mathlib.Core.List.{List}
+use mathlib.Core.Logic.{_⊎_, inl, inr}
+use Prim.Native.Nat.{ℕ}
+use Rattle.basics.specs.Truth.{not-both}
+use Rattle.trees.specs.declared.Row.{Row}
+use Rattle.trees.specs.Kinds.{isCompr}
+use Rattle.trees.specs.Trees.{Tree, rowOf}
+use Rattle.analysis.specs.States.{State, ifSound}
+use Rattle.analysis.specs.Comprs.{propagate, useCompr}
+use Rattle.frame.specs.declared.Fault.{Fault}
+use Rattle.frame.specs.declared.Fault.the-variants.{Sound, Undefined, UsedBefore, Lengths, IndexVariable}
+use Rattle.frame.specs.declared.Progress.{Progress}
+use Rattle.frame.specs.Faults.{isSound, meaning}
+use Rattle.frame.specs.Frames.{failed, Agree}
+use Rattle.comprs.specs.Rising.{rising, Risen}
+
+module _ (w : Row) (work : List ℕ) where
+  -- From p, where the query of w was analysed with this fault.
+  pub record AfterCompr (p : Progress) (fault : Fault) (firsts : List ℕ) (r : Progress) (firsts′ : List ℕ) : Type 0 where
+    pub count : r .count ≡ p .count
+    pub idle : (isCompr w ≡ false) ⊎ (isSound (p .fault) ≡ false) → (r ≡ p) × (firsts′ ≡ firsts)
+    pub rises : isCompr w ≡ true → isSound (p .fault) ≡ true → (t spans : List ℕ) (s : State) (e : Tree) → rowOf e ≡ w
+        → Agree t spans (failed p fault) firsts work s → Agree t spans r firsts′ work (rising e s)
+
+-- ---- after a fault
+
+skips : (f : Fault) → isSound f ≡ false → (s : State) → meaning f ≡ s .run .fault → (g : State → State) → ifSound (s .run .fault) g s ≡ s
+skips Sound h s e g = absurd (not-both refl h)
+skips (Undefined l c) h s e g = rw (sym e)
+skips (UsedBefore l c) h s e g = rw (sym e)
+skips (Lengths l c) h s e g = rw (sym e)
+skips IndexVariable h s e g = rw (sym e)
+
+faulty-rises : (f : Fault) → isSound f ≡ false → (s : State) → meaning f ≡ s .run .fault → (e : Tree) → rising e s ≡ s
+faulty-rises f h s m e = rw (skips f h s m (propagate e)) (skips f h s m (useCompr e))
+
+-- ---- the ways out
+
+module _ (w : Row) (work : List ℕ) (p : Progress) (fault : Fault) (ws : List ℕ) where
+  -- Not asked.
+  pub not-asked : (isCompr w ≡ false) ⊎ (isSound (p .fault) ≡ false) → AfterCompr w work p fault ws p ws
+  not-asked f = record {
+    count = refl;
+    idle = λ h. (refl, refl);
+    rises = λ c s. absurd (go f c s);
+  }
+    where
+      go : (isCompr w ≡ false) ⊎ (isSound (p .fault) ≡ false) → isCompr w ≡ true → isSound (p .fault) ≡ true → ⊥
+      go (inl n) c s = not-both c n
+      go (inr n) c s = not-both s n
+
+  module _ (c : isCompr w ≡ true) (s : isSound (p .fault) ≡ true) where
+    asked : {A : Type 0} → (isCompr w ≡ false) ⊎ (isSound (p .fault) ≡ false) → A
+    asked (inl f) = absurd (not-both c f)
+    asked (inr f) = absurd (not-both s f)
+
+    -- The analysis failed.
+    pub fails : isSound fault ≡ false → (r : Progress) → r ≡ failed p fault → AfterCompr w work p fault ws r ws
+    fails bad r is = record {
+      count = ap (λ (q : Progress). q .count) is;
+      idle = asked;
+      rises = λ c′ s′ t spans st e at h. rw (is, faulty-rises fault bad st (h .fault) e) h;
+    }
+
+    -- Or it did not.
+    pub rose : isSound fault ≡ true → (q : Progress) → q ≡ failed p fault → (r : Progress) (rs : List ℕ) → Risen w work q ws r rs
+        → AfterCompr w work p fault ws r rs
+    rose good q is r rs h = record {
+      count = h .count ∙ ap (λ (x : Progress). x .count) is;
+      idle = asked;
+      rises = λ c′ s′ t spans st e at a.
+          h .rises (ap (λ (x : Progress). isSound (x .fault)) is ∙ good) t spans st e at (subst (λ (x : Progress). Agree t spans x ws work st) (sym is) a);
+    }

@@ -1,0 +1,69 @@
+-- The query of a comprehension, among those of its sheet.
+use mathlib.Core.Path.{_≡_, refl, sym, ap, _∙_}
+use mathlib.Core.Bool.{true, false, _&&_}
+use mathlib.Core.List.{List}
+use mathlib.Core.Logic.{_⊎_, inl, inr}
+use Prim.Native.Nat.{ℕ, _/_, _≤_, _<_}
+use native.Mathlib.Omega.{arith}
+use lib.Dec.{leb}
+use lib.ListN.{getD}
+use borrow.Author.Tests.{leb-true, le-leb, lt-leb}
+use Rattle.basics.specs.Truth.{eq-cases, and-left, and-right}
+use Rattle.records.specs.Layout.{exprAt}
+use Rattle.fields.specs.Fields.{queries, fieldFrom, third, kinds, kindFields}
+use Rattle.trees.specs.declared.Row.{Row}
+use Rattle.trees.specs.Sheet.{rowAt}
+use Rattle.trees.specs.Kinds.{isCompr}
+use Rattle.gather.specs.Sheets.{Accepted}
+
+-- If w is a comprehension, its query has a block.
+abbrev pub QueryIn : Row → Type 0
+QueryIn w = isCompr w ≡ true → (1 ≤ w .third) × (w .third ≤ 32)
+
+-- ---- the ways out of the test
+
+module _ (w : Row) where
+  pub low-kind : w .kind < 10 → false ≡ isCompr w
+  low-kind l = rw (lt-leb 10 (w .kind) l)
+
+  pub high-kind : 10 ≤ w .kind → leb (w .kind) 12 ≡ isCompr w
+  high-kind l = rw (le-leb 10 (w .kind) l)
+
+-- ---- in an accepted sheet
+
+-- The third field of a kind is a query, and set.
+abbrev HasQuery : ℕ → Type 0
+HasQuery kind = (fieldFrom (kindFields kind / third) .set ≡ true) × (fieldFrom (kindFields kind / third) .section ≡ queries)
+
+query-field : (kind : ℕ) → (leb 10 kind && leb kind 12) ≡ true → HasQuery kind
+unfolding kindFields kinds fieldFrom
+query-field kind h = go (eq-cases kind 10) (eq-cases kind 11)
+  where
+    go : ((kind ≡ 10) ⊎ (kind ≡ 10 → ⊥)) → ((kind ≡ 11) ⊎ (kind ≡ 11 → ⊥)) → HasQuery kind
+    go (inl p) q = rw p (refl, refl)
+    go (inr p) (inl q) = rw q (refl, refl)
+    go (inr p) (inr q) =
+        let low = leb-true 10 kind (and-left (leb 10 kind) _ h) in
+        let high = leb-true kind 12 (and-right (leb 10 kind) _ h) in
+        let e : kind ≡ 12 = omega arith in
+        rw e (refl, refl)
+
+module _ (t : List ℕ) (ok : Accepted t) (r : ℕ) (from : 1 ≤ r) (to : r ≤ getD t 2 0) (is : isCompr (rowAt t r) ≡ true) where
+  pub query-from : 1 ≤ rowAt t r .third
+  unfolding rowAt
+  query-from = ok .facts .expr r from to .in-third .fine .is-set (query-field (exprAt t r .kind) is .0)
+
+  pub query-to : rowAt t r .third ≤ getD t 4 0
+  unfolding rowAt
+  query-to =
+      let h = ok .facts .expr r from to .in-third .fine .in-range in
+      rw (query-field (exprAt t r .kind) is .1) at h
+
+  pub query-low : rowAt t r .third ≤ 32
+  query-low = omega (arith, query-to, ok .within .few-queries)
+
+-- The row that a walk has read.
+pub row-query : (t : List ℕ) → Accepted t → (r : ℕ) → (r ≡ 0 → ⊥) → r ≤ getD t 2 0 → (w : Row) → w ≡ rowAt t r → QueryIn w
+row-query t ok r ne to w is c =
+    let at : isCompr (rowAt t r) ≡ true = ap (λ (v : Row). isCompr v) (sym is) ∙ c in
+    rw is (query-from t ok r (omega arith) to at, query-low t ok r (omega arith) to at)

@@ -1,0 +1,139 @@
+-- What the query of a comprehension takes rises to the query around it.
+use mathlib.Core.Path.{_≡_, refl, sym, ap, ap₂, _∙_, subst}
+use mathlib.Core.Bool.{Bool, true, false, not, _&&_}
+use mathlib.Core.List.{List, [], _∷_, foldl}
+use Prim.Native.Nat.{ℕ}
+use Rattle.basics.specs.Truth.{not-both}
+use Rattle.basics.specs.Lists.{filter, elem-filter}
+use Rattle.basics.specs.Ranges.{range}
+use Rattle.names.specs.Sets.{member, Difference}
+use Rattle.names.specs.declared.Names.{Names}
+use Rattle.trees.specs.declared.Row.{Row}
+use Rattle.trees.specs.Trees.{Tree, rowOf}
+use Rattle.scopes.specs.NameSets.{contains, elements}
+use Rattle.scopes.specs.Scopes as spec
+use Rattle.scopes.specs.Scopes.{Span, owns, addInput, useInput}
+use Rattle.analysis.specs.States.{sound, State, setScope, addFirstUses, inTurn}
+use Rattle.analysis.specs.Comprs.{comprScope, comprInputs, propagate, comprsUse, useCompr}
+use Rattle.gather.specs.declared.scope.Scope.{Scope}
+use Rattle.gather.specs.Agrees.{Sets}
+use Rattle.used.specs.Own.{Holds}
+use Rattle.used.specs.Collects.{append-nil}
+use Rattle.frame.specs.declared.Fault.{Fault}
+use Rattle.frame.specs.declared.Fault.the-variants.{Sound, Undefined, UsedBefore, Lengths, IndexVariable}
+use Rattle.frame.specs.declared.Progress.{Progress}
+use Rattle.frame.specs.Faults.{isSound, meaning}
+use Rattle.frame.specs.Frames.{scoped, Whole, Agree}
+use Rattle.comprs.specs.declared.taken.Taken.{Taken}
+use Rattle.comprs.specs.Takes.{Takes, TakenBy}
+use Rattle.comprs.specs.OwnInputs.{OwnInputs, elem-elements, filter-both}
+use Rattle.comprs.specs.Propagated.{Joined, inputs-joined, joined-owns, Propagated}
+use Rattle.comprs.specs.Uses.{UsesNames}
+
+-- What is done once the query of e is analysed.
+abbrev pub rising : Tree → State → State
+rising e = inTurn (propagate e ∷ useCompr e ∷ [])
+
+module _ (w : Row) (work : List ℕ) where
+  -- From p, which has no fault, to r.
+  pub record Risen (p : Progress) (firsts : List ℕ) (r : Progress) (firsts′ : List ℕ) : Type 0 where
+    pub count : r .count ≡ p .count
+    pub rises : isSound (p .fault) ≡ true → (t spans : List ℕ) (s : State) (e : Tree) → rowOf e ≡ w
+        → Agree t spans p firsts work s → Agree t spans r firsts′ work (rising e s)
+
+-- ---- the steps
+
+is-sound : (f : Fault) → isSound f ≡ true → meaning f ≡ sound
+is-sound Sound h = refl
+is-sound (Undefined l c) h = absurd (not-both h refl)
+is-sound (UsedBefore l c) h = absurd (not-both h refl)
+is-sound (Lengths l c) h = absurd (not-both h refl)
+is-sound IndexVariable h = absurd (not-both h refl)
+
+sound-rises : (s : State) → s .run .fault ≡ sound → (e : Tree) → rising e s ≡ useCompr e (propagate e s)
+unfolding propagate setScope
+sound-rises s h e = rw h
+
+-- ---- the lists
+
+module _ (e : Tree) (s : State) (k : Scope) (a : Sets k (s .scope)) (tk : Taken) (takes : Takes (comprScope s e) tk) (own : Names)
+    (owned : OwnInputs k (tk .inputs) own) where
+  -- The inputs that are not own names.
+  others-held : (others : Names) → Difference (tk .inputs .words) (own .words) (others .words)
+      → Holds others (filter (λ x. not (owns (s .scope) x)) (comprInputs s e))
+  unfolding comprInputs
+  others-held others d = record {
+    has = λ x.
+        elem-filter (λ y. not (owns (s .scope) y)) x (elements (comprScope s e .inputs))
+        ∙ ap (λ (b : Bool). not (owns (s .scope) x) && b) (elem-elements (comprScope s e .inputs) (takes .low) x ∙ takes .inputs x)
+        ∙ bits (member (tk .inputs .words) x) (owns (s .scope) x)
+        ∙ ap (λ (b : Bool). member (tk .inputs .words) x && not b) (sym (owned (s .scope) a x)) ∙ sym (d .has x);
+  }
+    where
+      bits : (i o : Bool) → (not o && i) ≡ (i && not (i && o))
+      bits true true = refl
+      bits true false = refl
+      bits false true = refl
+      bits false false = refl
+
+  -- And those that are, in order.
+  own-listed : (sc : spec.Scope) → ((x : ℕ) → owns sc x ≡ owns (s .scope) x)
+      → filter (owns sc) (comprInputs s e) ≡ filter (member (own .words)) (range 0 128)
+  unfolding comprInputs elements
+  own-listed sc same =
+      filter-both (owns sc) (contains (comprScope s e .inputs)) (member (own .words))
+      (λ x. owned (s .scope) a x ∙ ap₂ _&&_ (sym (takes .inputs x)) (sym (same x))) (range 0 128)
+
+-- ---- a comprehension's turn
+
+module _ (w : Row) (work : List ℕ) (p : Progress) (ws : List ℕ) (tk : Taken) (by : TakenBy work (w .third) tk) (own : Names)
+    (owned : OwnInputs (p .scope) (tk .inputs) own) (others : Names) (d : Difference (tk .inputs .words) (own .words) (others .words))
+    (k : Scope) (put : Propagated (p .scope) (tk .uses) others k) (rs : List ℕ) (used : UsesNames w own ws rs) where
+  module _ (t spans : List ℕ) (s : State) (e : Tree) (is : rowOf e ≡ w) (h : Whole t spans p ws work s) where
+    takes : Takes (comprScope s e) tk
+    takes = rw is (by (s .run .schedules) (h .table .stored))
+
+    names : List ℕ
+    names = filter (λ x. not (owns (s .scope) x)) (comprInputs s e)
+
+    flagged : spec.Scope
+    flagged = useInput (comprScope s e .usesInput) (s .scope)
+
+    joined : Joined flagged names (foldl addInput flagged names)
+    joined = inputs-joined names flagged
+
+    same-owns : (x : ℕ) → owns (foldl addInput flagged names) x ≡ owns (s .scope) x
+    unfolding flagged names useInput owns
+    same-owns x = joined-owns flagged names (foldl addInput flagged names) joined x
+
+    uses-listed : comprsUse (e ∷ []) (propagate e s) ≡ filter (member (own .words)) (range 0 128)
+    unfolding comprsUse propagate setScope comprInputs flagged names
+    uses-listed =
+        append-nil _ ∙ own-listed e s (p .scope) (h .scope .sets) tk takes own owned (foldl addInput flagged names) same-owns
+
+    risen-whole : Whole t spans (scoped p k) rs work (useCompr e (propagate e s))
+    unfolding useCompr addFirstUses propagate setScope flagged names useInput
+    risen-whole = record {
+      scope = record {
+        sets = subst (λ (b : Bool). Sets k (foldl addInput (useInput b (s .scope)) names)) (sym (takes .uses))
+            (put (s .scope) (h .scope .sets) names (others-held e s (p .scope) (h .scope .sets) tk takes own owned others d));
+        placed = λ x q m. h .scope .placed x q (ap (λ (l : List Span). spec.spanIn l x) (sym (joined .locals)) ∙ m);
+      };
+      used-first = rw (uses-listed, is) (used (s .firstUses) (h .used-first));
+      rows = h .rows;
+      table = h .table;
+    }
+
+  pub risen : (r : Progress) → r ≡ scoped p k → Risen w work p ws r rs
+  unfolding useCompr addFirstUses propagate setScope
+  risen r is = record {
+    count = ap (λ (q : Progress). q .count) is;
+    rises = λ sounds t spans s e at h.
+        let clear : s .run .fault ≡ sound = sym (h .fault) ∙ is-sound (p .fault) sounds in
+        let now : Agree t spans (scoped p k) rs work (useCompr e (propagate e s)) = record {
+          fault = h .fault;
+          count = h .count;
+          whole = λ z. risen-whole t spans s e at (h .whole clear);
+        } in
+        rw (is, sound-rises s clear e) now;
+  }

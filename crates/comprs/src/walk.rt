@@ -1,0 +1,56 @@
+// What the comprehensions of an expression use of the query around them.
+
+use crate::own::own_inputs;
+use crate::taken::is_compr;
+use crate::taken::taken_by;
+use branches::kids_of;
+use branches::next_of;
+use gather::scope::Scope;
+use names::Names;
+use trees::Row;
+use trees::row_at;
+ghost use Prim.Native.Nat.{_≤_};
+ghost use lib.ListN.{length, getD};
+ghost use Rattle.gather.specs.Sheets.{Accepted};
+ghost use Rattle.comprs.specs.Queries.{QueryIn};
+ghost use Rattle.comprs.specs.Used.{ComprStep, ComprsUsed};
+
+// A row: the own names among the inputs of a comprehension's query come to `names`.
+fn compr_step(scope: Scope, work: &[u64], w: Row, names: Names) -> Names
+    requires { ⌜ (4736 ≤ length (now work)) × QueryIn w ⌝ }
+    ensures { λ r. ⌜ ComprStep scope (now (work .entry)) w names r ⌝ }
+{
+    if is_compr(w) {
+        let query = w.third as usize;
+        let taken = taken_by(work, query);
+        let inputs = taken.inputs;
+        let own = own_inputs(scope, inputs);
+        return names.union(own);
+    }
+    names
+}
+
+// The expression at a row, with the rest of its chain if `rest`.
+pub fn comprs_used(
+    tables: &[u16],
+    scope: Scope,
+    work: &[u64],
+    row: usize,
+    rest: bool,
+    names: Names,
+) -> Names
+    requires { ⌜ Accepted (now tables) × (row ≤ getD (now tables) 2 0) × (4736 ≤ length (now work)) ⌝ }
+    ensures { λ r. ⌜ ComprsUsed (now (tables .entry)) scope (now (work .entry)) row rest names r ⌝ }
+{
+    if row == 0 {
+        return names;
+    }
+    let w = row_at(tables, row);
+    let k = kids_of(w);
+    let next = next_of(w, rest);
+    let mut s = compr_step(scope, work, w, names);
+    s = comprs_used(tables, scope, work, k.first, true, s);
+    s = comprs_used(tables, scope, work, k.second, true, s);
+    s = comprs_used(tables, scope, work, k.third, true, s);
+    comprs_used(tables, scope, work, next, true, s)
+}
