@@ -1,0 +1,60 @@
+-- The words in front of the table are lent, and a row is written there.
+use mathlib.Core.Path.{sym, _∙_}
+use Rattle.recording.specs.Front.{front-length}
+use Rattle.recording.specs.Records.{one-fault, one-recorded, one-room}
+use borrow.Author.Needs.{needs}
+use Rattle.recording.proofs.record.record_one.Statement.{statement}
+use Rattle.recording.proofs.record.record_one.Tie as tie
+
+is-sound-requires : tie.Need-is-sound-requires
+is-sound-requires c κs = search needs
+
+sub-end : tie.Need-sub-end
+sub-end c = search needs
+
+slice-relend-prefix-push-definition : tie.Need-slice-relend-prefix-push-definition
+slice-relend-prefix-push-definition c = search needs
+
+slice-aggregate-push-definition : tie.Need-slice-aggregate-push-definition
+slice-aggregate-push-definition c =
+    sym (front-length (c .before .before .before .before .args .work .now))
+
+push-definition-requires : tie.Need-push-definition-requires
+push-definition-requires c κs =
+    let start = c .before .before .before .before in
+    one-room (start .args .p) (start .args .work .now) (start .pre)
+
+add-with-count : tie.Need-add-with-count
+add-with-count c = search needs
+
+with-count-requires : tie.Need-with-count-requires
+with-count-requires c κs = search needs
+
+same-length : tie.Need-same-length
+same-length c = search needs
+
+returns : tie.Need-returns
+returns c =
+    let test = c .before .before .before .before .before in
+    let push = c .before .before .before .push-definition in
+    one-recorded _ _ _ _ (sym (test .before .is-sound .ensures) ∙ test .if1 .taken) (test .before .before .before .pre) _ (push .kept .1 .1 .1 .1 .0) (push .ensures)
+    _ (c .with-count .ensures)
+
+returns-2 : tie.Need-returns-2
+returns-2 c =
+    one-fault _ _ _ _ (sym (c .before .is-sound .ensures) ∙ c .if1 .left)
+
+pub record-one-spec : {M : Type 1} → statement M
+record-one-spec =
+    tie.close
+    (tie.spec
+    is-sound-requires
+    sub-end
+    slice-relend-prefix-push-definition
+    slice-aggregate-push-definition
+    push-definition-requires
+    add-with-count
+    with-count-requires
+    same-length
+    returns
+    returns-2)

@@ -1,0 +1,76 @@
+// `check_first_use` of the variables of a `some`, and of a pattern's locals.
+
+use crate::first::check_first_use;
+use branches::next_of;
+use frame::Progress;
+use trees::Row;
+use trees::row_at;
+use used::assigned::pattern_of;
+ghost use Prim.Native.Nat.{_≤_, _<_};
+ghost use lib.ListN.{length, getD};
+ghost use Rattle.gather.specs.Sheets.{Accepted};
+ghost use Rattle.recording.specs.Checks.{VarChecked, VarsChecked, LeafChecked, AssignedChecked};
+
+// The kind of a variable.
+const VAR: u16 = 6;
+
+fn check_var(w: Row, p: Progress, firsts: &[u64]) -> Progress
+    requires { ⌜ (w .name < 128) × (128 ≤ length (now firsts)) ⌝ }
+    ensures { λ r. ⌜ VarChecked w p (now (firsts .entry)) r ⌝ }
+{
+    if w.kind == VAR {
+        return check_first_use(w, p, firsts);
+    }
+    p
+}
+
+// The variables of the chain from a row on.
+pub fn check_vars(tables: &[u16], row: usize, p: Progress, firsts: &[u64]) -> Progress
+    requires { ⌜ Accepted (now tables) × (row ≤ getD (now tables) 2 0) × (128 ≤ length (now firsts)) ⌝ }
+    ensures { λ r. ⌜ VarsChecked (now (tables .entry)) row p (now (firsts .entry)) r ⌝ }
+{
+    if row == 0 {
+        return p;
+    }
+    let w = row_at(tables, row);
+    let next = next_of(w, true);
+    let q = check_var(w, p, firsts);
+    check_vars(tables, next, q, firsts)
+}
+
+fn check_leaf(w: Row, p: Progress, firsts: &[u64]) -> Progress
+    requires { ⌜ (w .name < 128) × (128 ≤ length (now firsts)) ⌝ }
+    ensures { λ r. ⌜ LeafChecked w p (now (firsts .entry)) r ⌝ }
+{
+    if w.kind != VAR {
+        return p;
+    }
+    let name = w.name as usize;
+    let scope = p.scope;
+    if scope.locals.contains(name) {
+        return check_first_use(w, p, firsts);
+    }
+    p
+}
+
+// The locals of the pattern at a row, with the rest of its chain if `rest`.
+pub fn check_assigned(
+    tables: &[u16],
+    row: usize,
+    rest: bool,
+    p: Progress,
+    firsts: &[u64],
+) -> Progress
+    requires { ⌜ Accepted (now tables) × (row ≤ getD (now tables) 2 0) × (128 ≤ length (now firsts)) ⌝ }
+    ensures { λ r. ⌜ AssignedChecked (now (tables .entry)) row rest p (now (firsts .entry)) r ⌝ }
+{
+    if row == 0 {
+        return p;
+    }
+    let w = row_at(tables, row);
+    let inner = pattern_of(w);
+    let next = next_of(w, rest);
+    let mut q = check_leaf(w, p, firsts);
+    q = check_assigned(tables, inner, true, q, firsts);
+    check_assigned(tables, next, true, q, firsts)
+}

@@ -1,0 +1,33 @@
+// `check_first_use`: was a name used before the variable that binds it?
+
+use frame::Fault;
+use frame::Progress;
+use trees::Row;
+ghost use Prim.Native.Nat.{_≤_, _<_};
+ghost use lib.ListN.{length};
+ghost use Rattle.recording.specs.FirstUse.{UseChecked};
+
+// A first use is the word 1 + line * LINE + column, and none is 0.
+const LINE: u64 = 65536;
+
+// A fault at the first use of the variable's name, where that stands before the variable. `firsts` has a word a name.
+pub fn check_first_use(w: Row, p: Progress, firsts: &[u64]) -> Progress
+    requires { ⌜ (w .name < 128) × (128 ≤ length (now firsts)) ⌝ }
+    ensures { λ r. ⌜ UseChecked w p (now (firsts .entry)) r ⌝ }
+{
+    if p.is_sound() {
+        let name = w.name as usize;
+        let word = firsts[name];
+        if word == 0 {
+            return p;
+        }
+        let place = word - 1;
+        if place < w.line as u64 * LINE + w.col as u64 {
+            let line = (place / LINE) as u16;
+            let col = (place % LINE) as u16;
+            return p.fail(Fault::UsedBefore(line, col));
+        }
+        return p;
+    }
+    p
+}

@@ -1,0 +1,84 @@
+// `gather_some_vars`: the variables that a some-in pattern binds.
+
+use branches::next_of;
+use gather::scope::Scope;
+use gather::special::is_input;
+use names::Names;
+use trees::Row;
+use trees::row_at;
+use used::assigned::pattern_of;
+use used::first::add_first_use;
+ghost use Prim.Native.Nat.{_≤_, _<_};
+ghost use lib.ListN.{length, getD};
+ghost use Rattle.gather.specs.Sheets.{Accepted};
+ghost use Rattle.recording.specs.SomeVars.{Binds, SomeStep, SomeVars, EnterStep, SomeEntered};
+
+// The kind of a variable.
+const VAR: u16 = 6;
+
+// Is it a variable and a local, and not `input`?
+fn is_bound(tables: &[u16], scope: Scope, w: Row) -> bool
+    requires { ⌜ (8192 ≤ length (now tables)) × (w .name < 128) ⌝ }
+    ensures { λ r. ⌜ Binds (now (tables .entry)) scope w r ⌝ }
+{
+    if w.kind != VAR {
+        return false;
+    }
+    if is_input(tables, w.name) {
+        return false;
+    }
+    let name = w.name as usize;
+    scope.locals.contains(name)
+}
+
+fn some_step(tables: &[u16], scope: Scope, w: Row, names: Names) -> Names
+    requires { ⌜ (8192 ≤ length (now tables)) × (w .name < 128) ⌝ }
+    ensures { λ r. ⌜ SomeStep (now (tables .entry)) scope w names r ⌝ }
+{
+    if is_bound(tables, scope, w) {
+        let name = w.name as usize;
+        return names.insert(name);
+    }
+    names
+}
+
+// The pattern at a row, with the rest of its chain. Its names come to `names`.
+pub fn some_vars(tables: &[u16], scope: Scope, row: usize, names: Names) -> Names
+    requires { ⌜ Accepted (now tables) × (row ≤ getD (now tables) 2 0) ⌝ }
+    ensures { λ r. ⌜ SomeVars (now (tables .entry)) scope row names r ⌝ }
+{
+    if row == 0 {
+        return names;
+    }
+    let w = row_at(tables, row);
+    let inner = pattern_of(w);
+    let next = next_of(w, true);
+    let mut s = some_step(tables, scope, w, names);
+    s = some_vars(tables, scope, inner, s);
+    some_vars(tables, scope, next, s)
+}
+
+fn enter_step(tables: &[u16], scope: Scope, w: Row, firsts: &mut [u64])
+    requires { ⌜ (8192 ≤ length (now tables)) × (w .name < 128) × (128 ≤ length (now firsts)) ⌝ }
+    ensures { λ _. ⌜ EnterStep (now (tables .entry)) scope w (now (firsts .entry)) (now (firsts .exit)) ⌝ }
+{
+    if is_bound(tables, scope, w) {
+        add_first_use(w, firsts);
+    }
+}
+
+// The same pattern's variables are uses of their names. `firsts` has a word a name.
+pub fn first_some(tables: &[u16], scope: Scope, row: usize, firsts: &mut [u64])
+    requires { ⌜ Accepted (now tables) × (row ≤ getD (now tables) 2 0) × (128 ≤ length (now firsts)) ⌝ }
+    ensures { λ _. ⌜ SomeEntered (now (tables .entry)) scope row (now (firsts .entry)) (now (firsts .exit)) ⌝ }
+{
+    if row == 0 {
+        return;
+    }
+    let w = row_at(tables, row);
+    let inner = pattern_of(w);
+    let next = next_of(w, true);
+    enter_step(tables, scope, w, firsts);
+    first_some(tables, scope, inner, firsts);
+    first_some(tables, scope, next, firsts);
+}
