@@ -1,0 +1,103 @@
+-- The names that an extra argument binds.
+use mathlib.Core.Path.{_≡_, refl, sym, ap, _∙_}
+use mathlib.Core.Bool.{true, false, _&&_}
+use mathlib.Core.List.{List, []}
+use mathlib.Core.Logic.{_⊎_, inl, inr, ⊎-elim}
+use mathlib.Core.Option.{none, some}
+use Prim.Native.Nat.{ℕ}
+use native.Mathlib.Omega.{arith}
+use lib.Dec.{eqb, ltb}
+use borrow.Author.Tests.{ltb-true, eqb-true}
+use Rattle.basics.specs.Truth.{bool-cases, not-both, or-cases}
+use Rattle.basics.specs.Lists.{elem, elem-filter}
+use Rattle.basics.specs.Ranges.{range, elem-range}
+use Rattle.names.specs.Sets.{Empty}
+use Rattle.names.specs.declared.Names.{Names}
+use Rattle.trees.specs.Sheet.{nameBound}
+use Rattle.trees.specs.Lists.{isSome}
+use Rattle.trees.specs.Trees.{Tree, nil, node, treeAt}
+use Rattle.trees.specs.TreeRows as rows
+use Rattle.trees.specs.TreeRows.{allRows}
+use Rattle.scopes.specs.NameSets.{empty, contains, insert, elements}
+use Rattle.scopes.specs.Scopes as spec
+use Rattle.scopes.specs.Scopes.{Span, noScope, addLocal, addUnscoped, addInput, useInput}
+use Rattle.scopes.specs.Gather.{gatherAssignedVars}
+use Rattle.scopes.specs.GatherLaws.{Kept, assigned-kept}
+use Rattle.scopes.specs.Below.{nameBelow}
+use Rattle.branches.specs.Walks.{alone}
+use Rattle.analysis.specs.Comprs.{Nested}
+use Rattle.analysis.specs.Exprs.{extraVars}
+use Rattle.sizes.specs.LowNames.{facts-names}
+use Rattle.gather.specs.declared.scope.Scope.{Scope}
+use Rattle.gather.specs.Sheets.{countsAt, specialAt, sheetAt, Accepted}
+use Rattle.gather.specs.Agrees.{NoNames}
+use Rattle.gather.specs.Outers.{Outer}
+use Rattle.gather.specs.Exprs.{exprBy}
+use Rattle.gather.specs.Assigned.{AssignWalk}
+use Rattle.used.specs.Own.{Holds}
+
+-- No unscoped name is 128 or more.
+abbrev Low : spec.Scope → Type 0
+Low s = (x : ℕ) → contains (s .unscoped) x ≡ true → ltb x nameBound ≡ true
+
+low-kept : (parents : List spec.Scope) → Kept parents nameBelow Low
+unfolding addLocal addUnscoped addInput useInput contains insert
+low-kept parents = record {
+  local = λ s w l h. h;
+  unscoped = λ s w l h x e.
+      ⊎-elim (λ (p : eqb x (w .name) ≡ true). ap (λ (n : ℕ). ltb n nameBound) (eqb-true x (w .name) p) ∙ l)
+      (λ (p : s .unscoped x ≡ true). h x p) (or-cases (eqb x (w .name)) (s .unscoped x) e);
+  input = λ s w l h. h;
+  flag = λ s b h. h;
+}
+
+none-low : Low noScope
+unfolding empty contains
+none-low x e = absurd (not-both e refl)
+
+alone-rows : (e : Tree) → allRows nameBelow e ≡ true → allRows nameBelow (alone e) ≡ true
+alone-rows nil h = h
+alone-rows (node w a b c n) h = rows.alone nameBelow w a b c n (rows.parts nameBelow w a b c n h)
+
+-- What the list of such a set's elements has is what the set has.
+elements-has : (s : spec.Scope) → Low s → (x : ℕ) → elem x (elements (s .unscoped)) ≡ contains (s .unscoped) x
+unfolding elements
+elements-has s low x = elem-filter (contains (s .unscoped)) x (range 0 nameBound) ∙ go (bool-cases (contains (s .unscoped) x))
+  where
+    go : (contains (s .unscoped) x ≡ true) ⊎ (contains (s .unscoped) x ≡ false)
+        → (contains (s .unscoped) x && elem x (range 0 nameBound)) ≡ contains (s .unscoped) x
+    go (inl p) = rw p (elem-range x 0 nameBound (omega arith) (ltb-true x nameBound (low x p)))
+    go (inr p) = rw p
+
+module _ (t outer : List ℕ) (arg : ℕ) where
+  pub record ExtraVars (r : Names) : Type 0 where
+    pub none : arg ≡ 0 → Holds r []
+    pub all : (arg ≡ 0 → ⊥) → (nested : Nested) (parents : List spec.Scope) → Outer outer parents
+        → Holds r (extraVars (sheetAt t) nested parents (exprBy t false arg))
+
+  pub vars-none : arg ≡ 0 → (r : Names) → Empty (r .words) → ExtraVars r
+  vars-none z r h = record { none = λ e. record { has = λ x. sym (h .has x) }; all = λ n. absurd (n z) }
+
+  module _ (ok : Accepted t) where
+    abbrev gathered : List spec.Scope → spec.Scope
+    gathered parents = gatherAssignedVars (sheetAt t) parents false (exprBy t false arg) noScope
+
+    gathered-low : (parents : List spec.Scope) → Low (gathered parents)
+    unfolding sheetAt
+    gathered-low parents =
+        assigned-kept (sheetAt t) parents nameBelow refl Low (low-kept parents) false (exprBy t false arg)
+        (alone-rows (treeAt (sheetAt t) arg) (rows.tree-rows nameBelow (sheetAt t) (facts-names (countsAt t) (specialAt t) t (ok .within) (ok .facts)) refl arg))
+        noScope none-low
+
+    pub vars-gathered : (arg ≡ 0 → ⊥) → (k : Scope) → NoNames k → (l m : List ℕ) (r : Scope)
+        → AssignWalk t outer arg false false k l r m → ExtraVars (r .unscoped)
+    unfolding extraVars
+    vars-gathered n k clear l m r walk = record {
+      none = λ z. absurd (n z);
+      all = λ there nested parents o.
+          let end = walk parents o noScope (record { sets = clear; placed = λ x p e. absurd (none-placed p e) }) in
+          record { has = λ x. elements-has (gathered parents) (gathered-low parents) x ∙ end .sets .unscoped x };
+    }
+      where
+        none-placed : (p : Span) → none ≡ some p → ⊥
+        none-placed p e = not-both (ap isSome e) refl

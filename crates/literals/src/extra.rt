@@ -1,0 +1,64 @@
+// The extra argument of a call, and the names that it binds.
+
+use frame::Progress;
+use gather::assigned::gather_assigned_vars;
+use gather::extra::get_extra_arg;
+use gather::scope::Scope;
+use names::Names;
+ghost use Prim.Native.Nat.{_≤_};
+ghost use lib.ListN.{length, getD};
+ghost use Rattle.gather.specs.Sheets.{Accepted};
+ghost use Rattle.literals.specs.ExtraArgs.{ExtraArg};
+ghost use Rattle.literals.specs.ExtraNames.{ExtraVars};
+ghost use Rattle.literals.specs.Binding.{Joined, Bound};
+
+// The row of the extra argument of the expression at a row, if it may have one; 0 where there is none.
+pub fn extra_arg(tables: &[u16], row: usize, call: bool) -> usize
+    requires { ⌜ Accepted (now tables) × (row ≤ getD (now tables) 2 0) ⌝ }
+    ensures { λ r. ⌜ ExtraArg (now (tables .entry)) row call r ⌝ }
+{
+    if call {
+        return get_extra_arg(tables, row);
+    }
+    0
+}
+
+// The names that the extra argument at a row binds, none where the row is 0. None of them is a local, so nothing comes to `spans`.
+pub fn extra_vars(tables: &[u16], outer: &[u64], arg: usize) -> Names
+    requires { ⌜ Accepted (now tables) × (128 ≤ length (now outer)) × (arg ≤ getD (now tables) 2 0) ⌝ }
+    ensures { λ r. ⌜ ExtraVars (now (tables .entry)) (now (outer .entry)) arg r ⌝ }
+{
+    if arg == 0 {
+        return Names::empty();
+    }
+    let mut spans: [u64; 128] = [0; 128];
+    let none = Scope::empty();
+    let scope = gather_assigned_vars(tables, outer, arg, false, false, none, &mut spans);
+    scope.unscoped
+}
+
+// The names are unscoped besides.
+fn join_unscoped(scope: Scope, extras: Names) -> Scope
+    ensures { λ r. ⌜ Joined scope extras r ⌝ }
+{
+    let locals = scope.locals;
+    let unscoped = scope.unscoped.union(extras);
+    let inputs = scope.inputs;
+    Scope {
+        locals,
+        unscoped,
+        inputs,
+        uses: scope.uses,
+    }
+}
+
+// They are so from here on, unless there is a fault.
+pub fn bind_extras(p: Progress, extras: Names) -> Progress
+    ensures { λ r. ⌜ Bound p extras r ⌝ }
+{
+    if p.is_sound() {
+        let scope = join_unscoped(p.scope, extras);
+        return p.with_scope(scope);
+    }
+    p
+}

@@ -1,0 +1,37 @@
+// The names that an expression uses, where nothing is recorded.
+
+use branches::kids_of;
+use branches::next_of;
+use gather::scope::Scope;
+use names::Names;
+use trees::row_at;
+use used::step::used_step;
+ghost use Prim.Native.Nat.{_≤_};
+ghost use lib.ListN.{getD};
+ghost use Rattle.gather.specs.Sheets.{Accepted};
+ghost use Rattle.literals.specs.Used.{NamesWalk};
+
+// The expression at a row, with the rest of its chain if `rest`. Its names come to `names`.
+pub fn used_names(
+    tables: &[u16],
+    scope: Scope,
+    extras: Names,
+    row: usize,
+    rest: bool,
+    names: Names,
+) -> Names
+    requires { ⌜ Accepted (now tables) × (row ≤ getD (now tables) 2 0) ⌝ }
+    ensures { λ r. ⌜ NamesWalk (now (tables .entry)) scope extras row rest names r ⌝ }
+{
+    if row == 0 {
+        return names;
+    }
+    let w = row_at(tables, row);
+    let k = kids_of(w);
+    let next = next_of(w, rest);
+    let mut s = used_step(tables, scope, extras, w, names);
+    s = used_names(tables, scope, extras, k.first, true, s);
+    s = used_names(tables, scope, extras, k.second, true, s);
+    s = used_names(tables, scope, extras, k.third, true, s);
+    used_names(tables, scope, extras, next, true, s)
+}
