@@ -1,0 +1,105 @@
+-- The places of a query, read off the scheduler's buffers.
+use mathlib.Core.Path.{_≡_, sym, ap, _∙_, subst}
+use mathlib.Core.Bool.{Bool, true, false, cond}
+use mathlib.Core.List.{List, _++_, map, map-id}
+use mathlib.Core.Logic.{_⊎_, inl, inr}
+use Prim.Native.Nat.{ℕ, _+_, _-_, _*_, _<_}
+use native.Mathlib.Omega.{arith}
+use lib.Dec.{eqb}
+use lib.ListN.{length, getD, replicate, length-map, List·getD-append}
+use borrow.Author.Tests.{eqb-true}
+use Rattle.basics.specs.Truth.{bool-cases}
+use Rattle.basics.specs.Ranges.{range}
+use Rattle.basics.specs.Members.{getD-mem, mem-elem}
+use Rattle.buffers.specs.Fills.{length-range}
+use Rattle.walks.specs.Walked.{walked-below}
+use Rattle.turns.specs.Definitions.{Definition}
+use Rattle.turns.specs.Turns.{placed, order, reached}
+use Rattle.turns.specs.Orders.{placedOrder}
+use Rattle.turns.specs.Labels.{placed-by-order, order-by-order}
+use Rattle.turns.specs.OrderWalks.{placed-walked}
+use Rattle.rows.specs.Rows.{definitions}
+use Rattle.rows.specs.Zeros.{zero-at}
+use Rattle.bounds.specs.Question.{accepts}
+use Rattle.bounds.specs.Answers.{accepted}
+use Rattle.schedule.specs.declared.Outcome.{Outcome}
+use Rattle.schedule.specs.Call.{mark, orderBuffer, reachedBuffer, Scheduled}
+use Rattle.schedule.specs.Leaves.{getD-map-range}
+use Rattle.answer.specs.Stored.{PlaceIn}
+use Rattle.store.specs.Words.{placeWord}
+use Rattle.conclude.specs.SameOrder.{Within, same-order, same-reached}
+
+-- ---- the order
+
+module _ (defs : List Definition) (n m : ℕ) where
+  pub order-length : length (order defs n m) ≡ n
+  order-length = ap length (order-by-order defs n m) ∙ go (placed defs n m) (placed-by-order defs n m)
+    where
+      go : (p : Bool) → p ≡ eqb (length (placedOrder defs n m)) n → length (cond p (placedOrder defs n m) (range 0 n)) ≡ n
+      go true e = eqb-true _ n (sym e)
+      go false e = length-range n
+
+  -- Its entries are statements.
+  pub order-below : (k : ℕ) → k < n → getD (order defs n m) k 0 < n
+  order-below k l =
+      subst (λ (o : List ℕ). getD o k 0 < n) (sym (order-by-order defs n m)) (go (placed defs n m) (placed-by-order defs n m))
+    where
+      go : (p : Bool) → p ≡ eqb (length (placedOrder defs n m)) n → getD (cond p (placedOrder defs n m) (range 0 n)) k 0 < n
+      go true e =
+          let o = placedOrder defs n m in
+          walked-below (placed-walked defs n m) (getD o k 0)
+          (mem-elem o (getD-mem o k 0 (omega (arith, eqb-true (length o) n (sym e)))))
+      go false e =
+          omega (arith, ap (λ (o : List ℕ). getD o k 0) (sym (map-id (range 0 n))), getD-map-range (λ i. i) n k l)
+
+-- ---- the buffers
+
+module _ (ws : List ℕ) (n : ℕ) where
+  -- Whatever the scheduler answers, the entries of the order are indexes of the marks.
+  entries-low : (room : ℕ) (k : ℕ) → k < n → getD (orderBuffer ws n room 128) k 0 < 128
+  entries-low room k l = go (bool-cases (accepts ws n room 128))
+    where
+      go : (accepts ws n room 128 ≡ true) ⊎ (accepts ws n room 128 ≡ false) → getD (orderBuffer ws n room 128) k 0 < 128
+      go (inl a) =
+          let o = order (definitions ws) n 128 in
+          let few = accepted ws n room 128 a .few in
+          rw a (omega (
+            arith,
+            List·getD-append o (replicate (room - n) 0) 0 k (omega (arith, order-length (definitions ws) n 128)),
+            order-below (definitions ws) n 128 k l,
+          ))
+      go (inr a) = rw a (omega (arith, zero-at room k))
+
+  pub entries-in : (room : ℕ) (r : Outcome) (o m : List ℕ) → Scheduled ws n room 128 r o m → length m ≡ 128 → (k : ℕ) → k < n
+      → getD o k 0 < length m
+  entries-in room r o m s long k l = omega (arith, ap (λ (x : List ℕ). getD x k 0) (s .ordered), entries-low room k l, long)
+
+  module _ (room marks : ℕ) (a : accepts ws n room marks ≡ true) (defs : List Definition) (up : Within (definitions ws) defs)
+      (down : Within defs (definitions ws)) where
+    -- A place: its statement, and whether that was reached.
+    pub place-in : (k : ℕ) → k < n
+        → (let i = getD (order defs n 128) k 0 in
+        PlaceIn (placeWord (orderBuffer ws n room marks) (reachedBuffer ws n room marks) k) i (mark (reached defs n 128 i)))
+    place-in k l = record { index = omega (arith, low, accepted ws n room marks a .few); both = rw a both }
+      where
+        low : getD (order defs n 128) k 0 < n
+        low = order-below defs n 128 k l
+
+        first : getD (order (definitions ws) n 128 ++ replicate (room - n) 0) k 0 ≡ getD (order defs n 128) k 0
+        first =
+            List·getD-append (order (definitions ws) n 128) (replicate (room - n) 0) 0 k (omega (arith, order-length (definitions ws) n 128))
+            ∙ ap (λ (o : List ℕ). getD o k 0) (same-order (definitions ws) defs up down n 128)
+
+        second : getD (map (λ i. mark (reached (definitions ws) n 128 i)) (range 0 n) ++ replicate (marks - n) 0) (getD (order defs n 128) k 0) 0
+            ≡ mark (reached defs n 128 (getD (order defs n 128) k 0))
+        second =
+            let f : ℕ → ℕ = λ i. mark (reached (definitions ws) n 128 i) in
+            let i = getD (order defs n 128) k 0 in
+            List·getD-append (map f (range 0 n)) (replicate (marks - n) 0) 0 i (omega (arith, low, length-map (range 0 n) f, length-range n))
+            ∙ getD-map-range f n i low ∙ ap mark (same-reached (definitions ws) defs up down n 128 i)
+
+        both : placeWord (order (definitions ws) n 128 ++ replicate (room - n) 0) (map (λ i. mark (reached (definitions ws) n 128 i)) (range 0 n) ++ replicate (marks - n) 0) k
+            ≡ 2 * getD (order defs n 128) k 0 + mark (reached defs n 128 (getD (order defs n 128) k 0))
+        both =
+            let marked = map (λ i. mark (reached (definitions ws) n 128 i)) (range 0 n) ++ replicate (marks - n) 0 in
+            ap (λ (i : ℕ). 2 * i + getD marked i 0) first ∙ ap (λ (r : ℕ). 2 * getD (order defs n 128) k 0 + r) second

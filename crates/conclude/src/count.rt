@@ -1,0 +1,30 @@
+// How many statements a query has.
+
+use records::first_at;
+use records::statement_at;
+ghost use mathlib.Core.Path.{_≡_};
+ghost use Prim.Native.Nat.{_+_, _≤_};
+ghost use lib.ListN.{getD};
+ghost use Rattle.gather.specs.Sheets.{Accepted};
+ghost use Rattle.frame.specs.Table.{countAt};
+ghost use Rattle.conclude.specs.Counts.{countFrom};
+
+// Those from a row on, after `seen` others.
+fn count_from(tables: &[u16], row: usize, seen: usize) -> usize
+    requires { ⌜ Accepted (now tables) × (row ≤ getD (now tables) 3 0) × (seen + countFrom (now tables) row ≤ 128) ⌝ }
+    ensures { λ r. ⌜ r ≡ seen + countFrom (now (tables .entry)) row ⌝ }
+{
+    if row == 0 {
+        return seen;
+    }
+    let st = statement_at(tables, row);
+    count_from(tables, st.next as usize, seen + 1)
+}
+
+pub(crate) fn count_stmts(tables: &[u16], query: usize) -> usize
+    requires { ⌜ Accepted (now tables) × (1 ≤ query) × (query ≤ getD (now tables) 4 0) ⌝ }
+    ensures { λ r. ⌜ r ≡ countAt (now (tables .entry)) query ⌝ }
+{
+    let row = first_at(tables, query) as usize;
+    count_from(tables, row, 0)
+}
