@@ -1,0 +1,290 @@
+-- `process_comprs`: the walk goes on to later rows only, and to the query of a comprehension with the levels that are left.
+use mathlib.Core.Path.{_≡_, refl, _∙_}
+use Prim.Native.Nat.{ℕ, _+_, _*_, _≤_}
+use native.Mathlib.Omega.{arith}
+use lib.ListN.{length}
+use borrow.Author.Needs.{needs}
+use Rattle.trees.specs.Sheet.{rowAt, row-fields}
+use Rattle.gather.specs.Walking.{remains, Falls, Calls, row-low, calls}
+use Rattle.frame.specs.Tails.{whole, whole-length}
+use Rattle.comprs.specs.Queries.{QueryIn, row-query}
+use Rattle.analyzer.specs.Does.{DoesComprs}
+use Rattle.analyzer.specs.ComprWalk.{does-none, ownCompr, room-at, query-asks, own-does, first-asks, second-asks, third-asks, next-asks, turn-does}
+use Rattle.analyzer.proofs.query.analyze_query.Reads as analyze-query
+use Rattle.analyzer.proofs.query.process_comprs.Reads as process-comprs
+use Rattle.branches.proofs.kids_of.Reads as kids-of-reads
+use Rattle.branches.proofs.next_of.Reads as next-of-reads
+use Rattle.comprs.proofs.after.after_compr.Reads as after-compr-reads
+use Rattle.comprs.proofs.pending.pending.Reads as pending-reads
+use Rattle.trees.proofs.row_at.Reads as row-at-reads
+use Rattle.analyzer.proofs.query.+analyze_query+assign_pair+process_comprs+process_every+process_expr+process_literal+process_non_var+process_non_vars+process_pairs+process_some_in+process_stmts+use_expr.Lts-process_comprs as process-comprs-lts
+use Rattle.analyzer.proofs.query.+analyze_query+assign_pair+process_comprs+process_every+process_expr+process_literal+process_non_var+process_non_vars+process_pairs+process_some_in+process_stmts+use_expr.Proof.Measures.{analyze-query-below, process-comprs-at, process-comprs-below}
+
+abbrev pub known : ℕ → process-comprs-lts.Claims
+known m = (
+  row-at-reads.Asked,
+  row-at-reads.Learnt,
+  kids-of-reads.Asked,
+  kids-of-reads.Learnt,
+  next-of-reads.Asked,
+  next-of-reads.Learnt,
+  pending-reads.Asked,
+  pending-reads.Learnt,
+  analyze-query-below m,
+  analyze-query.Post,
+  after-compr-reads.Asked,
+  after-compr-reads.Learnt,
+  process-comprs-below m,
+  process-comprs.Post,
+)
+
+pub returns : (m : ℕ) → process-comprs-lts.Need-returns (known m) (process-comprs-at m) process-comprs.Post
+returns m c =
+    let start = c .before .before .before .before .before in
+    does-none _ _ _ (start .pre .1 .0) _ (c .if1 .taken) (start .args .rest) _ _ _
+
+pub row-at-requires : (m : ℕ) → process-comprs-lts.Need-row-at-requires (known m) (process-comprs-at m) process-comprs.Post
+row-at-requires m c κs =
+    let pre = c .before .before .before .before .before .pre .1 in
+    (pre .0 .room, row-low _ (pre .0) _ (c .if1 .left) (pre .3))
+
+-- The row that was read.
+row-is : (m : ℕ) (c : process-comprs-lts.After-row-at (known m) (process-comprs-at m) process-comprs.Post)
+    → let start = c .before .before .before .before .before .before in
+    c .row-at .result ≡ rowAt (start .args .tables .now) (start .args .row)
+row-is m c = c .row-at .ensures ∙ row-fields _ _
+
+-- Its query, if it is a comprehension.
+query-in : (m : ℕ) (c : process-comprs-lts.After-row-at (known m) (process-comprs-at m) process-comprs.Post) → QueryIn (c .row-at .result)
+query-in m c =
+    let pre = c .before .before .before .before .before .before .pre .1 in
+    row-query _ (pre .0) _ (c .before .if1 .left) (pre .3) _ (row-is m c)
+
+pub kids-of-requires : (m : ℕ) → process-comprs-lts.Need-kids-of-requires (known m) (process-comprs-at m) process-comprs.Post
+kids-of-requires m c κs = search needs
+
+pub next-of-requires : (m : ℕ) → process-comprs-lts.Need-next-of-requires (known m) (process-comprs-at m) process-comprs.Post
+next-of-requires m c κs = search needs
+
+-- There is room for the rows of definitions and for the table.
+room : (m : ℕ) (c : process-comprs-lts.After-row-at (known m) (process-comprs-at m) process-comprs.Post)
+    → let start = c .before .before .before .before .before .before in
+    4 * start .args .p .count + 4736 ≤ length (start .args .work .now)
+room m c =
+    let pre = c .before .before .before .before .before .before .pre .1 in
+    room-at _ (pre .0) _ _ (c .before .if1 .left) (pre .3) _ (row-is m c) _ _ _ (pre .4)
+
+pub pending-requires : (m : ℕ) → process-comprs-lts.Need-pending-requires (known m) (process-comprs-at m) process-comprs.Post
+pending-requires m c κs =
+    let r = c .before .before .before in
+    let pre = r .before .before .before .before .before .before .pre .1 in
+    (omega (arith, room m r), query-in m r)
+
+pub mul-at : (m : ℕ) → process-comprs-lts.Need-mul-at (known m) (process-comprs-at m) process-comprs.Post
+mul-at m c =
+    let r = c .before .before .before .before .before in
+    omega (arith, room m r, r .before .before .before .before .before .before .good .1 .1 .1 .1 .1 .1 .1 .0 .1)
+
+pub cast-analyze-query : (m : ℕ) → process-comprs-lts.Need-cast-analyze-query (known m) (process-comprs-at m) process-comprs.Post
+cast-analyze-query m c = search needs
+
+pub cast-analyze-query-2 : (m : ℕ) → process-comprs-lts.Need-cast-analyze-query-2 (known m) (process-comprs-at m) process-comprs.Post
+cast-analyze-query-2 m c = search needs
+
+pub mul-analyze-query : (m : ℕ) → process-comprs-lts.Need-mul-analyze-query (known m) (process-comprs-at m) process-comprs.Post
+mul-analyze-query m c =
+    let r = c .before .before .before .before .before .before .before in
+    omega (arith, room m r, r .before .before .before .before .before .before .good .1 .1 .1 .1 .1 .1 .1 .0 .1)
+
+pub sub-analyze-query : (m : ℕ) → process-comprs-lts.Need-sub-analyze-query (known m) (process-comprs-at m) process-comprs.Post
+sub-analyze-query m c =
+    let r = c .before .before .before .before .before .before .before in
+    omega (arith, room m r, r .before .before .before .before .before .before .good .1 .1 .1 .1 .1 .1 .1 .0 .1)
+
+pub part-analyze-query-start : (m : ℕ) → process-comprs-lts.Need-part-analyze-query-start (known m) (process-comprs-at m) process-comprs.Post
+part-analyze-query-start m c =
+    let r = c .before .before .before .before .before .before .before in
+    omega (arith, room m r, r .before .before .before .before .before .before .good .1 .1 .1 .1 .1 .1 .1 .0 .1)
+
+pub part-analyze-query-end : (m : ℕ) → process-comprs-lts.Need-part-analyze-query-end (known m) (process-comprs-at m) process-comprs.Post
+part-analyze-query-end m c =
+    let r = c .before .before .before .before .before .before .before in
+    omega (arith, room m r, r .before .before .before .before .before .before .good .1 .1 .1 .1 .1 .1 .1 .0 .1)
+
+pub analyze-query-requires : (m : ℕ) → process-comprs-lts.Need-analyze-query-requires (known m) (process-comprs-at m) process-comprs.Post
+analyze-query-requires m c κs =
+    let q = c .before .before .before .before in
+    let r = q .before .before .before .before in
+    let start = r .before .before .before .before .before .before in
+    let pre = start .pre .1 in (
+      omega (arith, start .pre .0),
+      (
+        pre .0,
+        pre .1,
+        query-asks _ (pre .0) _ _ (r .before .if1 .left) (pre .3) _ (row-is m r) _ _ _ (pre .4) _ (q .pending .ensures) (query-in m r),
+      ),
+    )
+
+pub after-compr-requires : (m : ℕ) → process-comprs-lts.Need-after-compr-requires (known m) (process-comprs-at m) process-comprs.Post
+after-compr-requires m c κs =
+    let a = c .before .before .before .before in
+    let r = a .before .before .before .before .before .before .before .before .before in
+    let start = r .before .before .before .before .before .before in
+    let pre = start .pre .1 in (
+      pre .2,
+      omega (arith, room m r, whole-length (start .args .work .now) (4 * start .args .p .count) (room m r) (a .analyze-query .last .1 .1 .1 .1 .1 .1 .0) (a .analyze-query .kept .1 .1 .1 .1 .1 .1 .0)),
+      query-in m r,
+    )
+
+-- The row's own turn.
+own : (m : ℕ) (c : process-comprs-lts.After-after-compr (known m) (process-comprs-at m) process-comprs.Post)
+    → let q = c .before .before .before .before .before in
+    let r = q .before .before .before .before .before .before .before .before .before in
+    let a = r .before .before .before .before .before .before .args in
+    DoesComprs (a .tables .now) (a .inner .now) (ownCompr (a .tables .now) (a .row) (r .row-at .result)) (a .levels) (a .p) (a .firsts .now) (a .work .now)
+    (c .after-compr .result) (c .after-compr .last .1 .1 .1 .0)
+    (whole (a .work .now) (4 * a .p .count) (room m r) (q .analyze-query .last .1 .1 .1 .1 .1 .1 .0) (q .analyze-query .kept .1 .1 .1 .1 .1 .1 .0))
+own m c =
+    let q = c .before .before .before .before .before in
+    let r = q .before .before .before .before .before .before .before .before .before in
+    let start = r .before .before .before .before .before .before in
+    let pre = start .pre .1 in
+    own-does _ (pre .0) _ _ (r .before .if1 .left) (pre .3) _ (row-is m r) _ _ _ (pre .4) _ (q .before .before .before .before .before .pending .ensures) (query-in m r) (start .args .levels) _ _
+    (q .analyze-query .kept .1 .1 .1 .1 .1 .1 .0) (q .analyze-query .ensures) _ _ (c .after-compr .ensures)
+
+ready : (m : ℕ) (c : process-comprs-lts.After-next-of (known m) (process-comprs-at m) process-comprs.Post)
+    → let start = c .before .before .before .before .before .before .before .before in
+    Calls (start .args .tables .now) (remains (start .args .tables .now) (start .args .row)) (start .args .rest) (c .before .before .row-at .result) (c .before .kids-of .result)
+ready m c =
+    let r = c .before .before in
+    let pre = r .before .before .before .before .before .before .pre .1 in
+    calls _ (pre .0) _ (r .before .if1 .left) (pre .3) _ refl _ _ (row-is m r) _ (c .before .kids-of .ensures)
+
+pub process-comprs-requires : (m : ℕ) → process-comprs-lts.Need-process-comprs-requires (known m) (process-comprs-at m) process-comprs.Post
+process-comprs-requires m c κs =
+    let a = c .before .before .before .before in
+    let n = a .before .before .before .before .before .before .before .before .before .before .before .before in
+    let r = n .before .before in
+    let start = r .before .before .before .before .before .before in
+    let pre = start .pre .1 in
+    let k = ready m n .first in (
+      omega (arith, k .0, start .pre .0),
+      (
+        pre .0,
+        pre .1,
+        omega (arith, pre .2, a .after-compr .kept .1 .1 .1 .0),
+        k .1,
+        first-asks _ (pre .0) _ _ (r .before .if1 .left) (pre .3) _ (row-is m r) _ _ _ (pre .4) (start .args .levels) (start .args .rest) _ (n .before .kids-of .ensures) _ (n .next-of .ensures)
+            _ _ _ (own m a),
+      ),
+    )
+
+pub process-comprs-requires-2 : (m : ℕ) → process-comprs-lts.Need-process-comprs-requires-2 (known m) (process-comprs-at m) process-comprs.Post
+process-comprs-requires-2 m c κs =
+    let d1 = c .before .before .before .before .before .before in
+    let a = d1 .before .before .before .before .before in
+    let n = a .before .before .before .before .before .before .before .before .before .before .before .before in
+    let r = n .before .before in
+    let start = r .before .before .before .before .before .before in
+    let pre = start .pre .1 in
+    let k = ready m n .second in (
+      omega (arith, k .0, start .pre .0),
+      (
+        pre .0,
+        pre .1,
+        omega (arith, pre .2, a .after-compr .kept .1 .1 .1 .0, d1 .process-comprs .kept .1 .1 .1 .1 .1 .1 .0),
+        k .1,
+        second-asks _ (pre .0) _ _ (r .before .if1 .left) (pre .3) _ (row-is m r) _ _ _ (pre .4) (start .args .levels) (start .args .rest) _ (n .before .kids-of .ensures) _ (n .next-of .ensures)
+            _ _ _ (own m a) _ _ _ (d1 .process-comprs .ensures),
+      ),
+    )
+
+pub process-comprs-requires-3 : (m : ℕ) → process-comprs-lts.Need-process-comprs-requires-3 (known m) (process-comprs-at m) process-comprs.Post
+process-comprs-requires-3 m c κs =
+    let d2 = c .before .before .before .before .before .before in
+    let d1 = d2 .before .before .before .before .before .before .before in
+    let a = d1 .before .before .before .before .before in
+    let n = a .before .before .before .before .before .before .before .before .before .before .before .before in
+    let r = n .before .before in
+    let start = r .before .before .before .before .before .before in
+    let pre = start .pre .1 in
+    let k = ready m n .third in (
+      omega (arith, k .0, start .pre .0),
+      (
+        pre .0,
+        pre .1,
+        omega (arith, pre .2, a .after-compr .kept .1 .1 .1 .0, d1 .process-comprs .kept .1 .1 .1 .1 .1 .1 .0, d2 .process-comprs2 .kept .1 .1 .1 .1 .1 .1 .0),
+        k .1,
+        third-asks _ (pre .0) _ _ (r .before .if1 .left) (pre .3) _ (row-is m r) _ _ _ (pre .4) (start .args .levels) (start .args .rest) _ (n .before .kids-of .ensures) _ (n .next-of .ensures)
+            _ _ _ (own m a) _ _ _ (d1 .process-comprs .ensures) _ _ _ (d2 .process-comprs2 .ensures),
+      ),
+    )
+
+pub process-comprs-requires-4 : (m : ℕ) → process-comprs-lts.Need-process-comprs-requires-4 (known m) (process-comprs-at m) process-comprs.Post
+process-comprs-requires-4 m c κs =
+    let d3 = c .before .before .before .before .before .before in
+    let d2 = d3 .before .before .before .before .before .before .before in
+    let d1 = d2 .before .before .before .before .before .before .before in
+    let a = d1 .before .before .before .before .before in
+    let n = a .before .before .before .before .before .before .before .before .before .before .before .before in
+    let r = n .before .before in
+    let start = r .before .before .before .before .before .before in
+    let pre = start .pre .1 in
+    let k = ready m n .next in
+    let low : Falls (start .args .tables .now) (remains (start .args .tables .now) (start .args .row)) (n .next-of .result) = rw (n .next-of .ensures) k in (
+      omega (arith, low .0, start .pre .0),
+      (
+        pre .0,
+        pre .1,
+        omega (arith, pre .2, a .after-compr .kept .1 .1 .1 .0, d1 .process-comprs .kept .1 .1 .1 .1 .1 .1 .0, d2 .process-comprs2 .kept .1 .1 .1 .1 .1 .1 .0, d3 .process-comprs3 .kept .1 .1 .1 .1 .1 .1 .0),
+        low .1,
+        next-asks _ (pre .0) _ _ (r .before .if1 .left) (pre .3) _ (row-is m r) _ _ _ (pre .4) (start .args .levels) (start .args .rest) _ (n .before .kids-of .ensures) _ (n .next-of .ensures)
+            _ _ _ (own m a) _ _ _ (d1 .process-comprs .ensures) _ _ _ (d2 .process-comprs2 .ensures) _ _ _ (d3 .process-comprs3 .ensures),
+      ),
+    )
+
+pub same-length : (m : ℕ) → process-comprs-lts.Need-same-length (known m) (process-comprs-at m) process-comprs.Post
+same-length m c =
+    let d4 = c .before .before .before .before in
+    let d3 = d4 .before .before .before .before .before .before .before in
+    let d2 = d3 .before .before .before .before .before .before .before in
+    let d1 = d2 .before .before .before .before .before .before .before in
+    let a = d1 .before .before .before .before .before in
+    omega (
+      arith,
+      a .after-compr .kept .1 .1 .1 .0,
+      d1 .process-comprs .kept .1 .1 .1 .1 .1 .1 .0,
+      d2 .process-comprs2 .kept .1 .1 .1 .1 .1 .1 .0,
+      d3 .process-comprs3 .kept .1 .1 .1 .1 .1 .1 .0,
+      d4 .process-comprs4 .kept .1 .1 .1 .1 .1 .1 .0,
+    )
+
+pub same-length-2 : (m : ℕ) → process-comprs-lts.Need-same-length-2 (known m) (process-comprs-at m) process-comprs.Post
+same-length-2 m c =
+    let d4 = c .before .before .before .before in
+    let d3 = d4 .before .before .before .before .before .before .before in
+    let d2 = d3 .before .before .before .before .before .before .before in
+    let d1 = d2 .before .before .before .before .before .before .before in
+    let a = d1 .before .before .before .before .before in
+    omega (
+      arith,
+      own m a .grown .long,
+      d1 .process-comprs .kept .1 .1 .1 .1 .1 .1 .1 .0,
+      d2 .process-comprs2 .kept .1 .1 .1 .1 .1 .1 .1 .0,
+      d3 .process-comprs3 .kept .1 .1 .1 .1 .1 .1 .1 .0,
+      d4 .process-comprs4 .kept .1 .1 .1 .1 .1 .1 .1 .0,
+    )
+
+pub returns-2 : (m : ℕ) → process-comprs-lts.Need-returns-2 (known m) (process-comprs-at m) process-comprs.Post
+returns-2 m c =
+    let d4 = c .before .before .before .before in
+    let d3 = d4 .before .before .before .before .before .before .before in
+    let d2 = d3 .before .before .before .before .before .before .before in
+    let d1 = d2 .before .before .before .before .before .before .before in
+    let a = d1 .before .before .before .before .before in
+    let n = a .before .before .before .before .before .before .before .before .before .before .before .before in
+    let r = n .before .before in
+    let start = r .before .before .before .before .before .before in
+    let pre = start .pre .1 in
+    turn-does _ (pre .0) _ _ (r .before .if1 .left) (pre .3) _ (row-is m r) _ _ _ (pre .4) (start .args .levels) (start .args .rest) _ (n .before .kids-of .ensures) _ (n .next-of .ensures)
+    _ _ _ (own m a) _ _ _ (d1 .process-comprs .ensures) _ _ _ (d2 .process-comprs2 .ensures) _ _ _ (d3 .process-comprs3 .ensures) _ _ _ (d4 .process-comprs4 .ensures)

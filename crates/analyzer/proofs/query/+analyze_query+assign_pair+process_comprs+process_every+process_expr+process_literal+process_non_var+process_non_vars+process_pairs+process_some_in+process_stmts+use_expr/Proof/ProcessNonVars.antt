@@ -1,0 +1,169 @@
+-- `process_non_vars`.
+use mathlib.Core.Path.{_≡_, refl, _∙_}
+use mathlib.Core.Bool.{true}
+use Prim.Native.Nat.{ℕ}
+use native.Mathlib.Omega.{arith}
+use borrow.Author.Needs.{needs}
+use Rattle.trees.specs.Sheet.{rowAt, row-fields}
+use Rattle.gather.specs.Walking.{Falls, remains, row-low, low-name, pattern-calls}
+use Rattle.analyzer.specs.Patterns.{non-var-low}
+use Rattle.analyzer.specs.PatternSteps.{non-vars-do-none, asks-other, asks-parts, asks-rest, non-vars-do}
+use Rattle.analyzer.proofs.query.process_non_var.Reads as process-non-var
+use Rattle.analyzer.proofs.query.process_non_vars.Reads as process-non-vars
+use Rattle.literals.proofs.some.non_var.Reads as non-var-reads
+use Rattle.trees.proofs.row_at.Reads as row-at-reads
+use Rattle.used.proofs.assigned.pattern_of.Reads as pattern-of-reads
+use Rattle.analyzer.proofs.query.+analyze_query+assign_pair+process_comprs+process_every+process_expr+process_literal+process_non_var+process_non_vars+process_pairs+process_some_in+process_stmts+use_expr.Lts-process_non_vars as process-non-vars-lts
+use Rattle.analyzer.proofs.query.+analyze_query+assign_pair+process_comprs+process_every+process_expr+process_literal+process_non_var+process_non_vars+process_pairs+process_some_in+process_stmts+use_expr.Proof.Measures.{process-non-var-below, process-non-vars-at, process-non-vars-below}
+
+abbrev pub known : ℕ → process-non-vars-lts.Claims
+known m = (
+  row-at-reads.Asked,
+  row-at-reads.Learnt,
+  pattern-of-reads.Asked,
+  pattern-of-reads.Learnt,
+  non-var-reads.Asked,
+  non-var-reads.Learnt,
+  process-non-var-below m,
+  process-non-var.Post,
+  process-non-vars-below m,
+  process-non-vars.Post,
+)
+
+pub returns : (m : ℕ) → process-non-vars-lts.Need-returns (known m) (process-non-vars-at m) process-non-vars.Post
+returns m c =
+    let start = c .before .before .before .before .before in
+    let a = start .args in
+    non-vars-do-none (a .tables .now) (start .pre .1 .0) (a .inner .now) (a .row) (c .if1 .taken) (a .context) (a .p) (a .firsts .now) (a .work .now)
+
+pub row-at-requires : (m : ℕ) → process-non-vars-lts.Need-row-at-requires (known m) (process-non-vars-at m) process-non-vars.Post
+row-at-requires m c κs =
+    let pre = c .before .before .before .before .before .pre .1 in
+    (pre .0 .room, row-low _ (pre .0) _ (c .if1 .left) (pre .3))
+
+-- The row that was read.
+row-is : (m : ℕ) (c : process-non-vars-lts.After-row-at (known m) (process-non-vars-at m) process-non-vars.Post)
+    → let a = c .before .before .before .before .before .before .args in
+    c .row-at .result ≡ rowAt (a .tables .now) (a .row)
+row-is m c = c .row-at .ensures ∙ row-fields _ _
+
+-- The rows of the calls on it.
+ready : (m : ℕ) (c : process-non-vars-lts.After-pattern-of (known m) (process-non-vars-at m) process-non-vars.Post)
+    → let a = c .before .before .before .before .before .before .before .args in
+    Falls (a .tables .now) (remains (a .tables .now) (a .row)) (c .pattern-of .result)
+    × Falls (a .tables .now) (remains (a .tables .now) (a .row)) (c .before .row-at .result .next)
+ready m c =
+    let found = c .before in
+    let else = found .before in
+    let pre = else .before .before .before .before .before .pre .1 in
+    pattern-calls _ (pre .0) _ (else .if1 .left) (pre .3) _ refl true _ (row-is m found) _ (c .pattern-of .ensures) _ refl
+
+pub pattern-of-requires : (m : ℕ) → process-non-vars-lts.Need-pattern-of-requires (known m) (process-non-vars-at m) process-non-vars.Post
+pattern-of-requires m c κs = search needs
+
+pub non-var-requires : (m : ℕ) → process-non-vars-lts.Need-non-var-requires (known m) (process-non-vars-at m) process-non-vars.Post
+non-var-requires m c κs =
+    let found = c .before in
+    let else = found .before in
+    let pre = else .before .before .before .before .before .pre .1 in
+    (pre .0 .room, rw (row-is m found) (low-name _ (pre .0) _ (else .if1 .left) (pre .3)))
+
+pub process-non-var-requires : (m : ℕ) → process-non-vars-lts.Need-process-non-var-requires (known m) (process-non-vars-at m) process-non-vars.Post
+process-non-var-requires m c κs =
+    let n = c .before .before in
+    let parts = n .before in
+    let found = parts .before in
+    let else = found .before in
+    let start = else .before .before .before .before .before in
+    let a = start .args in
+    let pre = start .pre .1 in (
+      omega (arith, start .pre .0),
+      (
+        pre .0,
+        pre .1,
+        pre .2,
+        non-var-low (a .tables .now) (a .p .scope) (a .row) (found .row-at .result) _ (n .non-var .ensures) _ (pre .3),
+        asks-other (a .tables .now) (pre .0) (a .inner .now) (a .row) (else .if1 .left) (pre .3) (found .row-at .result) (row-is m found)
+            _ (parts .pattern-of .ensures) (a .context) (a .p) _ (n .non-var .ensures) (a .firsts .now) (a .work .now) (pre .4),
+      ),
+    )
+
+pub process-non-vars-requires : (m : ℕ) → process-non-vars-lts.Need-process-non-vars-requires (known m) (process-non-vars-at m) process-non-vars.Post
+process-non-vars-requires m c κs =
+    let one = c .before .before .before .before .before .before in
+    let n = one .before .before .before in
+    let parts = n .before in
+    let found = parts .before in
+    let else = found .before in
+    let start = else .before .before .before .before .before in
+    let a = start .args in
+    let pre = start .pre .1 in
+    let k = ready m parts .0 in (
+      omega (arith, start .pre .0, k .0),
+      (
+        pre .0,
+        pre .1,
+        omega (arith, pre .2, one .process-non-var .kept .1 .1 .1 .1 .1 .0),
+        k .1,
+        asks-parts (a .tables .now) (pre .0) (a .inner .now) (a .row) (else .if1 .left) (pre .3) (found .row-at .result) (row-is m found)
+            _ (parts .pattern-of .ensures) (a .context) (a .p) _ (n .non-var .ensures) (a .firsts .now) (a .work .now) _ _ _
+            (one .process-non-var .ensures) (pre .4),
+      ),
+    )
+
+pub cast-process-non-vars : (m : ℕ) → process-non-vars-lts.Need-cast-process-non-vars (known m) (process-non-vars-at m) process-non-vars.Post
+cast-process-non-vars m c = search needs
+
+pub process-non-vars-requires-2 : (m : ℕ) → process-non-vars-lts.Need-process-non-vars-requires-2 (known m) (process-non-vars-at m) process-non-vars.Post
+process-non-vars-requires-2 m c κs =
+    let two = c .before .before .before .before .before .before .before in
+    let one = two .before .before .before .before .before .before .before in
+    let n = one .before .before .before in
+    let parts = n .before in
+    let found = parts .before in
+    let else = found .before in
+    let start = else .before .before .before .before .before in
+    let a = start .args in
+    let pre = start .pre .1 in
+    let k = ready m parts .1 in (
+      omega (arith, start .pre .0, k .0),
+      (
+        pre .0,
+        pre .1,
+        omega (arith, pre .2, one .process-non-var .kept .1 .1 .1 .1 .1 .0, two .process-non-vars .kept .1 .1 .1 .1 .1 .0),
+        k .1,
+        asks-rest (a .tables .now) (pre .0) (a .inner .now) (a .row) (else .if1 .left) (pre .3) (found .row-at .result) (row-is m found)
+            _ (parts .pattern-of .ensures) (a .context) (a .p) _ (n .non-var .ensures) (a .firsts .now) (a .work .now) _ _ _
+            (one .process-non-var .ensures) _ _ _ (two .process-non-vars .ensures) (pre .4),
+      ),
+    )
+
+pub same-length : (m : ℕ) → process-non-vars-lts.Need-same-length (known m) (process-non-vars-at m) process-non-vars.Post
+same-length m c =
+    let last = c .before .before .before .before in
+    let two = last .before .before .before .before .before .before .before .before in
+    let one = two .before .before .before .before .before .before .before in
+    last .process-non-vars2 .kept .1 .1 .1 .1 .1 .0 ∙ two .process-non-vars .kept .1 .1 .1 .1 .1 .0 ∙ one .process-non-var .kept .1 .1 .1 .1 .1 .0
+
+pub same-length-2 : (m : ℕ) → process-non-vars-lts.Need-same-length-2 (known m) (process-non-vars-at m) process-non-vars.Post
+same-length-2 m c =
+    let last = c .before .before .before .before in
+    let two = last .before .before .before .before .before .before .before .before in
+    let one = two .before .before .before .before .before .before .before in
+    last .process-non-vars2 .kept .1 .1 .1 .1 .1 .1 .0 ∙ two .process-non-vars .kept .1 .1 .1 .1 .1 .1 .0 ∙ one .process-non-var .kept .1 .1 .1 .1 .1 .1 .0
+
+pub returns-2 : (m : ℕ) → process-non-vars-lts.Need-returns-2 (known m) (process-non-vars-at m) process-non-vars.Post
+returns-2 m c =
+    let last = c .before .before .before .before in
+    let two = last .before .before .before .before .before .before .before .before in
+    let one = two .before .before .before .before .before .before .before in
+    let n = one .before .before .before in
+    let parts = n .before in
+    let found = parts .before in
+    let else = found .before in
+    let start = else .before .before .before .before .before in
+    let a = start .args in
+    let pre = start .pre .1 in
+    non-vars-do (a .tables .now) (pre .0) (a .inner .now) (a .row) (else .if1 .left) (pre .3) (found .row-at .result) (row-is m found)
+    _ (parts .pattern-of .ensures) (a .context) (a .p) _ (n .non-var .ensures) (a .firsts .now) (a .work .now) _ _ _
+    (one .process-non-var .ensures) _ _ _ (two .process-non-vars .ensures) _ _ _ (last .process-non-vars2 .ensures)

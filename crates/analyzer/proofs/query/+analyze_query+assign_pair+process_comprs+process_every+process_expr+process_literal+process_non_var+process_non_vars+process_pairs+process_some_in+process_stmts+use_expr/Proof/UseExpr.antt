@@ -1,0 +1,99 @@
+-- `use_expr`: the uses, then the comprehensions of the expression and of the modifiers, which are one list.
+use Prim.Native.Nat.{ℕ}
+use native.Mathlib.Omega.{arith}
+use Rattle.gather.specs.Walking.{few-remain}
+use Rattle.analyzer.specs.UseExprs.{use-ready, use-room, own-asks, mods-asks, does-use}
+use Rattle.analyzer.proofs.query.process_comprs.Reads as process-comprs
+use Rattle.analyzer.proofs.query.use_expr.Reads as use-expr
+use Rattle.analyzer.proofs.used_by.all_used.Reads as all-used-reads
+use Rattle.using.proofs.vars.use_vars.Reads as use-vars-reads
+use Rattle.analyzer.proofs.query.+analyze_query+assign_pair+process_comprs+process_every+process_expr+process_literal+process_non_var+process_non_vars+process_pairs+process_some_in+process_stmts+use_expr.Lts-use_expr as use-expr-lts
+use Rattle.analyzer.proofs.query.+analyze_query+assign_pair+process_comprs+process_every+process_expr+process_literal+process_non_var+process_non_vars+process_pairs+process_some_in+process_stmts+use_expr.Proof.Measures.{process-comprs-below, use-expr-at}
+
+abbrev pub known : ℕ → use-expr-lts.Claims
+known m = (
+  use-vars-reads.Asked,
+  use-vars-reads.Learnt,
+  process-comprs-below m,
+  process-comprs.Post,
+  all-used-reads.Asked,
+  all-used-reads.Learnt,
+)
+
+pub use-vars-requires : (m : ℕ) → use-expr-lts.Need-use-vars-requires (known m) (use-expr-at m) use-expr.Post
+use-vars-requires m c κs =
+    let start = c .before .before .before .before .before .before in
+    let pre = start .pre .1 in
+    (pre .0, pre .3, pre .2, use-ready _ _ _ _ (start .args .rest) _ _ _ _ (pre .5) (pre .4), pre .4)
+
+pub process-comprs-requires : (m : ℕ) → use-expr-lts.Need-process-comprs-requires (known m) (use-expr-at m) use-expr.Post
+process-comprs-requires m c κs =
+    let u = c .before .before .before .before .before .before .before .before in
+    let start = u .before .before .before .before .before .before .before in
+    let pre = start .pre .1 in (
+      omega (arith, start .pre .0, few-remain _ (pre .0) (start .args .row)),
+      (
+        pre .0,
+        pre .1,
+        omega (arith, pre .2, u .use-vars .kept .1 .1 .1 .1 .1 .1 .0),
+        pre .3,
+        own-asks _ _ _ _ (start .args .rest) _ _ _ _ (pre .5) (pre .4) _ _ _ (u .use-vars .ensures),
+      ),
+    )
+
+pub process-comprs-requires-2 : (m : ℕ) → use-expr-lts.Need-process-comprs-requires-2 (known m) (use-expr-at m) use-expr.Post
+process-comprs-requires-2 m c κs =
+    let d = c .before .before .before .before .before .before in
+    let u = d .before .before .before .before .before .before .before .before .before in
+    let start = u .before .before .before .before .before .before .before in
+    let pre = start .pre .1 in (
+      omega (arith, start .pre .0, few-remain _ (pre .0) (start .args .context .mods)),
+      (
+        pre .0,
+        pre .1,
+        omega (arith, pre .2, u .use-vars .kept .1 .1 .1 .1 .1 .1 .0, d .process-comprs .kept .1 .1 .1 .1 .1 .1 .0),
+        pre .5 .mods-low,
+        mods-asks _ _ _ _ (start .args .rest) _ _ _ _ (pre .5) (pre .4) _ _ _ (u .use-vars .ensures) _ _ _ (d .process-comprs .ensures),
+      ),
+    )
+
+pub all-used-requires : (m : ℕ) → use-expr-lts.Need-all-used-requires (known m) (use-expr-at m) use-expr.Post
+all-used-requires m c κs =
+    let e = c .before .before .before .before .before in
+    let d = e .before .before .before .before .before .before .before in
+    let u = d .before .before .before .before .before .before .before .before .before in
+    let start = u .before .before .before .before .before .before .before in
+    let pre = start .pre .1 in (
+      pre .0,
+      pre .3,
+      pre .5 .mods-low,
+      omega (
+        arith,
+        use-room _ _ _ _ (start .args .rest) _ _ _ _ (pre .5) (pre .4),
+        u .use-vars .kept .1 .1 .1 .1 .1 .1 .1 .0,
+        d .process-comprs .kept .1 .1 .1 .1 .1 .1 .1 .0,
+        e .process-comprs2 .kept .1 .1 .1 .1 .1 .1 .1 .0,
+      ),
+    )
+
+pub same-length : (m : ℕ) → use-expr-lts.Need-same-length (known m) (use-expr-at m) use-expr.Post
+same-length m c =
+    let e = c .before .before .before .before .before .before in
+    let d = e .before .before .before .before .before .before .before in
+    let u = d .before .before .before .before .before .before .before .before .before in
+    omega (arith, u .use-vars .kept .1 .1 .1 .1 .1 .1 .0, d .process-comprs .kept .1 .1 .1 .1 .1 .1 .0, e .process-comprs2 .kept .1 .1 .1 .1 .1 .1 .0)
+
+pub same-length-2 : (m : ℕ) → use-expr-lts.Need-same-length-2 (known m) (use-expr-at m) use-expr.Post
+same-length-2 m c =
+    let e = c .before .before .before .before .before .before in
+    let d = e .before .before .before .before .before .before .before in
+    let u = d .before .before .before .before .before .before .before .before .before in
+    omega (arith, u .use-vars .kept .1 .1 .1 .1 .1 .1 .1 .0, d .process-comprs .kept .1 .1 .1 .1 .1 .1 .1 .0, e .process-comprs2 .kept .1 .1 .1 .1 .1 .1 .1 .0)
+
+pub returns : (m : ℕ) → use-expr-lts.Need-returns (known m) (use-expr-at m) use-expr.Post
+returns m c =
+    let e = c .before .before .before .before .before .before in
+    let d = e .before .before .before .before .before .before .before in
+    let u = d .before .before .before .before .before .before .before .before .before in
+    let start = u .before .before .before .before .before .before .before in
+    does-use _ _ _ _ (start .args .rest) _ _ _ _ _ _ _ (u .use-vars .ensures) _ _ _ (d .process-comprs .ensures) _ _ _ (e .process-comprs2 .ensures) _ (c .all-used .ensures)

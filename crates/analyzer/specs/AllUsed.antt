@@ -1,0 +1,54 @@
+-- All names that an expression uses, as a set.
+use mathlib.Core.List.{List, [], _++_}
+use Prim.Native.Nat.{ℕ}
+use Rattle.names.specs.declared.Names.{Names}
+use Rattle.trees.specs.Lists.{concatMap}
+use Rattle.trees.specs.Trees.{Tree, treeAt}
+use Rattle.trees.specs.Traverse.{leaves, comprs}
+use Rattle.uses.specs.Uses.{usedVars}
+use Rattle.analysis.specs.States.{State}
+use Rattle.analysis.specs.Comprs.{Mods, allUsed}
+use Rattle.analysis.specs.SomeIn.{nonVars}
+use Rattle.answer.specs.Stored.{Stored}
+use Rattle.gather.specs.declared.scope.Scope.{Scope}
+use Rattle.gather.specs.Sheets.{sheetAt}
+use Rattle.gather.specs.Agrees.{Sets}
+use Rattle.used.specs.Own.{Holds}
+use Rattle.used.specs.Adds.{Adds}
+use Rattle.literals.specs.declared.context.Context.{Context}
+use Rattle.literals.specs.Contexts.{Stands}
+use Rattle.frame.specs.Table.{answersOf}
+use Rattle.analyzer.specs.Asks.{otherAt}
+
+-- The modifiers' comprehensions count for each part of a pattern, their names do not.
+abbrev pub laterMods : List Tree → Mods
+laterMods cs = record { usedVars = []; comprs = cs }
+
+module _ (t : List ℕ) where
+  -- What these parts use, the modifiers' comprehensions with each.
+  abbrev pub partsUse : State → List Tree → List Tree → List ℕ
+  partsUse s cs es = concatMap (λ e. allUsed (sheetAt t) [] (laterMods cs) e s) es
+
+  abbrev pub othersUse : State → List Tree → List Tree → List ℕ
+  othersUse s cs es = partsUse s cs (nonVars (sheetAt t) (s .scope) es)
+
+module _ (t : List ℕ) (k : Scope) where
+  abbrev pub AllUsed : Names → Tree → Context → List ℕ → Names → Type 0
+  AllUsed names e x work r =
+      (m : Mods) → Stands t x m → (l : List ℕ) (s : State) → Sets k (s .scope) → Stored (answersOf work) (s .run .schedules)
+      → Holds names (usedVars (sheetAt t) (s .scope) l e) → Holds r (allUsed (sheetAt t) l m e s)
+
+  abbrev pub OtherUsed : ℕ → ℕ → List ℕ → Names → Names → Type 0
+  OtherUsed row mods work a b =
+      (s : State) → Sets k (s .scope) → Stored (answersOf work) (s .run .schedules)
+      → Adds a (partsUse t s (comprs (treeAt (sheetAt t) mods)) (otherAt t row)) b
+
+  abbrev pub LeavesUsed : ℕ → ℕ → List ℕ → Names → Names → Type 0
+  LeavesUsed row mods work a b =
+      (s : State) → Sets k (s .scope) → Stored (answersOf work) (s .run .schedules)
+      → Adds a (othersUse t s (comprs (treeAt (sheetAt t) mods)) (leaves (treeAt (sheetAt t) row))) b
+
+  abbrev pub OthersUsed : ℕ → ℕ → Context → List ℕ → Names → Type 0
+  OthersUsed key value x work r =
+      (m : Mods) → Stands t x m → (s : State) → Sets k (s .scope) → Stored (answersOf work) (s .run .schedules)
+      → Holds r (othersUse t s (m .comprs) (leaves (treeAt (sheetAt t) key) ++ leaves (treeAt (sheetAt t) value)))

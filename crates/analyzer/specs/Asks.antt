@@ -1,0 +1,119 @@
+-- What each function of the cycle asks of where it is called.
+use mathlib.Core.Path.{_≡_}
+use mathlib.Core.Bool.{true, false}
+use mathlib.Core.List.{List, [], _∷_}
+use mathlib.Core.Logic.{_⊎_}
+use Prim.Native.Nat.{ℕ, zero, suc, _+_, _*_, _≤_}
+use lib.ListN.{length, getD}
+use Rattle.basics.specs.Lists.{all}
+use Rattle.records.specs.declared.Statement.{Statement}
+use Rattle.records.specs.Layout.{statementAt}
+use Rattle.trees.specs.Trees.{Tree, treeAt}
+use Rattle.trees.specs.Traverse.{leaves}
+use Rattle.trees.specs.Statements.{Stmt, literalOf, stmtsFrom}
+use Rattle.scopes.specs.Scopes.{Scope}
+use Rattle.analysis.specs.States.{sound, QuerySchedule}
+use Rattle.analysis.specs.Exprs.{Pairing, pair, pairings}
+use Rattle.sizes.specs.Sizes.{total, size, literalSize}
+use Rattle.sizes.specs.Adds.{below}
+use Rattle.homes.specs.Lying.{StatementLies}
+use Rattle.gather.specs.Sheets.{countsAt, sheetAt}
+use Rattle.gather.specs.Exprs.{exprBy}
+use Rattle.gather.specs.Outers.{Outer}
+use Rattle.gather.specs.Queries.{stmtsLeft}
+use Rattle.literals.specs.declared.context.Context.{Context}
+use Rattle.frame.specs.declared.Progress.{Progress}
+use Rattle.frame.specs.Table.{Table}
+use Rattle.analyzer.specs.Budgets.{budget, budgetAt, aboveAt}
+use Rattle.analyzer.specs.Sites.{LiesIn, Inside, Under}
+
+module _ (t : List ℕ) where
+  abbrev pub tree : ℕ → Tree
+  tree row = treeAt (sheetAt t) row
+
+  -- ---- expressions
+
+  -- `process_comprs`: comprehensions add no definition to the query that they stand in.
+  pub record AsksComprs (inner : List ℕ) (row : ℕ) (p : Progress) (firsts work : List ℕ) : Type 0 where
+    pub inside : Inside t inner p firsts work 0
+    pub lies : LiesIn t (inside .at .query) row
+
+  -- A function that is given a context, and rows of the query.
+  pub record AsksExpr (inner : List ℕ) (a b : ℕ) (x : Context) (p : Progress) (firsts work : List ℕ) (more : ℕ) : Type 0 where
+    pub inside : Inside t inner p firsts work more
+    pub first-lies : LiesIn t (inside .at .query) a
+    pub second-lies : LiesIn t (inside .at .query) b
+    pub mods-lie : LiesIn t (inside .at .query) (x .mods)
+    pub mods-low : x .mods ≤ getD t 2 0
+
+  -- ---- assignments
+
+  -- The pair of two rows; none where there is none.
+  abbrev pub pairAt : ℕ → ℕ → List Pairing
+  pairAt zero r = []
+  pairAt (suc l) r = pair (exprBy t false (suc l)) (exprBy t false r) ∷ []
+
+  abbrev pub pairsAt : ℕ → ℕ → List Pairing
+  pairsAt l r = pairings (tree l) (tree r)
+
+  -- ---- patterns
+
+  -- The part of a pattern at a row; none where there is none.
+  abbrev pub otherAt : ℕ → List Tree
+  otherAt zero = []
+  otherAt (suc r) = exprBy t false (suc r) ∷ []
+
+  abbrev pub leavesAt : ℕ → List Tree
+  leavesAt row = leaves (tree row)
+
+  -- ---- statements
+
+  -- An expression that is a literal.
+  pub record AsksWhole (outer spans : List ℕ) (row : ℕ) (x : Context) (p : Progress) (firsts work : List ℕ) : Type 0 where
+    pub under : Under t outer spans p firsts work (suc (size (tree row)))
+    pub there : 1 ≤ row
+    pub low : row ≤ getD t 2 0
+    pub lies : LiesIn t (under .at .query) row
+    pub mods-lie : LiesIn t (under .at .query) (x .mods)
+    pub mods-low : x .mods ≤ getD t 2 0
+
+  -- A statement of the query.
+  pub record AsksLiteral (outer spans : List ℕ) (st : Statement) (x : Context) (p : Progress) (firsts work : List ℕ) : Type 0 where
+    pub under : Under t outer spans p firsts work (suc (literalSize (literalOf (sheetAt t) st)))
+    pub row : ℕ
+    pub there : 1 ≤ row
+    pub low : row ≤ getD t 3 0
+    pub is : st ≡ statementAt t row
+    pub lies : StatementLies (countsAt t) t (under .at .query) row
+    pub mods-lie : LiesIn t (under .at .query) (x .mods)
+    pub mods-low : x .mods ≤ getD t 2 0
+
+  -- The statements from a row on.
+  abbrev pub stmtsAt : ℕ → List Stmt
+  stmtsAt row = stmtsFrom (sheetAt t) (length (sheetAt t .statements)) row
+
+  pub record AsksStmts (outer spans : List ℕ) (row i : ℕ) (p : Progress) (firsts work : List ℕ) : Type 0 where
+    pub under : Under t outer spans p firsts work (total budget (stmtsAt row))
+    pub lies : StatementLies (countsAt t) t (under .at .query) row
+    pub few : i + stmtsLeft t row ≤ 256
+    pub older : under .at .state .run .fault ≡ sound → all (below i) (under .at .state .definitions) ≡ true
+
+  -- ---- queries
+
+  -- A query that is to be analysed.
+  pub record Begun (outer work : List ℕ) (query key value : ℕ) : Type 0 where
+    pub from : 1 ≤ query
+    pub to : query ≤ getD t 4 0
+    pub key-low : key ≤ getD t 2 0
+    pub value-low : value ≤ getD t 2 0
+    pub key-lies : LiesIn t query key
+    pub value-lies : LiesIn t query value
+    pub room : 4 * (budgetAt t query + aboveAt t query) + 4736 ≤ length work
+    pub parents : List Scope
+    pub beneath : Outer outer parents
+    pub schedules : List QuerySchedule
+    pub table : Table t work schedules
+
+  -- There may be none.
+  abbrev pub AsksQuery : List ℕ → List ℕ → ℕ → ℕ → ℕ → Type 0
+  AsksQuery outer work query key value = (query ≡ 0) ⊎ Begun outer work query key value

@@ -1,0 +1,160 @@
+-- A row's own turn in `process_comprs`: where it is a comprehension, its query is analysed in the part of work behind the rows, and what it
+-- takes rises.
+use mathlib.Core.Path.{_≡_, refl, sym, ap, _∙_, subst}
+use mathlib.Core.Bool.{Bool, true, false, cond, _&&_}
+use mathlib.Core.List.{List, [], _∷_, _++_, foldl}
+use mathlib.Core.Logic.{_⊎_, inl, inr}
+use mathlib.Core.Option.{none}
+use Prim.Native.Nat.{ℕ, _+_, _-_, _*_, _≤_}
+use native.Mathlib.Omega.{arith}
+use lib.ListN.{length, getD, take}
+use borrow.Rule.Slice.PartMut.{postOf, put-same}
+use Rattle.basics.specs.Truth.{bool-cases, eq-cases, not-both}
+use Rattle.trees.specs.declared.Row.{Row}
+use Rattle.trees.specs.Sheet.{rowAt}
+use Rattle.trees.specs.Kinds.{isCompr}
+use Rattle.trees.specs.Trees.{Tree, rowOf, outputsOf}
+use Rattle.scopes.specs.Scopes.{Scope}
+use Rattle.analysis.specs.States.{sound, Run, State, setRun, inTurn}
+use Rattle.analysis.specs.Comprs.{propagate, useCompr, analyzeCompr, processCompr}
+use Rattle.gather.specs.Sheets.{sheetAt, Accepted}
+use Rattle.gather.specs.Exprs.{exprBy, tree-is, row-is}
+use Rattle.gather.specs.Chains.{chainAt}
+use Rattle.frame.specs.declared.Fault.{Fault}
+use Rattle.frame.specs.declared.Fault.the-variants.{Sound, Undefined, UsedBefore, Lengths, IndexVariable}
+use Rattle.frame.specs.declared.Progress.{Progress}
+use Rattle.frame.specs.Faults.{isSound, meaning}
+use Rattle.frame.specs.Steps.{sound-is}
+use Rattle.frame.specs.Held.{held-same}
+use Rattle.frame.specs.Tails.{tail, tail-length, tail-answers, whole, whole-length, whole-answers, whole-front, table-of}
+use Rattle.frame.specs.Frames.{failed, Whole, Agree}
+use Rattle.laws.specs.Guards.{guarded-sound, compr-stays}
+use Rattle.comprs.specs.Pending.{unscheduledAt, pendingAt, scheduled, pending}
+use Rattle.comprs.specs.After.{AfterCompr}
+use Rattle.analyzer.specs.Sites.{nestedBy, Around, RunsIn}
+use Rattle.analyzer.specs.Queries.{DoesQuery}
+
+not-sound : (f : Fault) → isSound f ≡ false → meaning f ≡ sound → ⊥
+not-sound Sound n e = not-both refl n
+not-sound (Undefined l c) n e = let z : _≡_ {A = ℕ} 0 1 = cc in omega arith
+not-sound (UsedBefore l c) n e = let z : _≡_ {A = ℕ} 0 1 = cc in omega arith
+not-sound (Lengths l c) n e = let z : _≡_ {A = ℕ} 0 1 = cc in omega arith
+not-sound IndexVariable n e = let z : _≡_ {A = ℕ} 0 1 = cc in omega arith
+
+module _ (t : List ℕ) (ok : Accepted t) (inner : List ℕ) (levels row : ℕ) (there : row ≡ 0 → ⊥) (high : row ≤ getD t 2 0) (w : Row)
+    (is : w ≡ rowAt t row) (third : isCompr w ≡ true → (1 ≤ w .third) × (w .third ≤ 32)) (p : Progress) (firsts work : List ℕ)
+    (low : 4 * p .count + 4736 ≤ length work) (query : ℕ) (asks : query ≡ pendingAt p w work) (fault : Fault) (part : List ℕ)
+    (long : length part ≡ length (tail work (4 * p .count) low))
+    (does : DoesQuery t inner query (w .first) (w .second) levels (tail work (4 * p .count) low) fault part)
+    (r : Progress) (firsts′ : List ℕ) (after : AfterCompr w (whole work (4 * p .count) low part long) p fault firsts r firsts′) where
+  abbrev before : List ℕ
+  before = tail work (4 * p .count) low
+
+  abbrev now-work : List ℕ
+  now-work = whole work (4 * p .count) low part long
+
+  abbrev expr : Tree
+  expr = exprBy t false row
+
+  row-of : rowOf expr ≡ w
+  row-of = row-is t ok row there high false ∙ sym is
+
+  outputs : outputsOf expr ≡ chainAt t (w .first) ++ chainAt t (w .second)
+  outputs = rw (tree-is t ok row there high, is)
+
+  -- Where no query is asked for, work is as it was.
+  same-work : query ≡ 0 → now-work ≡ work
+  same-work z = ap (λ (l : List ℕ). whole-of l) (does .none z .1) ∙ put-same (4 * p .count) (length work - 4 * p .count) work
+    where
+      whole-of : List ℕ → List ℕ
+      whole-of l = take (4 * p .count) work ++ (l ++ postOf (4 * p .count) (length work - 4 * p .count) work)
+
+  idle : (isCompr w ≡ false) ⊎ (isSound (p .fault) ≡ false) → query ≡ 0
+  idle (inl n) = asks ∙ rw n
+  idle (inr n) = asks ∙ go (isCompr w)
+    where
+      go : (b : Bool) → cond (b && isSound (p .fault)) (unscheduledAt work (w .third)) 0 ≡ 0
+      go true = rw n
+      go false = refl
+
+  module _ (parents : List Scope) (spans : List ℕ) (s : State) (o : Around t inner parents s) (h : Agree t spans p firsts work s) where
+    stays : (isCompr w ≡ false) ⊎ (isSound (p .fault) ≡ false) → Agree t spans r firsts′ now-work s
+    stays n = rw (after .idle n .0, after .idle n .1, same-work (idle n)) h
+
+    module _ (c : isCompr w ≡ true) (b : isSound (p .fault) ≡ true) where
+      clear : s .run .fault ≡ sound
+      clear = sym (h .fault) ∙ sound-is (p .fault) b
+
+      held : Whole t spans p firsts work s
+      held = h .whole clear
+
+      analysed : State
+      analysed = analyzeCompr (sheetAt t) (nestedBy t levels) parents (s .scope ∷ parents) expr s
+
+      -- Its query has a schedule already.
+      old : query ≡ 0 → Agree t spans (failed p fault) firsts now-work analysed
+      unfolding analysed analyzeCompr
+      old z =
+          let a = scheduled p w work (s .run .schedules) (held .table .stored) (third c .0) (third c .1) c b (sym asks ∙ z) in
+          let same : analysed ≡ s = rw (row-of, a .1) in
+          let f : fault ≡ Sound = does .none z .0 in
+          rw (same, f, same-work z) (record { fault = sym clear; count = h .count; whole = λ e. record { scope = held .scope; used-first = held .used-first; rows = held .rows; table = held .table } })
+
+      -- It is analysed now.
+      new : (query ≡ 0 → ⊥) → Agree t spans (failed p fault) firsts now-work analysed
+      unfolding analysed analyzeCompr setRun
+      new ne =
+          let a = pending p w work (s .run .schedules) (held .table .stored) (third c .0) (third c .1) c b (λ z. ne (asks ∙ z)) in
+          let q : query ≡ w .third = asks ∙ a .0 in
+          let run : Run = nestedBy t levels (s .scope ∷ parents) query (chainAt t (w .first) ++ chainAt t (w .second)) (s .run) in
+          let lent = table-of t work before (s .run .schedules) (omega (arith, tail-length work (4 * p .count) low)) (tail-answers work (4 * p .count) low) (held .table) in
+          let end = does .one ne (s .scope ∷ parents) (s .run) (o clear) clear lent in
+          let becomes : analysed ≡ setRun run s = rw (row-of, a .1, outputs, sym q) in
+          rw becomes (record {
+            fault = end .0;
+            count = h .count;
+            whole = λ e. record {
+              scope = held .scope;
+              used-first = held .used-first;
+              rows = held-same work now-work (p .count) (s .definitions) (held .rows) (whole-front work (4 * p .count) low part long);
+              table = table-of t part now-work (run .schedules)
+                  (omega (arith, low, whole-length work (4 * p .count) low part long)) (whole-answers work (4 * p .count) low part long) (end .1 e);
+            };
+          })
+
+      rises : Agree t spans r firsts′ now-work (processCompr (sheetAt t) (nestedBy t levels) parents s expr)
+      unfolding processCompr analysed
+      rises =
+          let one : Agree t spans (failed p fault) firsts now-work analysed = go (eq-cases query 0) in
+          subst (λ (u : State). Agree t spans r firsts′ now-work (inTurn (propagate expr ∷ useCompr expr ∷ []) u))
+          (sym (guarded-sound (analyzeCompr (sheetAt t) (nestedBy t levels) parents (s .scope ∷ parents) expr) s clear))
+          (after .rises c b t spans analysed expr row-of one)
+        where
+          go : (query ≡ 0) ⊎ (query ≡ 0 → ⊥) → Agree t spans (failed p fault) firsts now-work analysed
+          go (inl z) = old z
+          go (inr ne) = new ne
+
+    abbrev own : List Tree
+    own = cond (isCompr w) (expr ∷ []) []
+
+    turn : Agree t spans r firsts′ now-work (foldl (processCompr (sheetAt t) (nestedBy t levels) parents) s own)
+    turn = go (bool-cases (isCompr w)) (bool-cases (isSound (p .fault)))
+      where
+        go : (isCompr w ≡ true) ⊎ (isCompr w ≡ false) → (isSound (p .fault) ≡ true) ⊎ (isSound (p .fault) ≡ false)
+            → Agree t spans r firsts′ now-work (foldl (processCompr (sheetAt t) (nestedBy t levels) parents) s own)
+        go (inr n) b = rw n (stays (inl n))
+        go (inl c) (inr n) =
+            let faulty : s .run .fault ≡ sound → ⊥ = λ z. not-sound (p .fault) n (h .fault ∙ z) in
+            rw (c, compr-stays (sheetAt t) (nestedBy t levels) parents s faulty expr) (stays (inr n))
+        go (inl c) (inl b) = rw c (rises c b)
+
+  pub compr-turn : RunsIn t inner (λ parents s. foldl (processCompr (sheetAt t) (nestedBy t levels) parents) s (cond (isCompr w) (exprBy t false row ∷ []) []))
+      p firsts work r firsts′ now-work
+  compr-turn = record {
+    grown = record {
+      long = whole-length work (4 * p .count) low part long;
+      up = omega (arith, after .count);
+      before = whole-front work (4 * p .count) low part long;
+    };
+    agrees = turn;
+  }

@@ -1,0 +1,326 @@
+-- An `every`: its domain records its uses, and its body is analysed in the part of work behind the rows.
+use mathlib.Core.Path.{_≡_, refl, sym, ap, _∙_, subst}
+use mathlib.Core.Bool.{Bool, true, false, cond}
+use mathlib.Core.List.{List, [], _∷_, _++_, foldl}
+use mathlib.Core.Logic.{_⊎_, inl, inr}
+use Prim.Native.Nat.{ℕ, suc, _+_, _-_, _*_, _≤_}
+use native.Mathlib.Omega.{arith}
+use lib.ListN.{length, getD, take}
+use borrow.Rule.Slice.PartMut.{postOf, put-same}
+use Rattle.basics.specs.Truth.{bool-cases}
+use Rattle.names.specs.Sets.{members, Empty}
+use Rattle.names.specs.declared.Names.{Names}
+use Rattle.records.specs.declared.Statement.{Statement}
+use Rattle.naming.specs.Entries.{statementRow}
+use Rattle.naming.specs.EnclosingLaws.{queryOf}
+use Rattle.accepted.specs.FineFields.{Nests}
+use Rattle.trees.specs.Trees.{Tree}
+use Rattle.trees.specs.Traverse.{vars}
+use Rattle.trees.specs.Statements.{every, literalOf}
+use Rattle.scopes.specs.Scopes.{Scope, noScope, addLocal}
+use Rattle.analysis.specs.States.{sound, State, setRun}
+use Rattle.analysis.specs.Using.{recordOne}
+use Rattle.analysis.specs.Comprs.{Nested, Mods, allUsed, useExpr}
+use Rattle.analysis.specs.Exprs.{processPlainExpr}
+use Rattle.analysis.specs.Statements.{processEvery}
+use Rattle.sizes.specs.Sizes.{literalSize}
+use Rattle.sizes.specs.Leaves.{bracketVars, brackets-fit}
+use Rattle.sizes.specs.Adds.{Step, step-at-most, step-if, end, _⨾_, turn}
+use Rattle.sizes.specs.Using.{adds-record-one}
+use Rattle.sizes.specs.Comprs.{adds-use-expr}
+use Rattle.homes.specs.Lying.{statement-there}
+use Rattle.homes.specs.StatementHomes.{StatementInside, statement-lies, every-opens}
+use Rattle.gather.specs.Sheets.{countsAt, sheetAt, Accepted}
+use Rattle.gather.specs.Statements.{Named}
+use Rattle.gather.specs.Queries.{named-at}
+use Rattle.gather.specs.Chains.{chainAt, chain-none}
+use Rattle.gather.specs.Outers.{Outer}
+use Rattle.gather.specs.Enclosing.{Encloses, enclosed}
+use Rattle.gather.specs.Bodies.{EveryBody}
+use Rattle.using.specs.declared.Using.{Using}
+use Rattle.using.specs.UsesMods.{holds-none}
+use Rattle.literals.specs.declared.context.Context.{Context}
+use Rattle.literals.specs.Contexts.{Stands}
+use Rattle.recording.specs.Guards.{if-same}
+use Rattle.recording.specs.Front.{Fits, ready-fits}
+use Rattle.recording.specs.Records.{OneRecorded}
+use Rattle.frame.specs.declared.Fault.{Fault}
+use Rattle.frame.specs.declared.Progress.{Progress}
+use Rattle.frame.specs.Faults.{isSound}
+use Rattle.frame.specs.Held.{held-same}
+use Rattle.frame.specs.Table.{Table}
+use Rattle.frame.specs.Tails.{tail, tail-length, tail-answers, whole, whole-length, whole-answers, whole-front, table-of}
+use Rattle.frame.specs.Frames.{failed, guarded, Agree, Grown, grown-then}
+use Rattle.frame.specs.Steps.{agree-sound, not-sound}
+use Rattle.laws.specs.Guards.{guarded-sound, guarded-stays, fault-cases, was-sound}
+use Rattle.laws.specs.Same.{same-outer}
+use Rattle.laws.specs.Keeps.{keeps-guarded}
+use Rattle.laws.specs.KeepsNested.{keeps-process-plain-expr}
+use Rattle.analyzer.specs.Budgets.{above-later}
+use Rattle.analyzer.specs.Sites.{nestedBy, Around, Inside, Under}
+use Rattle.analyzer.specs.Moves.{Enclosing, at-ready, at-rows, inside-next, under-less, under-next, under-inside}
+use Rattle.analyzer.specs.Steadies.{fits, steady-use}
+use Rattle.analyzer.specs.Queries.{DoesQuery}
+use Rattle.analyzer.specs.Asks.{tree, AsksExpr, AsksLiteral, Begun, AsksQuery}
+use Rattle.analyzer.specs.Does.{DoesUse, DoesStep, everyStep}
+use Rattle.analyzer.specs.Witnesses.{members-held, someMods, some-stand}
+
+module _ (t : List ℕ) (ok : Accepted t) (outer spans : List ℕ) (st : Statement) (x : Context) (p : Progress) (firsts work : List ℕ)
+    (five : st .form ≡ 5) (asks : AsksLiteral t outer spans st x p firsts work) where
+  abbrev nested : Nested
+  nested = nestedBy t (x .levels)
+
+  abbrev domain : Tree
+  domain = tree t (st .third)
+
+  abbrev most : ℕ
+  most = suc (literalSize (literalOf (sheetAt t) st))
+
+  literal-is : literalOf (sheetAt t) st ≡ every (tree t (st .first)) (tree t (st .second)) domain (st .query)
+  unfolding literalOf
+  literal-is = rw five
+
+  enough : bracketVars domain + 1 ≤ most
+  enough = rw literal-is (omega (arith, brackets-fit domain))
+
+  -- ---- what the statement names
+
+  pub named : Named t st
+  named = subst (Named t) (sym (asks .is)) (named-at t ok (asks .row) (λ z. omega (arith, asks .there)) (asks .low))
+
+  here : queryOf (countsAt t) t (statementRow (asks .row)) ≡ asks .under .at .query
+  here = statement-there (countsAt t) t (asks .under .at .query) (asks .row) (asks .there) (asks .lies)
+
+  lie : StatementInside (countsAt t) t (asks .under .at .query) st
+  lie =
+      subst (StatementInside (countsAt t) t (asks .under .at .query)) (sym (asks .is))
+      (statement-lies (countsAt t) t (ok .within) (ok .fine) (asks .under .at .query) (asks .row) (asks .there) (asks .low) here)
+
+  opens : Nests (countsAt t) t (asks .under .at .query) (st .query) × (st .query ≤ getD t 4 0)
+  opens =
+      subst (λ (v : Statement). Nests (countsAt t) t (asks .under .at .query) (v .query) × (v .query ≤ getD t 4 0)) (sym (asks .is))
+      (every-opens (countsAt t) t (ok .within) (ok .fine) (asks .under .at .query) (asks .row) (asks .there) (asks .low) here
+      (ap (λ (v : Statement). v .form) (sym (asks .is)) ∙ five))
+
+  module _ (inner : List ℕ) (closed : Encloses outer (p .scope) spans inner) (none : Names) (clear : Empty (none .words)) where
+    -- ---- the domain
+
+    closing : Enclosing t outer spans p inner
+    closing parents o sc a = enclosed outer (p .scope) spans inner closed parents o sc a
+
+    abbrev within : (n : ℕ) → n ≤ most → Inside t inner p firsts work n
+    within n l = under-inside t outer spans inner p firsts work n closing (under-less t outer spans p firsts work most n l (asks .under))
+
+    pub use-asks : AsksExpr t inner (st .third) 0 x p firsts work (bracketVars domain)
+    use-asks = record {
+      inside = within (bracketVars domain) (omega (arith, enough));
+      first-lies = lie .third;
+      second-lies = inl refl;
+      mods-lie = asks .mods-lie;
+      mods-low = asks .mods-low;
+    }
+
+    module _ (u : Using) (firsts′ work′ : List ℕ) (uses : DoesUse t inner none domain x p firsts work u firsts′ work′) where
+      pub one-fits : Fits (u .progress) work′ 1
+      one-fits =
+          let m = someMods t x in
+          let cost = bracketVars domain in
+          let next = inside-next t inner p (u .progress) firsts firsts′ work work′ (cost + 1) cost 1
+          (λ parents. useExpr (sheetAt t) nested parents (x .statement) [] m domain)
+          (λ parents. steady-use t (x .levels) parents (x .statement) [] m domain) (omega arith)
+          (uses .runs m (some-stand t x) [] (holds-none none clear)) (within (cost + 1) enough) in
+          ready-fits t (u .progress) firsts′ work′ 1 (at-ready t (next .spans) (u .progress) firsts′ work′ 1 (next .at))
+
+      module _ (s : Progress) (work″ : List ℕ) (one : OneRecorded (x .statement) (u .names) (u .progress) work′ s work″) where
+        abbrev plain : List Scope → Mods → State → State
+        plain parents m = processPlainExpr (sheetAt t) nested parents (x .statement) m domain
+
+        abbrev record-used : Mods → State → State
+        record-used m v = recordOne (x .statement) 0 (allUsed (sheetAt t) [] m domain v) v
+
+        abbrev used : List Scope → Mods → State → State
+        used parents m v = useExpr (sheetAt t) nested parents (x .statement) [] m domain v
+
+        plain-is : (parents : List Scope) (m : Mods) (v : State) → guarded (record-used m) (used parents m v) ≡ guarded (plain parents m) v
+        unfolding processPlainExpr
+        plain-is parents m v = go (fault-cases (v .run .fault))
+          where
+            go : (v .run .fault ≡ sound) ⊎ (v .run .fault ≡ sound → ⊥) → guarded (record-used m) (used parents m v) ≡ guarded (plain parents m) v
+            go (inl e) =
+                ap (λ (z : State). guarded (record-used m) z) (sym (guarded-sound (used parents m) v e)) ∙ sym (guarded-sound (plain parents m) v e)
+            go (inr n) =
+                ap (λ (z : State). guarded (record-used m) z) (steady-use t (x .levels) parents (x .statement) [] m domain .stays v n)
+                ∙ guarded-stays v n (record-used m) ∙ sym (guarded-stays v n (plain parents m))
+
+        module _ (m : Mods) (stands : Stands t x m) (parents : List Scope) (v : State) (o : Outer outer parents) (a : Agree t spans p firsts work v) where
+          around-it : Around t inner parents v
+          around-it e = closing parents o (v .scope) (a .whole e .scope)
+
+          after-use : Agree t spans (u .progress) firsts′ work′ (used parents m v)
+          after-use = uses .runs m stands [] (holds-none none clear) .agrees parents spans v around-it a
+
+          after-one : Agree t spans s firsts′ work″ (guarded (plain parents m) v)
+          after-one = subst (Agree t spans s firsts′ work″) (plain-is parents m v) (go (bool-cases (isSound (u .progress .fault))))
+            where
+              go : (isSound (u .progress .fault) ≡ true) ⊎ (isSound (u .progress .fault) ≡ false)
+                  → Agree t spans s firsts′ work″ (guarded (record-used m) (used parents m v))
+              go (inl b) =
+                  let z = used parents m v in
+                  let all = allUsed (sheetAt t) [] m domain z in
+                  let h = uses .names m stands [] (holds-none none clear) b parents spans v around-it a in
+                  subst (Agree t spans s firsts′ work″) (if-same (z .run .fault) (recordOne (x .statement) 0 all) (record-used m) z refl)
+                  (one t all firsts′ h .agrees spans z after-use)
+              go (inr b) =
+                  let z = used parents m v in
+                  let faulty : z .run .fault ≡ sound → ⊥ = λ e. not-sound (u .progress .fault) b (after-use .fault ∙ e) in
+                  let f = recordOne (x .statement) 0 (members (u .names .words)) in
+                  subst (Agree t spans s firsts′ work″) (guarded-stays z faulty f ∙ sym (guarded-stays z faulty (record-used m)))
+                  (one t (members (u .names .words)) firsts′ (members-held (u .names)) .agrees spans z after-use)
+
+        grows : (m : Mods) → Stands t x m → Grown t p work s work″
+        grows m stands =
+            grown-then t p (u .progress) s work work′ work″ (uses .runs m stands [] (holds-none none clear) .grown)
+            (one t (members (u .names .words)) firsts′ (members-held (u .names)) .grown)
+
+        plain-steps : (m : Mods) (parents : List Scope) → Step (sheetAt t) (suc (x .statement)) (bracketVars domain + 1) (guarded (plain parents m))
+        unfolding processPlainExpr
+        plain-steps m parents v =
+            step-if (sheetAt t) (plain parents m)
+            (step-at-most (sheetAt t) (bracketVars domain + 1)
+            (turn (sheetAt t) (adds-use-expr (sheetAt t) nested parents (fits t (x .levels)) (x .statement) [] m domain
+            ⨾ (λ z. adds-record-one (sheetAt t) (x .statement) 0 (allUsed (sheetAt t) [] m domain z) z)
+            ⨾ end)) (omega arith)) (v .run .fault) v
+
+        abbrev after : Under t outer spans s firsts′ work″ 0
+        after =
+            let m = someMods t x in
+            under-next t outer spans p s firsts firsts′ work work″ most (bracketVars domain + 1) 0 (suc (x .statement)) (λ parents. guarded (plain parents m))
+            (plain-steps m) (omega (arith, enough))
+            (record { grown = grows m (some-stand t x); agrees = after-one m (some-stand t x) }) (asks .under)
+
+        pub room-at : 4 * s .count + 4736 ≤ length work″
+        room-at = at-rows t spans s firsts′ work″ 0 (after .at)
+
+        -- The scopes around nested queries are as they were.
+        outer-then : (m : Mods) (parents : List Scope) (v : State) → Outer outer parents → Agree t spans p firsts work v
+            → guarded (plain parents m) v .run .fault ≡ sound → Outer inner (guarded (plain parents m) v .scope ∷ parents)
+        outer-then m parents v o a e =
+            let before = was-sound v (guarded (plain parents m) v) (λ n. guarded-stays v n (plain parents m)) e in
+            same-outer (keeps-guarded (plain parents m) (keeps-process-plain-expr (sheetAt t) nested parents (x .statement) m domain) v) inner parents
+            (closing parents o (v .scope) (a .whole before .scope))
+
+        -- ---- the body
+
+        abbrev lent : List ℕ
+        lent = tail work″ (4 * s .count) room-at
+
+        lent-table : (z : State) → Agree t spans s firsts′ work″ z → z .run .fault ≡ sound → Table t lent (z .run .schedules)
+        lent-table z a e =
+            table-of t work″ lent (z .run .schedules) (omega (arith, room-at, tail-length work″ (4 * s .count) room-at))
+            (tail-answers work″ (4 * s .count) room-at) (a .whole e .table)
+
+        abbrev keyValue : Scope
+        keyValue = foldl addLocal noScope (vars (chainAt t (st .first) ++ chainAt t (st .second)))
+
+        module _ (body : List ℕ) (bodied : EveryBody t inner (st .first) (st .second) body) (query : ℕ)
+            (which : query ≡ cond (isSound (s .fault)) (st .query) 0) where
+          begun : isSound (s .fault) ≡ true → Begun t body lent query 0 0
+          begun b =
+              let q : query ≡ st .query = which ∙ rw b in
+              let at = after .at in
+              let fine = agree-sound t spans s firsts′ work″ (at .state) (at .agrees) b in
+              let o = outer-then (someMods t x) (asks .under .at .parents) (asks .under .at .state) (asks .under .beneath) (asks .under .at .agrees) fine in
+              record {
+                from = omega (arith, q, opens .0 .not-first);
+                to = omega (arith, q, opens .1);
+                key-low = omega arith;
+                value-low = omega arith;
+                key-lies = inl refl;
+                value-lies = inl refl;
+                room = rw q (omega (
+                  arith,
+                  at .room,
+                  at .agrees .count,
+                  above-later t (asks .under .at .query) (st .query) (opens .0 .larger) (opens .1),
+                  tail-length work″ (4 * s .count) room-at,
+                ));
+                parents = keyValue ∷ (at .state .scope ∷ at .parents);
+                beneath = bodied (at .state .scope ∷ at .parents) o;
+                schedules = at .state .run .schedules;
+                table = lent-table (at .state) (at .agrees) fine;
+              }
+
+          pub query-asks : AsksQuery t body lent query 0 0
+          query-asks = go (bool-cases (isSound (s .fault)))
+            where
+              go : (isSound (s .fault) ≡ true) ⊎ (isSound (s .fault) ≡ false) → AsksQuery t body lent query 0 0
+              go (inl b) = inr (begun b)
+              go (inr b) = inl (which ∙ rw b)
+
+          module _ (fault : Fault) (part : List ℕ) (long : length part ≡ length lent) (does : DoesQuery t body query 0 0 (x .levels) lent fault part)
+              (r : Progress) (ends : r ≡ cond (isSound (s .fault)) (failed s fault) s) where
+            abbrev now-work : List ℕ
+            now-work = whole work″ (4 * s .count) room-at part long
+
+            -- Where no query is asked for, work is as it was.
+            same-work : query ≡ 0 → now-work ≡ work″
+            same-work z =
+                ap (λ (l : List ℕ). take (4 * s .count) work″ ++ (l ++ postOf (4 * s .count) (length work″ - 4 * s .count) work″)) (does .none z .1)
+                ∙ put-same (4 * s .count) (length work″ - 4 * s .count) work″
+
+            same-count : r .count ≡ s .count
+            same-count = ap (λ (z : Progress). z .count) ends ∙ go (isSound (s .fault))
+              where
+                go : (b : Bool) → cond b (failed s fault) s .count ≡ s .count
+                go true = refl
+                go false = refl
+
+            abbrev analysed : List Scope → State → State
+            analysed parents z = setRun (nested (keyValue ∷ (z .scope ∷ parents)) (st .query) [] (z .run)) z
+
+            module _ (parents : List Scope) (z : State) (a : Agree t spans s firsts′ work″ z)
+                (o : z .run .fault ≡ sound → Outer inner (z .scope ∷ parents)) where
+              sound-turn : isSound (s .fault) ≡ true → Agree t spans (failed s fault) firsts′ now-work (analysed parents z)
+              unfolding setRun
+              sound-turn b =
+                  let fine = agree-sound t spans s firsts′ work″ z a b in
+                  let held = a .whole fine in
+                  let q : query ≡ st .query = which ∙ rw b in
+                  let ne : query ≡ 0 → ⊥ = λ e. omega (arith, q, opens .0 .not-first) in
+                  let run = nested (keyValue ∷ (z .scope ∷ parents)) query (chainAt t 0 ++ chainAt t 0) (z .run) in
+                  let is : run ≡ nested (keyValue ∷ (z .scope ∷ parents)) (st .query) [] (z .run) = rw (chain-none t ok, q) in
+                  let end = does .one ne (keyValue ∷ (z .scope ∷ parents)) (z .run) (bodied (z .scope ∷ parents) (o fine)) fine (lent-table z a fine) in
+                  rw (sym is) (record {
+                    fault = end .0;
+                    count = a .count;
+                    whole = λ e. record {
+                      scope = held .scope;
+                      used-first = held .used-first;
+                      rows = held-same work″ now-work (s .count) (z .definitions) (held .rows) (whole-front work″ (4 * s .count) room-at part long);
+                      table = table-of t part now-work (run .schedules)
+                          (omega (arith, room-at, whole-length work″ (4 * s .count) room-at part long)) (whole-answers work″ (4 * s .count) room-at part long) (end .1 e);
+                    };
+                  })
+
+              turned : Agree t spans r firsts′ now-work (guarded (analysed parents) z)
+              turned = go (bool-cases (isSound (s .fault)))
+                where
+                  go : (isSound (s .fault) ≡ true) ⊎ (isSound (s .fault) ≡ false) → Agree t spans r firsts′ now-work (guarded (analysed parents) z)
+                  go (inl b) =
+                      let is : r ≡ failed s fault = ends ∙ rw b in
+                      rw (is, guarded-sound (analysed parents) z (agree-sound t spans s firsts′ work″ z a b)) (sound-turn b)
+                  go (inr b) =
+                      let is : r ≡ s = ends ∙ rw b in
+                      let faulty : z .run .fault ≡ sound → ⊥ = λ e. not-sound (s .fault) b (a .fault ∙ e) in
+                      rw (is, guarded-stays z faulty (analysed parents), same-work (which ∙ rw b)) a
+
+            pub every-does : DoesStep t (everyStep t st x) outer spans x p firsts work r firsts′ now-work
+            unfolding processEvery
+            every-does m stands = record {
+              grown = grown-then t p s r work work″ now-work (grows m stands) (record {
+                long = whole-length work″ (4 * s .count) room-at part long;
+                up = omega (arith, same-count);
+                before = whole-front work″ (4 * s .count) room-at part long;
+              });
+              agrees = λ parents v o a. turned parents (guarded (plain parents m) v) (after-one m stands parents v o a) (outer-then m parents v o a);
+            }

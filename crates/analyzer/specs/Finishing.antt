@@ -1,0 +1,40 @@
+-- What the two ends of a query's analysis leave.
+use mathlib.Core.Path.{_≡_, refl}
+use mathlib.Core.Bool.{true}
+use mathlib.Core.List.{List}
+use Prim.Native.Nat.{ℕ}
+use Rattle.gather.specs.declared.scope.Scope.{Scope}
+use Rattle.gather.specs.Agrees.{Opened, withInputsOf}
+use Rattle.frame.specs.declared.Fault.{Fault}
+use Rattle.frame.specs.declared.Progress.{Progress}
+use Rattle.frame.specs.Faults.{isSound}
+use Rattle.frame.specs.Frames.{scoped}
+use Rattle.conclude.specs.Concluded.{Concluded}
+use Rattle.analyzer.specs.Ends.{OpenedFrom, Finished}
+
+pub opened-from : (p r : Progress) (k : Scope) → Opened (p .scope) k → r ≡ scoped p k → OpenedFrom p r
+opened-from p r k put is = rw is (record { count = refl; fault = refl; scope = put })
+
+module _ (t w : List ℕ) (q : ℕ) (k : Scope) (p : Progress) (l : List ℕ) (r : Fault) (same : r ≡ p .fault) where
+  -- The query is concluded.
+  pub finished : (whole : Scope) → whole ≡ withInputsOf k (p .scope) → (v : List ℕ) → Concluded t w q whole l (p .count) v → Finished t w q k p l r v
+  finished whole is v done = record {
+    fault = same;
+    enters = λ fine a schedules h table.
+        done .enters a schedules
+        (rw is (record {
+          query = h .query;
+          whole = h .count;
+          scope = h .scope;
+          rows = h .rows;
+          few = h .few;
+          bounds = h .in-bounds;
+          fits = h .fits;
+          low = h .low;
+        }))
+        table;
+  }
+
+  -- It is not, at a fault.
+  pub unfinished : (isSound (p .fault) ≡ true → ⊥) → (v : List ℕ) → Finished t w q k p l r v
+  unfinished faulty v = record { fault = same; enters = λ fine. absurd (faulty fine) }

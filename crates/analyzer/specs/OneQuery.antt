@@ -1,0 +1,400 @@
+-- The analysis of one query, from its empty start to its schedule in the table.
+use mathlib.Core.Path.{_≡_, refl, sym, ap, _∙_, subst}
+use mathlib.Core.Bool.{true, false, false≢true}
+use mathlib.Core.List.{List, [], _∷_, _++_, foldl-append}
+use mathlib.Core.Logic.{_⊎_, inl, inr}
+use Prim.Native.Nat.{ℕ, zero, suc, _+_, _-_, _*_, _≤_, _<_}
+use native.Mathlib.Omega.{arith}
+use lib.ListN.{length, getD}
+use Rattle.basics.specs.Truth.{bool-cases}
+use Rattle.records.specs.Layout.{firstAt}
+use Rattle.trees.specs.Lists.{isSome, concatMap}
+use Rattle.trees.specs.Trees.{Tree}
+use Rattle.trees.specs.Traverse.{comprs}
+use Rattle.trees.specs.Statements.{Stmt, stmtsOf}
+use Rattle.scopes.specs.NameSets.{NameSet, contains}
+use Rattle.scopes.specs.Scopes as spec
+use Rattle.scopes.specs.Scopes.{Span, spanIn}
+use Rattle.analysis.specs.States.{sound, QuerySchedule, Run, State, setScope}
+use Rattle.analysis.specs.Comprs.{processCompr, processComprs}
+use Rattle.analysis.specs.Statements.{processStmts}
+use Rattle.analysis.specs.Queries.{outputScope, analyze}
+use Rattle.sizes.specs.Sizes.{total, weight}
+use Rattle.sizes.specs.Adds.{Fits, adds-length}
+use Rattle.sizes.specs.Statements.{adds-process-stmts}
+use Rattle.sizes.specs.Queries.{start}
+use Rattle.homes.specs.Lying.{StatementLies}
+use Rattle.homes.specs.StatementHomes.{first-lies}
+use Rattle.branches.specs.Onwards.{left}
+use Rattle.gather.specs.declared.scope.Scope.{Scope}
+use Rattle.gather.specs.Sheets.{countsAt, specialAt, sheetAt, Accepted}
+use Rattle.gather.specs.Chains.{chainAt}
+use Rattle.gather.specs.Outers.{Outer}
+use Rattle.gather.specs.Walking.{remains, few-remain}
+use Rattle.gather.specs.Queries.{stmtsLeft, first-is, first-low, Gathered}
+use Rattle.gather.specs.Spans.{Agrees, agrees-opened}
+use Rattle.gather.specs.Agrees.{withInputsOf}
+use Rattle.gather.specs.Enclosing.{Encloses, enclosed}
+use Rattle.used.specs.Firsts.{Firsts}
+use Rattle.frame.specs.declared.Fault.{Fault}
+use Rattle.frame.specs.declared.Fault.the-variants.{Sound}
+use Rattle.frame.specs.declared.Progress.{Progress}
+use Rattle.frame.specs.Faults.{isSound, meaning}
+use Rattle.frame.specs.Held.{Held, held-none}
+use Rattle.frame.specs.Table.{answersOf, Based, Low, Table}
+use Rattle.frame.specs.Frames.{Agree}
+use Rattle.frame.specs.Steps.{sound-is, not-sound}
+use Rattle.laws.specs.Guards.{fault-cases, outputs-sound}
+use Rattle.laws.specs.Same.{same-local}
+use Rattle.laws.specs.KeepsNested.{keeps-outputs}
+use Rattle.laws.specs.Chained.{comprs-chains}
+use Rattle.laws.specs.Outputs as outputs
+use Rattle.laws.specs.Outputs.{opened, opened-outputs, opened-inputs, opened-flag}
+use Rattle.laws.specs.Lows.{accepted-low, outputs-low, in-bounds}
+use Rattle.laws.specs.Fronts.{ended, front, analyze-sound, analyze-faulty, front-fits, front-low}
+use Rattle.analyzer.specs.Budgets.{budget, budgetAt}
+use Rattle.analyzer.specs.Sites.{nestedBy, Around, Inside}
+use Rattle.analyzer.specs.Moves.{inside-next, around-next, at-rows}
+use Rattle.analyzer.specs.Steadies.{fits, steady-comprs}
+use Rattle.analyzer.specs.Asks.{tree, stmtsAt, AsksComprs, AsksStmts, Begun, AsksQuery}
+use Rattle.analyzer.specs.Does.{DoesComprs, DoesStmts}
+use Rattle.analyzer.specs.Queries.{DoesQuery}
+use Rattle.analyzer.specs.Ends.{begin, OpenedFrom, Ending, Finished}
+
+left-most : (n v : ℕ) → left n v ≤ suc n
+unfolding left
+left-most n zero = omega arith
+left-most n (suc v) = omega arith
+
+few-stmts : (t : List ℕ) → Accepted t → (row : ℕ) → stmtsLeft t row ≤ 129
+few-stmts t ok row = omega (arith, left-most (getD t 3 0) row, ok .within .few-statements)
+
+-- ---- the calls are a level below
+
+module _ (t : List ℕ) (ok : Accepted t) (levels m : ℕ) (some : levels ≡ 0 → ⊥) (is : levels * 8192 ≡ m) (row : ℕ) where
+  pub stmts-below : (levels - 1) * 8192 + (1110 + stmtsLeft t row) < m
+  stmts-below = omega (arith, few-stmts t ok row)
+
+  pub comprs-below : (levels - 1) * 8192 + (remains t row + 1) < m
+  comprs-below = omega (arith, few-remain t ok row)
+
+-- No name is used yet.
+firsts-none : (ws : List ℕ) → ((x : ℕ) → getD ws x 0 ≡ 0) → Firsts ws []
+firsts-none ws zeros = record { has = λ x low. sym (zeros x); low = λ x p e. absurd (false≢true (ap isSome e)) }
+
+-- What statements weigh is within their budget.
+weights-fit : (l : List Stmt) → total weight l ≤ total budget l
+weights-fit [] = omega arith
+weights-fit (st ∷ l) = omega (arith, weights-fit l)
+
+means-sound : (f : Fault) → meaning f ≡ sound → isSound f ≡ true
+means-sound f e = go (bool-cases (isSound f))
+  where
+    go : (isSound f ≡ true) ⊎ (isSound f ≡ false) → isSound f ≡ true
+    go (inl b) = b
+    go (inr b) = absurd (not-sound f b e)
+
+-- ---- no query, or no level left
+
+pub does-none : (t outer : List ℕ) (query key value levels : ℕ) (work : List ℕ) → query ≡ 0 → DoesQuery t outer query key value levels work Sound work
+does-none t outer query key value levels work z = record { none = λ e. (refl, refl); one = λ ne. absurd (ne z) }
+
+pub does-nothing : (t outer : List ℕ) (query key value levels : ℕ) (work : List ℕ) → levels ≡ 0 → DoesQuery t outer query key value levels work Sound work
+unfolding analyze
+does-nothing t outer query key value levels work z =
+    rw z (record { none = λ e. (refl, refl); one = λ ne parents run o fine table. (sym fine, λ e. table) })
+
+-- ---- the scope of outputs
+
+module _ (t spans : List ℕ) (p r : Progress) (o : OpenedFrom p r) (fs w : List ℕ) (s : State) where
+  opened-agrees : Agree t spans p fs w s → Agree t spans r fs w (opened s)
+  unfolding opened setScope outputScope
+  opened-agrees a = record {
+    fault = ap meaning (o .fault) ∙ a .fault;
+    count = omega (arith, o .count, a .count);
+    whole = λ e.
+        let h = a .whole e in
+        record {
+          scope = agrees-opened (p .scope) spans (r .scope) (s .scope) (h .scope) (o .scope);
+          used-first = h .used-first;
+          rows = subst (λ (n : ℕ). Held w n (s .definitions)) (sym (o .count)) (h .rows);
+          table = h .table;
+        };
+  }
+
+opened-definitions : (s : State) → opened s .definitions ≡ s .definitions
+unfolding opened setScope
+opened-definitions s = refl
+
+-- ---- a query that is to be analysed
+
+pub begun-of : (t outer work : List ℕ) (query key value : ℕ) → (query ≡ 0 → ⊥) → AsksQuery t outer work query key value
+    → Begun t outer work query key value
+begun-of t outer work query key value some (inl z) = absurd (some z)
+begun-of t outer work query key value some (inr b) = b
+
+abbrev outputsAt : List ℕ → ℕ → ℕ → List Tree
+outputsAt t key value = chainAt t key ++ chainAt t value
+
+-- The table that there is, as a run's.
+abbrev runWith : List QuerySchedule → Run
+runWith schedules = record { schedules = schedules; fault = sound }
+
+-- Its scope is gathered, and nothing is recorded yet.
+pub record Started (t outer work : List ℕ) (query key value : ℕ) (spans firsts : List ℕ) (row : ℕ) (p : Progress) : Type 0 where
+  pub ok : Accepted t
+  pub begun : Begun t outer work query key value
+  pub scope : Scope
+  pub gathered : Gathered t outer query key value scope spans
+  pub zeros : (x : ℕ) → getD firsts x 0 ≡ 0
+  pub is : row ≡ firstAt t query
+  pub begins : p ≡ begin scope
+
+module _ (t outer work : List ℕ) (query key value : ℕ) (spans firsts : List ℕ) (row : ℕ) (p : Progress)
+    (x : Started t outer work query key value spans firsts row p) where
+  -- The start, below these parents, with this table.
+  start-agrees : (parents : List spec.Scope) (run : Run) → Outer outer parents → run .fault ≡ sound → Table t work (run .schedules)
+      → Agree t spans p firsts work (start (sheetAt t) parents query (outputsAt t key value) run)
+  start-agrees parents run o fine table = rw (x .begins) (record {
+    fault = sym fine;
+    count = omega arith;
+    whole = λ e. record {
+      scope = x .gathered parents o;
+      used-first = firsts-none firsts (x .zeros);
+      rows = held-none work;
+      table = table;
+    };
+  })
+
+  stmts-are : stmtsAt t row ≡ stmtsOf (sheetAt t) query
+  unfolding stmtsOf
+  stmts-are = rw (x .is, first-is t outer query (x .begun .from) (x .begun .to))
+
+  pub row-high : row ≤ getD t 3 0
+  row-high = omega (arith, x .is, first-low t outer (x .ok) query (x .begun .from) (x .begun .to))
+
+  pub asks-stmts : AsksStmts t outer spans row 0 p firsts work
+  asks-stmts =
+      let b = x .begun in
+      record {
+        under = record {
+          at = record {
+            query = query;
+            from = b .from;
+            to = b .to;
+            parents = b .parents;
+            state = start (sheetAt t) (b .parents) query (outputsAt t key value) (runWith (b .schedules));
+            agrees = start-agrees (b .parents) (runWith (b .schedules)) (b .beneath) refl (b .table);
+            room = omega (arith, ap (total budget) stmts-are, b .room);
+          };
+          beneath = b .beneath;
+        };
+        lies = subst (StatementLies (countsAt t) t query) (sym (x .is))
+            (first-lies (countsAt t) t (x .ok .within) (x .ok .fine) query (b .from) (b .to));
+        few = omega (arith, few-stmts t (x .ok) row);
+        older = λ e. refl;
+      }
+
+-- Its statements are processed, and its scope is opened.
+pub record Enclosed (t outer work : List ℕ) (query key value : ℕ) (spans : List ℕ) (n : ℕ) (s wide : Progress) (inner fs w : List ℕ) : Type 0 where
+  pub firsts : List ℕ
+  pub row : ℕ
+  pub p : Progress
+  pub started : Started t outer work query key value spans firsts row p
+  pub did : DoesStmts t outer spans row 0 n p firsts work s fs w
+  pub opens : OpenedFrom s wide
+  pub encloses : Encloses outer (wide .scope) spans inner
+
+module _ (t outer work : List ℕ) (query key value : ℕ) (spans : List ℕ) (n : ℕ) (s wide : Progress) (inner fs w : List ℕ)
+    (x : Enclosed t outer work query key value spans n s wide inner fs w) where
+  abbrev b : Begun t outer work query key value
+  b = x .started .begun
+
+  abbrev ok : Accepted t
+  ok = x .started .ok
+
+  abbrev outs : List Tree
+  outs = outputsAt t key value
+
+  abbrev begin-at : List spec.Scope → Run → State
+  begin-at parents run = start (sheetAt t) parents query outs run
+
+  abbrev body : List spec.Scope → Run → State
+  body parents run = processStmts (sheetAt t) (nestedBy t n) parents 0 (stmtsOf (sheetAt t) query) (begin-at parents run)
+
+  few-rows : (parents : List spec.Scope) (run : Run) → length (body parents run .definitions) ≤ budgetAt t query
+  few-rows parents run =
+      omega (
+        arith,
+        adds-length (sheetAt t)
+            (adds-process-stmts (sheetAt t) (nestedBy t n) parents (fits t n) (stmtsOf (sheetAt t) query) 0 (begin-at parents run)) .1,
+        weights-fit (stmtsOf (sheetAt t) query),
+      )
+
+  module _ (parents : List spec.Scope) (run : Run) (o : Outer outer parents) (fine : run .fault ≡ sound) (table : Table t work (run .schedules)) where
+    body-agrees : Agree t spans s fs w (body parents run)
+    body-agrees =
+        let y = x .started in
+        subst (λ (l : List Stmt). Agree t spans s fs w (processStmts (sheetAt t) (nestedBy t n) parents 0 l (begin-at parents run)))
+        (stmts-are t outer work query key value spans (x .firsts) (x .row) (x .p) y)
+        (x .did .agrees parents (begin-at parents run) o
+        (start-agrees t outer work query key value spans (x .firsts) (x .row) (x .p) y parents run o fine table))
+
+    wide-agrees : Agree t spans wide fs w (opened (body parents run))
+    wide-agrees = opened-agrees t spans s wide (x .opens) fs w (body parents run) body-agrees
+
+    wide-around : Around t inner parents (opened (body parents run))
+    wide-around e = enclosed outer (wide .scope) spans inner (x .encloses) parents o (opened (body parents run) .scope) (wide-agrees .whole e .scope)
+
+  -- ---- the comprehensions of its outputs
+
+  abbrev key-step : List spec.Scope → State → State
+  key-step parents = processComprs (sheetAt t) (nestedBy t n) parents (comprs (tree t key))
+
+  abbrev value-step : List spec.Scope → State → State
+  value-step parents = processComprs (sheetAt t) (nestedBy t n) parents (comprs (tree t value))
+
+  abbrev inside-key : Inside t inner wide fs w 0
+  inside-key = record {
+    spans = spans;
+    at = record {
+      query = query;
+      from = b .from;
+      to = b .to;
+      parents = b .parents;
+      state = opened (body (b .parents) (runWith (b .schedules)));
+      agrees = wide-agrees (b .parents) (runWith (b .schedules)) (b .beneath) refl (b .table);
+      room = omega (
+        arith,
+        b .room,
+        few-rows (b .parents) (runWith (b .schedules)),
+        x .did .grown .long,
+        ap length (opened-definitions (body (b .parents) (runWith (b .schedules)))),
+      );
+    };
+    around = wide-around (b .parents) (runWith (b .schedules)) (b .beneath) refl (b .table);
+  }
+
+  pub asks-key : AsksComprs t inner key wide fs w
+  asks-key = record { inside = inside-key; lies = b .key-lies }
+
+  module _ (u : Progress) (fs₁ w₁ : List ℕ) (did-key : DoesComprs t inner (comprs (tree t key)) n wide fs w u fs₁ w₁) where
+    abbrev inside-value : Inside t inner u fs₁ w₁ 0
+    inside-value =
+        inside-next t inner wide u fs fs₁ w w₁ 0 0 0 key-step (λ parents. steady-comprs t n parents (comprs (tree t key))) (omega arith) did-key inside-key
+
+    pub asks-value : AsksComprs t inner value u fs₁ w₁
+    asks-value = record { inside = inside-value; lies = b .value-lies }
+
+    module _ (v : Progress) (fs₂ w₂ : List ℕ) (did-value : DoesComprs t inner (comprs (tree t value)) n u fs₁ w₁ v fs₂ w₂) where
+      inside-last : Inside t inner v fs₂ w₂ 0
+      inside-last =
+          inside-next t inner u v fs₁ fs₂ w₁ w₂ 0 0 0 value-step (λ parents. steady-comprs t n parents (comprs (tree t value))) (omega arith) did-value inside-value
+
+      pub room-last : 4 * v .count + 4736 ≤ length w₂
+      room-last = at-rows t (inside-last .spans) v fs₂ w₂ 0 (inside-last .at)
+
+      pub based-last : isSound (v .fault) ≡ true → Based t (answersOf w₂)
+      based-last fine =
+          let a = inside-last .at .agrees in
+          a .whole (sym (a .fault) ∙ sound-is (v .fault) fine) .table .based
+
+      module _ (parents : List spec.Scope) (run : Run) (o : Outer outer parents) (fine : run .fault ≡ sound) (table : Table t work (run .schedules)) where
+        abbrev before : State
+        before = opened (body parents run)
+
+        abbrev last : State
+        last = value-step parents (key-step parents before)
+
+        last-agrees : Agree t spans v fs₂ w₂ last
+        last-agrees =
+            let here = wide-around parents run o fine table in
+            did-value .agrees parents spans (key-step parents before)
+            (around-next t inner parents 0 (key-step parents) (steady-comprs t n parents (comprs (tree t key))) before here)
+            (did-key .agrees parents spans before here (wide-agrees parents run o fine table))
+
+        -- One after the other, they are those of the two chains.
+        last-is : processComprs (sheetAt t) (nestedBy t n) parents (concatMap comprs outs) before ≡ last
+        unfolding processComprs
+        last-is =
+            ap (λ (l : List Tree). processComprs (sheetAt t) (nestedBy t n) parents l before) (comprs-chains (tree t key) (tree t value))
+            ∙ foldl-append (processCompr (sheetAt t) (nestedBy t n) parents) before (comprs (tree t key)) (comprs (tree t value))
+
+        abbrev end : State
+        end = ended n (sheetAt t) parents query outs run
+
+        beside : outputs.Opened end last
+        beside = subst (outputs.Opened end) last-is (opened-outputs (sheetAt t) (nestedBy t n) parents outs (body parents run))
+
+        -- ---- its schedule
+
+        module _ (well : end .run .fault ≡ sound) where
+          abbrev this : QuerySchedule
+          this = front n (sheetAt t) parents query outs run
+
+          well-last : last .run .fault ≡ sound
+          well-last = ap (λ (r : Run). r .fault) (beside .run) ∙ well
+
+          -- Its own names are those from before the outputs; inputs rose since.
+          scope-agrees : Agrees (withInputsOf (s .scope) (v .scope)) spans (end .scope)
+          scope-agrees =
+              let same = keeps-outputs (sheetAt t) (nestedBy t n) parents outs (body parents run) in
+              let clear = outputs-sound (sheetAt t) (nestedBy t n) parents (body parents run) outs well in
+              let own = body-agrees parents run o fine table .whole clear .scope in
+              let rose = last-agrees .whole well-last .scope .sets in
+              record {
+                sets = record {
+                  locals = λ i. same-local same i ∙ own .sets .locals i;
+                  unscoped = λ i. ap (λ (names : NameSet). contains names i) (same .unscoped) ∙ own .sets .unscoped i;
+                  inputs = λ i. ap (λ (names : NameSet). contains names i) (sym (opened-inputs beside)) ∙ rose .inputs i;
+                  flag = sym (opened-flag beside) ∙ rose .flag;
+                };
+                placed = λ i p e. own .placed i p (ap (λ (l : List Span). spanIn l i) (sym (same .locals)) ∙ e);
+              }
+
+          this-low : Low (this .scope) (this .definitions)
+          this-low = front-low n (sheetAt t) parents query outs run well (accepted-low t ok) (outputs-low t ok key value) (table .low)
+
+          this-fits : Fits (sheetAt t) this
+          this-fits = front-fits n (sheetAt t) parents query outs run well (table .fits)
+
+          ending : Ending t w₂ query (withInputsOf (s .scope) (v .scope)) spans (v .count) this
+          unfolding sheetAt
+          ending = record {
+            query = refl;
+            count = refl;
+            scope = scope-agrees;
+            rows = subst (Held w₂ (v .count)) (beside .definitions) (last-agrees .whole well-last .rows);
+            few = omega (arith, last-agrees .count, ap length (beside .definitions));
+            in-bounds = in-bounds (countsAt t) (specialAt t) t (ok .within) (ok .fine) this this-fits this-low;
+            fits = this-fits;
+            low = this-low;
+          }
+
+        -- ---- the end
+
+        module _ (r : Fault) (w₃ : List ℕ) (done : Finished t w₂ query (s .scope) v spans r w₃) where
+          abbrev Ends : Run → Type 0
+          Ends e = (meaning r ≡ e .fault) × (e .fault ≡ sound → Table t w₃ (e .schedules))
+
+          same-fault : meaning r ≡ end .run .fault
+          same-fault = ap meaning (done .fault) ∙ last-agrees .fault ∙ ap (λ (u : Run). u .fault) (beside .run)
+
+          ends : Ends (analyze (suc n) (sheetAt t) parents query outs run)
+          ends = go (fault-cases (end .run .fault))
+            where
+              go : (end .run .fault ≡ sound) ⊎ (end .run .fault ≡ sound → ⊥) → Ends (analyze (suc n) (sheetAt t) parents query outs run)
+              go (inl well) =
+                  let held : Table t w₂ (end .run .schedules) =
+                  subst (λ (u : Run). Table t w₂ (u .schedules)) (beside .run) (last-agrees .whole (well-last well) .table) in
+                  let there = done .enters (means-sound (v .fault) (last-agrees .fault ∙ well-last well)) (this well) (end .run .schedules) (ending well) held in
+                  subst Ends (sym (analyze-sound n (sheetAt t) parents query outs run well)) (same-fault ∙ well, λ e. there)
+              go (inr faulty) =
+                  subst Ends (sym (analyze-faulty n (sheetAt t) parents query outs run faulty)) (same-fault, λ e. absurd (faulty e))
+
+      pub does-query : (levels : ℕ) → levels ≡ suc n → (r : Fault) (w₃ : List ℕ) → Finished t w₂ query (s .scope) v spans r w₃
+          → DoesQuery t outer query key value levels work r w₃
+      does-query levels e r w₃ done = rw e (record {
+        none = λ z. absurd (omega (arith, b .from, z));
+        one = λ ne parents run o fine table. ends parents run o fine table r w₃ done;
+      })

@@ -1,0 +1,66 @@
+-- The outer query: nothing exists around it, and all queries have room in work.
+use mathlib.Core.Path.{_≡_, refl, sym, ap, _∙_, subst}
+use mathlib.Core.List.{List, [], _++_}
+use mathlib.Core.Logic.{inl, inr}
+use Prim.Native.Nat.{ℕ, _≤_}
+use native.Mathlib.Omega.{arith}
+use lib.Dec.{leb}
+use lib.ListN.{length, getD, replicate, getD-replicate}
+use borrow.Author.Tests.{lt-leb}
+use Rattle.trees.specs.Trees.{Tree}
+use Rattle.scopes.specs.Scopes.{varExists}
+use Rattle.analysis.specs.States.{sound, Run}
+use Rattle.analysis.specs.Queries.{analyze, analyzeQuerySnippet}
+use Rattle.gather.specs.Sheets.{sheetAt, Accepted}
+use Rattle.gather.specs.Chains.{chainAt, chain-none}
+use Rattle.gather.specs.Outers.{Outer}
+use Rattle.frame.specs.declared.Fault.{Fault}
+use Rattle.answer.specs.Stored.{Stored}
+use Rattle.frame.specs.Table.{answersOf, Table}
+use Rattle.analyzer.specs.Analysed.{Analysed}
+use Rattle.analyzer.specs.Asks.{AsksQuery}
+use Rattle.analyzer.specs.Budgets.{all-fit}
+use Rattle.analyzer.specs.Queries.{DoesQuery}
+
+-- A number past all lines for every name.
+pub nothing-around : Outer (replicate 128 65536) []
+unfolding varExists
+nothing-around = record {
+  has = λ w low lined.
+      sym (ap (λ (n : ℕ). leb n (w .line)) (getD-replicate 128 (w .name) 65536 0 low) ∙ lt-leb 65536 (w .line) lined);
+}
+
+-- No schedule, no fault.
+abbrev fresh : Run
+fresh = record { schedules = []; fault = sound }
+
+module _ (t : List ℕ) (ok : Accepted t) (outer : List ℕ) (none : Outer outer []) (work : List ℕ) (table : Table t work []) where
+  pub outer-asks : 1 ≤ getD t 4 0 → 8192 ≤ length work → AsksQuery t outer work 1 0 0
+  outer-asks some enough = inr (record {
+    from = omega arith;
+    to = some;
+    key-low = omega arith;
+    value-low = omega arith;
+    key-lies = inl refl;
+    value-lies = inl refl;
+    room = omega (arith, all-fit t ok some, enough);
+    parents = [];
+    beneath = none;
+    schedules = [];
+    table = table;
+  })
+
+  outputs : (chainAt t 0 ++ chainAt t 0) ≡ []
+  outputs = rw (chain-none t ok)
+
+  snippet-is : analyze 8 (sheetAt t) [] 1 (chainAt t 0 ++ chainAt t 0) fresh ≡ analyzeQuerySnippet (sheetAt t)
+  unfolding analyzeQuerySnippet
+  snippet-is = ap (λ (es : List Tree). analyze 8 (sheetAt t) [] 1 es fresh) outputs
+
+  pub analysed : (r : Fault) (v : List ℕ) → DoesQuery t outer 1 0 0 8 work r v → Analysed t v r
+  analysed r v does =
+      let end = does .one (λ z. omega (arith, z)) [] fresh none refl table in
+      record {
+        fault = end .0 ∙ ap (λ (u : Run). u .fault) snippet-is;
+        stored = λ e. subst (λ (u : Run). Stored (answersOf v) (u .schedules)) snippet-is (end .1 (ap (λ (u : Run). u .fault) snippet-is ∙ e) .stored);
+      }

@@ -1,0 +1,92 @@
+-- The steps that the cycle is made of are steady: what each adds, that it keeps the scope's own names, and that it is not done at a fault.
+use mathlib.Core.Path.{ap, _∙_}
+use mathlib.Core.Bool.{Bool}
+use mathlib.Core.List.{List, [], _∷_, _++_, foldl}
+use Prim.Native.Nat.{ℕ, suc, _+_}
+use native.Mathlib.Omega.{arith}
+use Rattle.trees.specs.Trees.{Tree}
+use Rattle.trees.specs.Traverse.{comprs}
+use Rattle.scopes.specs.Scopes.{Scope}
+use Rattle.analysis.specs.States.{State}
+use Rattle.analysis.specs.Using.{gatherUsedVars}
+use Rattle.analysis.specs.Comprs.{Mods, processComprs, useExpr}
+use Rattle.analysis.specs.Exprs.{Pairing, assignPairing}
+use Rattle.analysis.specs.SomeIn.{processNonVar}
+use Rattle.sizes.specs.Sizes.{total}
+use Rattle.sizes.specs.Leaves.{bracketVars}
+use Rattle.sizes.specs.Exprs.{pairCost, adds-assign-pairing}
+use Rattle.sizes.specs.Adds.{adds-then, adds-below, step-if, turn-fold}
+use Rattle.sizes.specs.Comprs.{KeepsFit, adds-process-comprs, adds-use-expr}
+use Rattle.sizes.specs.Using.{adds-gather-used-vars}
+use Rattle.sizes.specs.SomeIn.{adds-process-non-var}
+use Rattle.sizes.specs.Queries.{analyze-fits}
+use Rattle.gather.specs.Sheets.{sheetAt}
+use Rattle.frame.specs.Frames.{guarded}
+use Rattle.laws.specs.Guards.{guarded-stays, turn-stays, comprs-stay, pairings-stay, non-vars-stay}
+use Rattle.laws.specs.Same.{same-trans}
+use Rattle.laws.specs.Keeps.{keeps-guarded, keeps-gather-used-vars}
+use Rattle.laws.specs.KeepsNested.{keeps-process-comprs, keeps-use-expr, keeps-assign-pairings, keeps-process-non-vars}
+use Rattle.analyzer.specs.Sites.{nestedBy}
+use Rattle.analyzer.specs.Moves.{Steady}
+
+module _ (t : List ℕ) (levels : ℕ) where
+  pub fits : KeepsFit (sheetAt t) (nestedBy t levels)
+  fits = analyze-fits levels (sheetAt t)
+
+  -- Two steps.
+  pub steady-then : (m n : ℕ) (f g : State → State) → Steady t m f → Steady t n g → Steady t (m + n) (λ s. g (f s))
+  steady-then m n f g a b = record {
+    below = a .below + b .below;
+    adds = λ s. adds-then (sheetAt t) (adds-below (sheetAt t) (a .below + b .below) (a .adds s) (omega arith))
+        (adds-below (sheetAt t) (a .below + b .below) (b .adds (f s)) (omega arith));
+    keeps = λ s. same-trans (a .keeps s) (b .keeps (f s));
+    stays = λ s h. ap g (a .stays s h) ∙ b .stays s h;
+  }
+
+  pub steady-gather : (i : ℕ) (extras : List ℕ) (e : Tree) → Steady t (bracketVars e) (guarded (gatherUsedVars (sheetAt t) i extras e))
+  steady-gather i extras e = record {
+    below = suc i;
+    adds = λ s. step-if (sheetAt t) (gatherUsedVars (sheetAt t) i extras e) (adds-gather-used-vars (sheetAt t) i extras e) (s .run .fault) s;
+    keeps = keeps-guarded (gatherUsedVars (sheetAt t) i extras e) (keeps-gather-used-vars (sheetAt t) i extras e);
+    stays = λ s h. guarded-stays s h (gatherUsedVars (sheetAt t) i extras e);
+  }
+
+  module _ (parents : List Scope) where
+    pub steady-comprs : (cs : List Tree) → Steady t 0 (processComprs (sheetAt t) (nestedBy t levels) parents cs)
+    steady-comprs cs = record {
+      below = 0;
+      adds = adds-process-comprs (sheetAt t) (nestedBy t levels) parents fits cs;
+      keeps = keeps-process-comprs (sheetAt t) (nestedBy t levels) parents cs;
+      stays = λ s h. comprs-stay (sheetAt t) (nestedBy t levels) parents s h cs;
+    }
+
+    pub steady-use : (i : ℕ) (extras : List ℕ) (m : Mods) (e : Tree)
+        → Steady t (bracketVars e) (useExpr (sheetAt t) (nestedBy t levels) parents i extras m e)
+    unfolding useExpr
+    steady-use i extras m e = record {
+      below = suc i;
+      adds = adds-use-expr (sheetAt t) (nestedBy t levels) parents fits i extras m e;
+      keeps = keeps-use-expr (sheetAt t) (nestedBy t levels) parents i extras m e;
+      stays = λ s h. turn-stays s h
+          (gatherUsedVars (sheetAt t) i extras e ∷ processComprs (sheetAt t) (nestedBy t levels) parents (comprs e ++ m .comprs) ∷ []);
+    }
+
+    pub steady-pairs : (i : ℕ) (m : Mods) (check : Bool) (ps : List Pairing)
+        → Steady t (total pairCost ps) (λ s. foldl (assignPairing (sheetAt t) (nestedBy t levels) parents i m check) s ps)
+    steady-pairs i m check ps = record {
+      below = suc i;
+      adds = turn-fold (sheetAt t) pairCost (assignPairing (sheetAt t) (nestedBy t levels) parents i m check)
+          (adds-assign-pairing (sheetAt t) (nestedBy t levels) parents fits i m check) ps;
+      keeps = keeps-assign-pairings (sheetAt t) (nestedBy t levels) parents i m check ps;
+      stays = λ s h. pairings-stay (sheetAt t) (nestedBy t levels) parents s h i m check ps;
+    }
+
+    pub steady-others : (i : ℕ) (m : Mods) (es : List Tree)
+        → Steady t (total bracketVars es) (λ s. foldl (processNonVar (sheetAt t) (nestedBy t levels) parents i m) s es)
+    steady-others i m es = record {
+      below = suc i;
+      adds = turn-fold (sheetAt t) bracketVars (processNonVar (sheetAt t) (nestedBy t levels) parents i m)
+          (adds-process-non-var (sheetAt t) (nestedBy t levels) parents fits i m) es;
+      keeps = keeps-process-non-vars (sheetAt t) (nestedBy t levels) parents i m es;
+      stays = λ s h. non-vars-stay (sheetAt t) (nestedBy t levels) parents s h i m es;
+    }

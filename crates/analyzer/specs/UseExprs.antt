@@ -1,0 +1,142 @@
+-- `use_expr`: the uses of an expression, then its comprehensions, then those of the modifiers.
+use mathlib.Core.Path.{_≡_, sym, ap, _∙_, subst}
+use mathlib.Core.Bool.{Bool, true, false}
+use mathlib.Core.List.{List, _++_}
+use mathlib.Core.Logic.{_⊎_, inl, inr}
+use Prim.Native.Nat.{ℕ, _≤_}
+use native.Mathlib.Omega.{arith}
+use lib.ListN.{length}
+use Rattle.basics.specs.Truth.{bool-cases}
+use Rattle.names.specs.declared.Names.{Names}
+use Rattle.trees.specs.Trees.{Tree}
+use Rattle.trees.specs.Traverse.{comprs}
+use Rattle.scopes.specs.Scopes.{Scope}
+use Rattle.uses.specs.Uses.{usedVars}
+use Rattle.analysis.specs.States.{sound, State}
+use Rattle.analysis.specs.Using.{gatherUsedVars}
+use Rattle.analysis.specs.Comprs.{Mods, processComprs, useExpr, allUsed}
+use Rattle.sizes.specs.Leaves.{bracketVars}
+use Rattle.gather.specs.Sheets.{sheetAt}
+use Rattle.gather.specs.Exprs.{exprBy}
+use Rattle.used.specs.Own.{Holds}
+use Rattle.using.specs.declared.Using.{Using}
+use Rattle.using.specs.Defined.{Listed}
+use Rattle.using.specs.UsesVars.{UsesVars}
+use Rattle.literals.specs.declared.context.Context.{Context}
+use Rattle.literals.specs.Contexts.{Stands}
+use Rattle.frame.specs.declared.Progress.{Progress}
+use Rattle.frame.specs.Faults.{isSound, meaning}
+use Rattle.frame.specs.Steps.{sound-is, not-sound}
+use Rattle.frame.specs.Frames.{guarded, Agree, Ready}
+use Rattle.laws.specs.Guards.{fault-cases, guarded-sound, guarded-stays, comprs-stay, comprs-sound}
+use Rattle.laws.specs.Same.{same-used}
+use Rattle.laws.specs.KeepsNested.{keeps-use-expr}
+use Rattle.analyzer.specs.Sites.{nestedBy, Around, RunsIn}
+use Rattle.analyzer.specs.Moves.{at-ready, at-rows, inside-next, runs-in, runs-in-then, runs-in-as}
+use Rattle.analyzer.specs.Steadies.{steady-gather}
+use Rattle.analyzer.specs.Asks.{AsksComprs, AsksExpr}
+use Rattle.analyzer.specs.Does.{DoesComprs, DoesUse}
+use Rattle.analyzer.specs.ComprWalk.{does-then, asks-next}
+use Rattle.analyzer.specs.AllUsed.{AllUsed}
+
+module _ (t : List ℕ) (levels : ℕ) (i : ℕ) (l : List ℕ) (e : Tree) where
+  abbrev gather : State → State
+  gather = guarded (gatherUsedVars (sheetAt t) i l e)
+
+  -- The comprehensions are not looked at after a fault: no test is due between the two.
+  use-is : (parents : List Scope) (m : Mods) (s : State)
+      → processComprs (sheetAt t) (nestedBy t levels) parents (comprs e ++ m .comprs) (gather s)
+      ≡ useExpr (sheetAt t) (nestedBy t levels) parents i l m e s
+  unfolding useExpr
+  use-is parents m s = sym (go (fault-cases (gather s .run .fault)))
+    where
+      next : State → State
+      next = processComprs (sheetAt t) (nestedBy t levels) parents (comprs e ++ m .comprs)
+
+      go : (gather s .run .fault ≡ sound) ⊎ (gather s .run .fault ≡ sound → ⊥) → guarded next (gather s) ≡ next (gather s)
+      go (inl z) = guarded-sound next (gather s) z
+      go (inr n) =
+          guarded-stays (gather s) n next
+          ∙ sym (comprs-stay (sheetAt t) (nestedBy t levels) parents (gather s) n (comprs e ++ m .comprs))
+
+module _ (t inner : List ℕ) (extras : Names) (row : ℕ) (rest : Bool) (x : Context) (p : Progress) (firsts work : List ℕ) where
+  abbrev expr : Tree
+  expr = exprBy t rest row
+
+  module _ (h : AsksExpr t inner row 0 x p firsts work (bracketVars expr)) (listed : Listed extras) where
+    pub use-ready : Ready t p firsts work (bracketVars expr)
+    use-ready = at-ready t (h .inside .spans) p firsts work (bracketVars expr) (h .inside .at)
+
+    pub use-room : 4736 ≤ length work
+    use-room = omega (arith, at-rows t (h .inside .spans) p firsts work (bracketVars expr) (h .inside .at))
+
+    module _ (u : Using) (f₁ w₁ : List ℕ) (uses : UsesVars t extras (x .statement) row rest p firsts work u f₁ w₁) where
+      -- Its comprehensions.
+      abbrev pub own-asks : AsksComprs t inner row (u .progress) f₁ w₁
+      own-asks = record {
+        inside = inside-next t inner p (u .progress) firsts f₁ work w₁ (bracketVars expr) (bracketVars expr) 0
+            (λ parents. gather t (x .levels) (x .statement) (listed .list) expr) (λ parents. steady-gather t (x .levels) (x .statement) (listed .list) expr) (omega arith)
+            (runs-in t inner (gather t (x .levels) (x .statement) (listed .list) expr) p (u .progress) firsts f₁ work w₁ (uses .runs (listed .list) (listed .holds)))
+            (h .inside);
+        lies = h .first-lies;
+      }
+
+      -- Those of the modifiers.
+      pub mods-asks : (s₂ : Progress) (f₂ w₂ : List ℕ) → DoesComprs t inner (comprs expr) (x .levels) (u .progress) f₁ w₁ s₂ f₂ w₂
+          → AsksComprs t inner (x .mods) s₂ f₂ w₂
+      mods-asks s₂ f₂ w₂ d = asks-next t inner (x .levels) row (comprs expr) (u .progress) s₂ f₁ f₂ w₁ w₂ own-asks d (x .mods) (h .mods-lie)
+
+  module _ (u : Using) (f₁ w₁ : List ℕ) (uses : UsesVars t extras (x .statement) row rest p firsts work u f₁ w₁)
+      (s₂ : Progress) (f₂ w₂ : List ℕ) (d₂ : DoesComprs t inner (comprs expr) (x .levels) (u .progress) f₁ w₁ s₂ f₂ w₂)
+      (s₃ : Progress) (f₃ w₃ : List ℕ) (d₃ : DoesComprs t inner (comprs (exprBy t true (x .mods))) (x .levels) s₂ f₂ w₂ s₃ f₃ w₃)
+      (names : Names) (all : AllUsed t (s₃ .scope) (u .names) expr x w₃ names) where
+    module _ (m : Mods) (st : Stands t x m) (l : List ℕ) (hl : Holds extras l) where
+      abbrev whole-use : List Scope → State → State
+      whole-use parents = useExpr (sheetAt t) (nestedBy t (x .levels)) parents (x .statement) l m expr
+
+      comprs-done : DoesComprs t inner (comprs expr ++ m .comprs) (x .levels) (u .progress) f₁ w₁ s₃ f₃ w₃
+      comprs-done =
+          subst (λ (cs : List Tree). DoesComprs t inner (comprs expr ++ cs) (x .levels) (u .progress) f₁ w₁ s₃ f₃ w₃) (sym (st .comprs))
+          (does-then t inner (x .levels) (comprs expr) (comprs (exprBy t true (x .mods))) (u .progress) s₂ s₃ f₁ f₂ f₃ w₁ w₂ w₃ d₂ d₃)
+
+      use-runs : RunsIn t inner whole-use p firsts work s₃ f₃ w₃
+      use-runs =
+          let first = gather t (x .levels) (x .statement) l expr in
+          let then : List Scope → State → State = λ parents. processComprs (sheetAt t) (nestedBy t (x .levels)) parents (comprs expr ++ m .comprs) in
+          runs-in-as t inner (λ parents s. then parents (first s)) whole-use p s₃ firsts f₃ work w₃
+          (λ parents s. use-is t (x .levels) (x .statement) l expr parents m s)
+          (runs-in-then t inner (bracketVars expr) (λ parents. first) then p (u .progress) s₃ firsts f₁ f₃ work w₁ w₃
+          (λ parents. steady-gather t (x .levels) (x .statement) l expr)
+          (runs-in t inner first p (u .progress) firsts f₁ work w₁ (uses .runs l hl)) comprs-done)
+
+      module _ (fine : isSound (s₃ .fault) ≡ true) (parents : List Scope) (spans : List ℕ) (s : State) (o : Around t inner parents s)
+          (a : Agree t spans p firsts work s) where
+        end : Agree t spans s₃ f₃ w₃ (whole-use parents s)
+        end = use-runs .agrees parents spans s o a
+
+        clear : whole-use parents s .run .fault ≡ sound
+        clear = sym (end .fault) ∙ sound-is (s₃ .fault) fine
+
+        -- There was no fault before the comprehensions.
+        fine-before : isSound (u .progress .fault) ≡ true
+        fine-before =
+            let mid = gather t (x .levels) (x .statement) l expr s in
+            let whole : processComprs (sheetAt t) (nestedBy t (x .levels)) parents (comprs expr ++ m .comprs) mid .run .fault ≡ sound =
+            ap (λ (v : State). v .run .fault) (use-is t (x .levels) (x .statement) l expr parents m s) ∙ clear in
+            let none : mid .run .fault ≡ sound = comprs-sound (sheetAt t) (nestedBy t (x .levels)) parents mid (comprs expr ++ m .comprs) whole in
+            go (uses .runs l hl .agrees spans s a .fault ∙ none) (bool-cases (isSound (u .progress .fault)))
+          where
+            go : meaning (u .progress .fault) ≡ sound → (isSound (u .progress .fault) ≡ true) ⊎ (isSound (u .progress .fault) ≡ false)
+                → isSound (u .progress .fault) ≡ true
+            go e (inl b) = b
+            go e (inr b) = absurd (not-sound (u .progress .fault) b e)
+
+        use-names : Holds names (allUsed (sheetAt t) l m expr (whole-use parents s))
+        use-names =
+            let held = end .whole clear in
+            let own : Holds (u .names) (usedVars (sheetAt t) (s .scope) l expr) = uses .names l hl spans s a fine-before in
+            let same = same-used (keeps-use-expr (sheetAt t) (nestedBy t (x .levels)) parents (x .statement) l m expr s) (sheetAt t) l expr in
+            all m st l (whole-use parents s) (held .scope .sets) (held .table .stored) (subst (Holds (u .names)) (sym same) own)
+
+    pub does-use : DoesUse t inner extras expr x p firsts work (record { progress = s₃; names = names }) f₃ w₃
+    does-use = record { runs = use-runs; names = use-names }

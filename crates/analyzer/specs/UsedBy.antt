@@ -1,0 +1,62 @@
+-- All names that an expression uses: its own, those of the modifiers, and what the comprehensions of both use.
+use mathlib.Core.Path.{_≡_, refl, sym, ap, ap₂, _∙_, subst}
+use mathlib.Core.Bool.{Bool, true, false, _||_}
+use mathlib.Core.List.{List, _++_}
+use Prim.Native.Nat.{ℕ}
+use Rattle.basics.specs.Lists.{filter, elem}
+use Rattle.basics.specs.Members.{elem-append}
+use Rattle.names.specs.Sets.{Union}
+use Rattle.names.specs.declared.Names.{Names}
+use Rattle.trees.specs.Trees.{Tree}
+use Rattle.trees.specs.Traverse.{comprs}
+use Rattle.scopes.specs.Scopes.{owns}
+use Rattle.uses.specs.Uses.{usedVars}
+use Rattle.analysis.specs.States.{State}
+use Rattle.analysis.specs.Comprs.{comprInputs, comprsUse, allUsed}
+use Rattle.sizes.specs.Lists.{concatMap-append}
+use Rattle.gather.specs.declared.scope.Scope.{Scope}
+use Rattle.gather.specs.Sheets.{sheetAt}
+use Rattle.gather.specs.Exprs.{exprBy}
+use Rattle.used.specs.Own.{Holds}
+use Rattle.used.specs.Adds.{Adds, adds-then}
+use Rattle.comprs.specs.Used.{ComprsUsed}
+use Rattle.literals.specs.declared.context.Context.{Context}
+use Rattle.analyzer.specs.AllUsed.{AllUsed}
+
+-- Of two lists.
+pub use-both : (k l : List Tree) (s : State) → comprsUse (k ++ l) s ≡ (comprsUse k s ++ comprsUse l s)
+unfolding comprsUse
+use-both k l s = concatMap-append (λ e. filter (owns (s .scope)) (comprInputs s e)) k l
+
+-- A set that holds two lists, to which a third came.
+pub joined : (a b c r : Names) (k l n : List ℕ) → Holds a k → Holds b l → Union (a .words) (b .words) (c .words) → Adds c n r → Holds r (k ++ (l ++ n))
+joined a b c r k l n ha hb u g = record {
+  has = λ x.
+      elem-append x k (l ++ n) ∙ ap (λ (m : Bool). elem x k || m) (elem-append x l n)
+      ∙ turned (elem x k) (elem x l) (elem x n)
+      ∙ ap (λ (m : Bool). elem x n || m) (ap₂ _||_ (ha .has x) (hb .has x) ∙ sym (u .has x))
+      ∙ sym (g .has x);
+}
+  where
+    turned : (p q m : Bool) → (p || (q || m)) ≡ (m || (p || q))
+    turned true true true = refl
+    turned true true false = refl
+    turned true false true = refl
+    turned true false false = refl
+    turned false true true = refl
+    turned false true false = refl
+    turned false false true = refl
+    turned false false false = refl
+
+pub all-used : (t : List ℕ) (k : Scope) (names : Names) (row : ℕ) (rest : Bool) (x : Context) (work : List ℕ) (by own r : Names)
+    → Union (names .words) (x .names .words) (by .words) → ComprsUsed t k work row rest by own → ComprsUsed t k work (x .mods) true own r
+    → AllUsed t k names (exprBy t rest row) x work r
+unfolding allUsed
+all-used t k names row rest x work by own r union first second m st l s sets stored h =
+    let e = exprBy t rest row in
+    let of-mods = exprBy t true (x .mods) in
+    let adds = adds-then by own r (comprsUse (comprs e) s) (comprsUse (comprs of-mods) s) (first s sets stored) (second s sets stored) in
+    let whole = joined names (x .names) by r (usedVars (sheetAt t) (s .scope) l e) (m .usedVars) _ h (st .names) union adds in
+    let is : comprsUse (comprs e ++ m .comprs) s ≡ (comprsUse (comprs e) s ++ comprsUse (comprs of-mods) s) =
+    use-both (comprs e) (m .comprs) s ∙ ap (λ (cs : List Tree). comprsUse (comprs e) s ++ comprsUse cs s) (st .comprs) in
+    subst (λ (c : List ℕ). Holds r (usedVars (sheetAt t) (s .scope) l e ++ (m .usedVars ++ c))) (sym is) whole

@@ -1,0 +1,71 @@
+-- Lists, scopes and modifiers that the code's sets stand for: where a function asks for some, these are there.
+use mathlib.Core.Path.{_≡_, refl, sym, _∙_}
+use mathlib.Core.Bool.{Bool, true, false, cond, _||_}
+use mathlib.Core.List.{List, [], _∷_, map}
+use mathlib.Core.Option.{some}
+use Prim.Native.Nat.{ℕ}
+use lib.Dec.{eqb}
+use borrow.Author.Tests.{eqb-true, eq-eqb}
+use Rattle.basics.specs.Lists.{elem}
+use Rattle.basics.specs.Truth.{bool-ext}
+use Rattle.names.specs.Sets.{member, members}
+use Rattle.names.specs.Laws.{elem-members}
+use Rattle.names.specs.declared.Names.{Names}
+use Rattle.trees.specs.Lists.{isSome}
+use Rattle.trees.specs.Trees.{treeAt}
+use Rattle.trees.specs.Traverse.{comprs}
+use Rattle.scopes.specs.NameSets.{contains}
+use Rattle.scopes.specs.Scopes.{Span, Scope, spanIn}
+use Rattle.analysis.specs.Comprs.{Mods}
+use Rattle.gather.specs.declared.scope.Scope.{Scope as Kept}
+use Rattle.gather.specs.Agrees.{Sets}
+use Rattle.gather.specs.Sheets.{sheetAt}
+use Rattle.used.specs.Own.{Holds}
+use Rattle.literals.specs.declared.context.Context.{Context}
+use Rattle.literals.specs.Contexts.{Stands}
+
+-- A set holds its members.
+pub members-held : (k : Names) → Holds k (members (k .words))
+members-held k = record { has = elem-members (k .words) }
+
+-- Every context stands for some modifiers.
+abbrev pub someMods : List ℕ → Context → Mods
+someMods t x = record { usedVars = members (x .names .words); comprs = comprs (treeAt (sheetAt t) (x .mods)) }
+
+pub some-stand : (t : List ℕ) (x : Context) → Stands t x (someMods t x)
+some-stand t x = record { comprs = refl; names = members-held (x .names) }
+
+-- ---- scopes
+
+abbrev spanAt : ℕ → Span
+spanAt x = record { name = x; line = 0; col = 0 }
+
+eqb-sym : (a b : ℕ) → eqb a b ≡ eqb b a
+eqb-sym a b = bool-ext _ _ (λ p. eq-eqb b a (sym (eqb-true a b p))) (λ p. eq-eqb a b (sym (eqb-true b a p)))
+
+local-listed : (x : ℕ) (l : List ℕ) → isSome (spanIn (map spanAt l) x) ≡ elem x l
+local-listed x [] = refl
+local-listed x (y ∷ l) = rw (eqb-sym x y) (go (eqb y x) (local-listed x l))
+  where
+    go : (b : Bool) → isSome (spanIn (map spanAt l) x) ≡ elem x l
+        → isSome (cond b (some (spanAt y)) (spanIn (map spanAt l) x)) ≡ (b || elem x l)
+    go true ih = refl
+    go false ih = ih
+
+-- The scope with the sets of k, its locals at no place.
+abbrev pub scopeOf : Kept → Scope
+scopeOf k = record {
+  locals = map spanAt (members (k .locals .words));
+  unscoped = member (k .unscoped .words);
+  inputs = member (k .inputs .words);
+  usesInput = k .uses;
+}
+
+pub sets-of : (k : Kept) → Sets k (scopeOf k)
+unfolding contains
+sets-of k = record {
+  locals = λ x. local-listed x (members (k .locals .words)) ∙ elem-members (k .locals .words) x;
+  unscoped = λ x. refl;
+  inputs = λ x. refl;
+  flag = refl;
+}

@@ -1,0 +1,47 @@
+// One direction of an assignment, once what stands on the other side is used.
+
+use frame::Progress;
+use names::Names;
+use recording::assigned::assigned_in;
+use recording::checks::check_assigned;
+use recording::record::record_each;
+use using::Using;
+ghost use mathlib.Core.Bool.{false};
+ghost use Prim.Native.Nat.{_≤_, max};
+ghost use lib.ListN.{length, getD};
+ghost use Rattle.sizes.specs.Leaves.{patternVars};
+ghost use Rattle.gather.specs.Sheets.{Accepted};
+ghost use Rattle.gather.specs.Exprs.{exprBy};
+ghost use Rattle.frame.specs.Frames.{Ready};
+ghost use Rattle.analyzer.specs.OneWay.{Checked, Assigns};
+
+// The first uses of the target's names are looked at, if `check`; then each name that it assigns is defined from the names used, less
+// itself.
+pub fn assign(
+    tables: &[u16],
+    row: usize,
+    check: bool,
+    statement: usize,
+    u: Using,
+    firsts: &[u64],
+    work: &mut [u64],
+) -> Progress
+    requires { ⌜ Accepted (now tables) × (row ≤ getD (now tables) 2 0) × (128 ≤ length (now firsts)) × Ready (now tables) (u .progress) (now firsts) (now work) (max 1 (patternVars (exprBy (now tables) false row))) ⌝ }
+    ensures { λ r. ⌜ Assigns (now (tables .entry)) (exprBy (now (tables .entry)) false row) check statement u (now (firsts .entry)) (now (work .entry)) r (now (work .exit)) ⌝ }
+{
+    let names = u.names;
+    let s = checked(tables, row, check, u.progress, firsts);
+    let none = Names::empty();
+    let vars = assigned_in(tables, s.scope, row, false, none);
+    record_each(statement, vars, names, true, s, work)
+}
+
+fn checked(tables: &[u16], row: usize, check: bool, p: Progress, firsts: &[u64]) -> Progress
+    requires { ⌜ Accepted (now tables) × (row ≤ getD (now tables) 2 0) × (128 ≤ length (now firsts)) ⌝ }
+    ensures { λ r. ⌜ Checked (now (tables .entry)) row check p (now (firsts .entry)) r ⌝ }
+{
+    if check {
+        return check_assigned(tables, row, false, p, firsts);
+    }
+    p
+}

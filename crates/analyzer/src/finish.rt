@@ -1,0 +1,53 @@
+// The two ends of a query's analysis.
+
+use conclude::conclude;
+use frame::Fault;
+use frame::Progress;
+use gather::scope::Scope;
+ghost use mathlib.Core.Path.{_≡_};
+ghost use mathlib.Core.Bool.{true};
+ghost use Prim.Native.Nat.{_+_, _*_, _≤_};
+ghost use lib.ListN.{length, getD};
+ghost use Rattle.gather.specs.Sheets.{Accepted};
+ghost use Rattle.frame.specs.Faults.{isSound};
+ghost use Rattle.frame.specs.Table.{answersOf, Based};
+ghost use Rattle.analyzer.specs.Ends.{begin, OpenedFrom, Finished};
+
+// Nothing is recorded yet.
+pub fn begun(scope: Scope) -> Progress
+    ensures { λ r. ⌜ r ≡ begin scope ⌝ }
+{
+    Progress {
+        scope,
+        count: 0,
+        fault: Fault::Sound,
+    }
+}
+
+// Outputs see all names of the query, whatever their line: its locals count as unscoped.
+pub fn opened(p: Progress) -> Progress
+    ensures { λ r. ⌜ OpenedFrom p r ⌝ }
+{
+    let scope = p.scope;
+    let open = scope.opened();
+    p.with_scope(open)
+}
+
+// The query is scheduled and stored, unless there is a fault: `scope` with the inputs that rose to p.
+pub fn finish(
+    tables: &[u16],
+    query: usize,
+    scope: Scope,
+    p: Progress,
+    spans: &[u64],
+    work: &mut [u64],
+) -> Fault
+    requires { ⌜ Accepted (now tables) × (1 ≤ query) × (query ≤ getD (now tables) 4 0) × (128 ≤ length (now spans)) × (4 * p .count + 4736 ≤ length (now work)) × (isSound (p .fault) ≡ true → Based (now tables) (answersOf (now work))) ⌝ }
+    ensures { λ r. ⌜ Finished (now (tables .entry)) (now (work .entry)) query scope p (now (spans .entry)) r (now (work .exit)) ⌝ }
+{
+    if p.is_sound() {
+        let whole = scope.with_inputs_of(p.scope);
+        conclude(tables, query, whole, spans, p.count, work);
+    }
+    p.fault
+}

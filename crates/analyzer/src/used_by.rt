@@ -1,0 +1,98 @@
+// All names that an expression uses, once its comprehensions and those of the modifiers are analysed.
+
+use comprs::walk::comprs_used;
+use frame::Progress;
+use gather::scope::Scope;
+use literals::context::Context;
+use literals::some::non_var;
+use literals::used_names::used_names;
+use names::Names;
+use trees::row_at;
+use used::assigned::pattern_of;
+ghost use Prim.Native.Nat.{_≤_};
+ghost use lib.ListN.{length, getD};
+ghost use Rattle.gather.specs.Sheets.{Accepted};
+ghost use Rattle.gather.specs.Exprs.{exprBy};
+ghost use Rattle.analyzer.specs.AllUsed.{AllUsed, OthersUsed, OtherUsed, LeavesUsed};
+
+// Beside the names that it uses by itself.
+pub fn all_used(
+    tables: &[u16],
+    p: Progress,
+    names: Names,
+    row: usize,
+    rest: bool,
+    context: Context,
+    work: &[u64],
+) -> Names
+    requires { ⌜ Accepted (now tables) × (row ≤ getD (now tables) 2 0) × (context .mods ≤ getD (now tables) 2 0) × (4736 ≤ length (now work)) ⌝ }
+    ensures { λ r. ⌜ AllUsed (now (tables .entry)) (p .scope) names (exprBy (now (tables .entry)) rest row) context (now (work .entry)) r ⌝ }
+{
+    let scope = p.scope;
+    let mods = context.mods;
+    let by = names.union(context.names);
+    let own = comprs_used(tables, scope, work, row, rest, by);
+    comprs_used(tables, scope, work, mods, true, own)
+}
+
+// A part of a some-in pattern that is no variable, or none.
+fn other_used(
+    tables: &[u16],
+    scope: Scope,
+    row: usize,
+    mods: usize,
+    work: &[u64],
+    names: Names,
+) -> Names
+    requires { ⌜ Accepted (now tables) × (row ≤ getD (now tables) 2 0) × (mods ≤ getD (now tables) 2 0) × (4736 ≤ length (now work)) ⌝ }
+    ensures { λ r. ⌜ OtherUsed (now (tables .entry)) scope row mods (now (work .entry)) names r ⌝ }
+{
+    if row == 0 {
+        return names;
+    }
+    let none = Names::empty();
+    let by = used_names(tables, scope, none, row, false, names);
+    let own = comprs_used(tables, scope, work, row, false, by);
+    comprs_used(tables, scope, work, mods, true, own)
+}
+
+// The parts of the pattern at a row, with the rest of its chain, that are no variables.
+fn leaves_used(
+    tables: &[u16],
+    p: Progress,
+    row: usize,
+    mods: usize,
+    work: &[u64],
+    names: Names,
+) -> Names
+    requires { ⌜ Accepted (now tables) × (row ≤ getD (now tables) 2 0) × (mods ≤ getD (now tables) 2 0) × (4736 ≤ length (now work)) ⌝ }
+    ensures { λ r. ⌜ LeavesUsed (now (tables .entry)) (p .scope) row mods (now (work .entry)) names r ⌝ }
+{
+    if row == 0 {
+        return names;
+    }
+    let w = row_at(tables, row);
+    let items = pattern_of(w);
+    let other = non_var(tables, p, row, w);
+    let mut s = other_used(tables, p.scope, other, mods, work, names);
+    s = leaves_used(tables, p, items, mods, work, s);
+    leaves_used(tables, p, w.next as usize, mods, work, s)
+}
+
+// What the parts of a some-in pattern use that are no variables.
+pub fn others_used(
+    tables: &[u16],
+    p: Progress,
+    key: usize,
+    value: usize,
+    context: Context,
+    work: &[u64],
+) -> Names
+    requires { ⌜ Accepted (now tables) × (key ≤ getD (now tables) 2 0) × (value ≤ getD (now tables) 2 0) × (context .mods ≤ getD (now tables) 2 0) × (4736 ≤ length (now work)) ⌝ }
+    ensures { λ r. ⌜ OthersUsed (now (tables .entry)) (p .scope) key value context (now (work .entry)) r ⌝ }
+{
+    let none = Names::empty();
+    let mods = context.mods;
+    let by = leaves_used(tables, p, key, mods, work, none);
+    leaves_used(tables, p, value, mods, work, by)
+}
