@@ -76,6 +76,35 @@ uint64_t nokchbem_schedule_records(const struct nokchbem_definition *records, si
 uint64_t nokchbem_read(const uint8_t *sheet, size_t sheet_len, uint16_t *tables, size_t tables_len,
                        uint64_t *work, size_t work_len);
 
+/* Analyses the queries of a sheet: which names each has, and in which order its statements can run.
+ *
+ * Returns 0 if they are analysed. `answer` then holds a text, and zeros behind it. The text has
+ * three sections, each a line of names, a line of decimal values for each row, and an empty line:
+ *
+ *     query placed input          placed is 1 if all statements were placed, 0 if not, 2 if the
+ *                                 query is never analysed; input is 1 if it uses `input`
+ *     query place index reached   the statements in order, each by its index in the query, from 0
+ *     query set name line col     set is 1 for locals, with their position, 2 for unscoped names,
+ *                                 3 for inputs
+ *
+ * Refuses, and zeros `answer`, with the first of these numbers that applies:
+ *
+ *     1 to 6  as nokchbem_read, with the line of the sheet
+ *     11      an undefined variable, with its line and column in the query
+ *     12      a variable used before its definition, with the line and column of the use
+ *     13      arrays whose lengths differ, with the line and column of the right-hand one
+ *     14      an index variable inside a some-in pattern
+ *     7       the text is longer than `answer`
+ *
+ * `tables` and `work` have at least 8,192 entries each, and are zeros afterwards, whatever is
+ * returned. Any input is taken, buffers of no length too.
+ *
+ * Each slice is a pointer to that many elements; the three that are written must not overlap
+ * anything. */
+uint64_t nokchbem_analyze(const uint8_t *sheet, size_t sheet_len, uint16_t *tables,
+                          size_t tables_len, uint64_t *work, size_t work_len, uint8_t *answer,
+                          size_t answer_len);
+
 #ifdef __cplusplus
 }
 #endif

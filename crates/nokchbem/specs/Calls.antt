@@ -9,6 +9,7 @@ use Rattle.definitions.specs.Rows.{rowsOf}
 use Rattle.sheet.specs.declared.Outcome.{Outcome}
 use Rattle.sheet.specs.Verdict as Verdict
 use Rattle.sheet.specs.Verdict.{verdict, leftTables}
+use Rattle.answers.specs.Call.{Left, left}
 
 -- `nokchbem_schedule`: the number of its outcome, and every element of both buffers, whatever stood in them before.
 pub record ScheduleCall (definitions : List ℕ) (statements room marks r : ℕ) (orderAfter reachedAfter : List ℕ) : Type 0 where
@@ -29,3 +30,14 @@ pub record ReadCall (sheet : List ℕ) (room long r : ℕ) (tablesAfter workAfte
   pub returned : r ≡ readNumber (verdict sheet room long)
   pub tabled : tablesAfter ≡ leftTables sheet room (verdict sheet room long)
   pub worked : workAfter ≡ replicate long 0
+
+-- What a call leaves, its number and position as one number: 0 where the sheet is answered.
+abbrev pub leftNumber : Left → ℕ
+leftNumber l = refusal (l .number) (l .line) (l .col)
+
+-- `nokchbem_analyze`: that number, and every element of the tables, of work and of the answer, whatever stood in them before.
+pub record AnalyzeCall (sheet : List ℕ) (room long most r : ℕ) (tablesAfter workAfter answerAfter : List ℕ) : Type 0 where
+  pub returned : r ≡ leftNumber (left sheet room long most)
+  pub tabled : tablesAfter ≡ left sheet room long most .tables
+  pub worked : workAfter ≡ left sheet room long most .work
+  pub answered : answerAfter ≡ left sheet room long most .answer

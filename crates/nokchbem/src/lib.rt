@@ -9,7 +9,7 @@ ghost use lib.ListN.{length};
 ghost use Rattle.schedule.specs.Call.{refusal};
 ghost use Rattle.definitions.specs.declared.Definition.{Definition};
 ghost use Rattle.definitions.specs.Copies.{CopyOf};
-ghost use Rattle.nokchbem.specs.Calls.{ScheduleCall, RecordsCall, ReadCall};
+ghost use Rattle.nokchbem.specs.Calls.{ScheduleCall, RecordsCall, ReadCall, AnalyzeCall};
 
 // A refusal and its position as one number.
 fn pack(number: u64, line: usize, col: usize) -> u64
@@ -78,4 +78,22 @@ pub extern "C" fn nokchbem_read(sheet: &[u8], tables: &mut [u16], work: &mut [u6
 {
     let outcome = sheet::read(sheet, tables, work);
     pack(sheet::number_of(outcome), sheet::line_of(outcome), 0)
+}
+
+// Analyses the queries of a sheet, and writes the text of the answer.
+//
+// `tables` and `work` as above; `answer` receives the text, and zeros behind it. Returns 0; or a refusal 1 to 6 and the first line of the
+// sheet at fault, a fault 11 to 14 and its line and column, or 7 where the text does not fit, as number x 2^32 + line x 2^16 + col, with
+// `answer` zeroed. `tables` and `work` are zeros afterwards in any case.
+#[no_mangle]
+pub extern "C" fn nokchbem_analyze(
+    sheet: &[u8],
+    tables: &mut [u16],
+    work: &mut [u64],
+    answer: &mut [u8],
+) -> u64
+    ensures { λ r. ⌜ AnalyzeCall (now (sheet .entry)) (length (now (tables .entry))) (length (now (work .entry))) (length (now (answer .entry))) r (now (tables .exit)) (now (work .exit)) (now (answer .exit)) ⌝ }
+{
+    let reply = call::analyze(sheet, tables, work, answer);
+    pack(reply.number as u64, reply.line as usize, reply.col as usize)
 }

@@ -1,0 +1,72 @@
+-- The words lent are all answers, and the place behind the text tells whether it fits.
+use mathlib.Core.Path.{sym, ap, subst}
+use Prim.Native.Nat.{_-_}
+use native.Mathlib.Omega.{arith}
+use lib.ListN.{length, length-drop}
+use borrow.Author.Needs.{needs}
+use Rattle.answer.specs.Sound.{Sound}
+use Rattle.call.specs.Answering.{lent-answers, fits, fits-none}
+use Rattle.call.proofs.answering.write_answer.Statement.{statement}
+use Rattle.call.proofs.answering.write_answer.Tie as tie
+
+sub-from : tie.Need-sub-from
+sub-from c = search needs
+
+mul-put-answer : tie.Need-mul-put-answer
+mul-put-answer c = search needs
+
+sub-put-answer : tie.Need-sub-put-answer
+sub-put-answer c = search needs
+
+part-put-answer-start : tie.Need-part-put-answer-start
+part-put-answer-start c = search needs
+
+part-put-answer-end : tie.Need-part-put-answer-end
+part-put-answer-end c = search needs
+
+put-answer-requires : tie.Need-put-answer-requires
+put-answer-requires c κs =
+    let start = c .before .before .before .before in
+    let w = start .args .work .now in (
+      omega (arith, start .pre .0, ap length (lent-answers w), length-drop (length w - 4736) w),
+      start .pre .1,
+      subst Sound (sym (lent-answers w)) (start .pre .2),
+    )
+
+clear-bytes-requires : tie.Need-clear-bytes-requires
+clear-bytes-requires c κs = search needs
+
+same-length : tie.Need-same-length
+same-length c = search needs
+
+returns : tie.Need-returns
+returns c =
+    let put = c .before .before .before .before .before .before .before in
+    let start = c .before .before .before .before .before .before .before .before .before .before .before .before in
+    λ schedules stored.
+    fits-none (start .args .work .now) _ _ (start .pre .3) _ _ (put .put-answer .ensures) schedules stored (c .before .before .before .before .if1 .taken) _ (c .before .before .clear-bytes .ensures)
+
+same-length-2 : tie.Need-same-length-2
+same-length-2 c = search needs
+
+returns-2 : tie.Need-returns-2
+returns-2 c =
+    let put = c .before .before .before in
+    let start = c .before .before .before .before .before .before .before .before in
+    λ schedules stored. fits (start .args .work .now) _ _ (start .pre .3) _ _ (put .put-answer .ensures) schedules stored (c .if1 .left)
+
+pub write-answer-spec : {M : Type 1} → statement M
+write-answer-spec =
+    tie.close
+    (tie.spec
+    sub-from
+    mul-put-answer
+    sub-put-answer
+    part-put-answer-start
+    part-put-answer-end
+    put-answer-requires
+    clear-bytes-requires
+    same-length
+    returns
+    same-length-2
+    returns-2)

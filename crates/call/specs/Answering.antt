@@ -1,0 +1,107 @@
+-- Questions 7 and 8 as the code puts them: each way out, by what the analysis and the writer say.
+use mathlib.Core.Path.{_≡_, refl, sym, ap, subst, _∙_}
+use mathlib.Core.Bool.{true, false}
+use mathlib.Core.List.{List, [], _++_}
+use Prim.Native.Nat.{ℕ, _-_, _≤_, _<_}
+use native.Mathlib.Omega.{arith}
+use lib.ListN.{length, getD, take, drop, replicate, length-drop}
+use lib.Seq.{take-length}
+use Rattle.basics.specs.Truth.{not-both}
+use Rattle.writer.specs.Writes.{Wrote, Puts, starts, fits-whole, fits-not}
+use Rattle.records.specs.Layout.{firstAt}
+use Rattle.branches.specs.RowTrees.{rows-length}
+use Rattle.trees.specs.Sheet.{sheetOf}
+use Rattle.analysis.specs.States.{sound, Run, QuerySchedule}
+use Rattle.analysis.specs.States as spec
+use Rattle.analysis.specs.Queries.{analyzeQuerySnippet}
+use Rattle.answers.specs.Text.{answerText}
+use Rattle.answers.specs.Call.{fitting, finished, analysed}
+use Rattle.answer.specs.Stored.{Stored}
+use Rattle.answer.specs.Sound.{Sound, stored-sound}
+use Rattle.answer.specs.Sections.{PutsAnswer}
+use Rattle.gather.specs.Sheets.{sheetAt}
+use Rattle.frame.specs.declared.Fault.{Fault}
+use Rattle.frame.specs.declared.Fault.the-variants as code
+use Rattle.frame.specs.Faults.{isSound, meaning}
+use Rattle.frame.specs.Table.{answersOf}
+use Rattle.call.specs.declared.replies.Reply.{Reply}
+use Rattle.analyzer.specs.Analysed.{Analysed}
+use Rattle.call.specs.Replies.{faultReply, Replies, fault-replies, fits-replies, not-replies}
+
+-- ---- the lent words
+
+-- The words from the first answer on.
+abbrev pub lentAnswers : List ℕ → List ℕ
+lentAnswers w = take (length w - (length w - 4736)) (drop (length w - 4736) w)
+
+pub lent-answers : (w : List ℕ) → lentAnswers w ≡ answersOf w
+lent-answers w =
+    ap (λ (n : ℕ). take n (drop (length w - 4736) w)) (sym (length-drop (length w - 4736) w)) ∙ take-length (drop (length w - 4736) w)
+
+-- ---- question 8
+
+module _ (w : List ℕ) (n : ℕ) (b : List ℕ) (zeros : b ≡ replicate (length b) 0) (c : List ℕ) (r : ℕ) (put : PutsAnswer (lentAnswers w) n b 0 c r)
+    (schedules : List QuerySchedule) (stored : Stored (answersOf w) schedules) where
+  puts : Puts b 0 (answerText n schedules) c r
+  puts = put schedules (subst (λ (l : List ℕ). Stored l schedules) (sym (lent-answers w)) stored)
+
+  wrote : Wrote c (answerText n schedules) r
+  wrote = puts .1 [] (subst (λ (l : List ℕ). Wrote l [] 0) (sym zeros) (starts (length b)))
+
+  pub fits : r ≤ length c → Replies (length b) (fitting (length b) (answerText n schedules)) (record { number = 0; line = 0; col = 0 }) c
+  fits h =
+      let whole = fits-whole c (answerText n schedules) r wrote h in
+      let text = answerText n schedules in
+      let is : c ≡ text ++ replicate (length b - length text) 0 = whole .1 ∙ ap (λ (k : ℕ). text ++ replicate (k - length text) 0) (puts .0) in
+      subst (Replies (length b) (fitting (length b) text) (record { number = 0; line = 0; col = 0 })) (sym is)
+      (fits-replies (length b) text (omega (arith, whole .0, puts .0)))
+
+  pub fits-none : length c < r → (e : List ℕ) → e ≡ replicate (length c) 0
+      → Replies (length b) (fitting (length b) (answerText n schedules)) (record { number = 7; line = 0; col = 0 }) e
+  fits-none h e is =
+      let text = answerText n schedules in
+      let over = fits-not c text r wrote h in
+      subst (Replies (length b) (fitting (length b) text) (record { number = 7; line = 0; col = 0 }))
+      (sym (is ∙ ap (λ (k : ℕ). replicate k 0) (puts .0))) (not-replies (length b) text (omega (arith, puts .0)))
+
+-- ---- question 7
+
+meaning-sound : (f : Fault) → isSound f ≡ true → meaning f ≡ sound
+meaning-sound code.Sound h = refl
+meaning-sound (code.Undefined l c) h = absurd (not-both h refl)
+meaning-sound (code.UsedBefore l c) h = absurd (not-both h refl)
+meaning-sound (code.Lengths l c) h = absurd (not-both h refl)
+meaning-sound code.IndexVariable h = absurd (not-both h refl)
+
+module _ (t w : List ℕ) (f : Fault) (a : Analysed t w f) where
+  abbrev run : Run
+  run = analyzeQuerySnippet (sheetAt t)
+
+  pub faulty : isSound f ≡ false → (room : ℕ) (r : Reply) → r ≡ faultReply f → (b : List ℕ) → b ≡ replicate room 0
+      → Replies room (analysed (sheetAt t) room) r b
+  unfolding analysed
+  faulty h room r e b z =
+      let n = length (sheetAt t .queries) in
+      subst (λ (x : Reply). Replies room (finished n room run (run .fault)) x b) (sym e)
+      (subst (Replies room (finished n room run (run .fault)) (faultReply f)) (sym z)
+      (subst (λ (x : spec.Fault). Replies room (finished n room run x) (faultReply f) (replicate room 0)) (a .fault) (fault-replies n room run f h)))
+
+  module _ (h : isSound f ≡ true) where
+    ends : run .fault ≡ sound
+    ends = sym (a .fault) ∙ meaning-sound f h
+
+    pub answers-sound : Sound (answersOf w)
+    answers-sound = stored-sound (answersOf w) (run .schedules) (a .stored ends)
+
+    queries-count : length (sheetAt t .queries) ≡ getD t 4 0
+    unfolding sheetAt sheetOf
+    queries-count = rows-length (firstAt t) (getD t 4 0)
+
+    -- The writer says what it does for any schedules that are stored.
+    pub answering : (room : ℕ) (r : Reply) (b : List ℕ)
+        → ((schedules : List QuerySchedule) → Stored (answersOf w) schedules → Replies room (fitting room (answerText (getD t 4 0) schedules)) r b)
+        → Replies room (analysed (sheetAt t) room) r b
+    unfolding analysed
+    answering room r b k =
+        subst (λ (x : spec.Fault). Replies room (finished (length (sheetAt t .queries)) room run x) r b) (sym ends)
+        (subst (λ (n : ℕ). Replies room (fitting room (answerText n (run .schedules))) r b) (sym queries-count) (k (run .schedules) (a .stored ends)))

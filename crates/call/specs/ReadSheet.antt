@@ -1,0 +1,61 @@
+-- A sheet that is read stands in the tables, and the tables are accepted.
+use mathlib.Core.Path.{_≡_, sym, ap, subst, _∙_}
+use mathlib.Core.Bool.{true, false, _&&_}
+use mathlib.Core.List.{List, _++_}
+use mathlib.Core.Logic.{_⊎_, inl, inr}
+use Prim.Native.Nat.{ℕ, _≤_}
+use native.Mathlib.Omega.{arith}
+use lib.Dec.{leb}
+use lib.ListN.{length, drop, length-replicate}
+use lib.Seq.{sets-eq, length-sets}
+use borrow.Author.Tests.{leb-true}
+use Rattle.basics.specs.Truth.{bool-cases, and-left, and-right}
+use Rattle.tables.specs.Tables.{tables}
+use Rattle.tables.specs.TableLaws.{length-putSections}
+use Rattle.records.specs.declared.Counts.{Counts}
+use Rattle.records.specs.Layout.{Within}
+use Rattle.naming.specs.Lines.{firstLine}
+use Rattle.accepted.specs.Facts.{sheet-facts}
+use Rattle.sheet.specs.declared.Outcome.the-variants.{Read, NoRoom}
+use Rattle.sheet.specs.Verdict.{blank, headOf, countsOf, specialOf, readTables, verdict}
+use Rattle.sheet.specs.Passed.{verdict-read}
+use Rattle.answers.specs.Call.{sheetIn}
+use Rattle.gather.specs.Sheets.{countsAt, sheetAt, Accepted}
+
+module _ (s : List ℕ) where
+  rows-long : length (tables s blank) ≡ 8192
+  unfolding tables blank
+  rows-long = length-putSections _ _ blank ∙ length-replicate {A = ℕ} 8192 0
+
+  pub tables-long : length (readTables s) ≡ 8192
+  unfolding readTables
+  tables-long = length-sets (tables s blank) 0 (headOf (countsOf s) (specialOf s)) ∙ rows-long
+
+  headed : readTables s ≡ headOf (countsOf s) (specialOf s) ++ drop 8 (tables s blank)
+  unfolding readTables
+  headed = sets-eq (headOf (countsOf s) (specialOf s)) (tables s blank) 0 (omega (arith, rows-long))
+
+  counts-same : countsAt (readTables s) ≡ countsOf s
+  counts-same = ap countsAt headed
+
+  -- The head says what the sheet is: it is the one that the bytes give.
+  pub sheet-same : sheetAt (readTables s) ≡ sheetIn s
+  unfolding sheetAt sheetIn
+  sheet-same = rw headed
+
+  module _ (room work : ℕ) (h : verdict s room work ≡ Read) where
+    -- Question 1.
+    pub enough : (8192 ≤ room) × (8192 ≤ work)
+    unfolding verdict
+    enough = go (bool-cases (leb 8192 room && leb 8192 work))
+      where
+        go : ((leb 8192 room && leb 8192 work) ≡ true) ⊎ ((leb 8192 room && leb 8192 work) ≡ false) → (8192 ≤ room) × (8192 ≤ work)
+        go (inl e) = (leb-true 8192 room (and-left _ _ e), leb-true 8192 work (and-right (leb 8192 room) _ e))
+        go (inr e) = let f : NoRoom ≡ Read = rw e at h in let z : _≡_ {A = ℕ} 0 1 = cc in absurd (omega arith)
+
+    pub accepted : Accepted (readTables s)
+    accepted =
+        let p = verdict-read s room work h in
+        let few : Within (countsAt (readTables s)) = subst Within (sym counts-same) (p .few) in
+        let fine : firstLine (countsAt (readTables s)) (readTables s) ≡ 0 = ap (λ (c : Counts). firstLine c (readTables s)) counts-same ∙ p .fine in
+        record { room = omega (arith, tables-long); within = few; facts = sheet-facts _ _ few fine; fine = fine }

@@ -1,0 +1,56 @@
+// Questions 7 and 8, put to the tables of a sheet that passed the others.
+
+use crate::replies::Reply;
+use crate::replies::of_fault;
+use analyzer::snippet::analyze_sheet;
+use answer::layout::PLACES;
+use tables::STATEMENTS;
+ghost use mathlib.Core.Path.{_≡_};
+ghost use mathlib.Core.List.{List};
+ghost use Prim.Native.Nat.{ℕ, _≤_};
+ghost use lib.ListN.{length, getD, replicate};
+ghost use Rattle.analysis.specs.States.{QuerySchedule};
+ghost use Rattle.answers.specs.Text.{answerText};
+ghost use Rattle.answers.specs.Call.{fitting, analysed};
+ghost use Rattle.answer.specs.Stored.{Stored};
+ghost use Rattle.answer.specs.Sound.{Sound};
+ghost use Rattle.gather.specs.Sheets.{sheetAt, Accepted};
+ghost use Rattle.frame.specs.Table.{answersOf};
+ghost use Rattle.call.specs.Replies.{Replies};
+
+// The words of all answers.
+const WORDS: usize = PLACES + STATEMENTS;
+
+// Question 8, of the answers in the last words of work. The lent bytes are zeros.
+fn write_answer(work: &[u64], queries: usize, answer: &mut [u8]) -> Reply
+    requires { ⌜ (4736 ≤ length (now work)) × (queries ≤ 32) × Sound (answersOf (now work)) × (now answer ≡ replicate (length (now answer)) 0) ⌝ }
+    ensures { λ r. ⌜ ((schedules : List QuerySchedule) → Stored (answersOf (now (work .entry))) schedules → Replies (length (now (answer .entry))) (fitting (length (now (answer .entry))) (answerText queries schedules)) r (now (answer .exit))) ⌝ }
+{
+    let from = work.len() - WORDS;
+    let end = answer::put_answer(&work[from..], queries, answer, 0);
+    if answer.len() < end {
+        buffers::clear_bytes(answer);
+        return Reply {
+            number: 7,
+            line: 0,
+            col: 0,
+        };
+    }
+    Reply {
+        number: 0,
+        line: 0,
+        col: 0,
+    }
+}
+
+// Work and the lent bytes are zeros.
+pub fn answer_sheet(tables: &[u16], work: &mut [u64], answer: &mut [u8]) -> Reply
+    requires { ⌜ Accepted (now tables) × (8192 ≤ length (now work)) × ((i : ℕ) → getD (now work) i 0 ≡ 0) × (now answer ≡ replicate (length (now answer)) 0) ⌝ }
+    ensures { λ r. ⌜ Replies (length (now (answer .entry))) (analysed (sheetAt (now (tables .entry))) (length (now (answer .entry)))) r (now (answer .exit)) ⌝ }
+{
+    let fault = analyze_sheet(tables, work);
+    if !fault.is_sound() {
+        return of_fault(fault);
+    }
+    write_answer(work, tables[4] as usize, answer)
+}
