@@ -1,6 +1,7 @@
 //! The exported reader beside the plain one: a short run of each part, and its examples.
 
-use differential::readers::{parts, Difference, Tally, ENOUGH};
+use differential::comparing::{Difference, Tally, ENOUGH};
+use differential::readers::parts;
 use nokchbem::Refusal;
 use sheets::edges;
 

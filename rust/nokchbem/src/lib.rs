@@ -75,6 +75,17 @@ extern "C" {
         work: *mut u64,
         work_len: usize,
     ) -> u64;
+
+    fn nokchbem_analyze(
+        sheet: *const u8,
+        sheet_len: usize,
+        tables: *mut u16,
+        tables_len: usize,
+        work: *mut u64,
+        work_len: usize,
+        answer: *mut u8,
+        answer_len: usize,
+    ) -> u64;
 }
 
 /// Puts statements into an order in which every name has a value when it is read.
@@ -137,7 +148,7 @@ fn placed(result: u64) -> Result<bool, Refusal> {
     }
 }
 
-/// How many entries [`read`] wants at least, in the tables and in work.
+/// How many entries [`read`] and [`analyze`] want at least, in the tables and in work.
 pub const TABLES_LENGTH: usize = 8_192;
 pub const WORK_LENGTH: usize = 8_192;
 
@@ -166,6 +177,63 @@ pub fn read(sheet: &[u8], tables: &mut [u16], work: &mut [u64]) -> Result<(), Re
     };
     match result {
         0 => Ok(()),
+        packed => Err(Refusal::unpack(packed)),
+    }
+}
+
+/// Analyses the queries of a sheet: which names each has, and in which order its statements can run.
+///
+/// `answer` receives a text, and zeros behind it; answers how long the text is. It has three
+/// sections, each a line of names, a line of decimal values for each row, and an empty line:
+/// `query placed input`, `query place index reached` and `query set name line col`.
+///
+/// Refuses with the first of these numbers that applies: 1 to 6 as [`read`] does, with the line of
+/// the sheet; 11, an undefined variable; 12, a variable used before its definition; 13, arrays whose
+/// lengths differ; 14, an index variable inside a some-in pattern; 7, the text is longer than
+/// `answer`. With 11 to 13 the position is that of the variable, the use or the right-hand array in
+/// the query. A refusal leaves zeros in `answer`; `tables` and `work` are zeros afterwards in any
+/// case.
+///
+/// ```
+/// // `y = x` above `x = 1`.
+/// let sheet = b"name\nx\ny\n\narity first second third\n\n\
+///     kind name line col first second third next\n\
+///     20 0 1 1 2 3 0 0\n6 2 1 1 0 0 0 0\n6 1 1 5 0 0 0 0\n\
+///     20 0 2 1 5 6 0 0\n6 1 2 1 0 0 0 0\n3 0 2 5 0 0 0 0\n\n\
+///     form first second third query with next\n3 1 0 0 0 0 2\n3 4 0 0 0 0 0\n\n\
+///     statement\n1\n\n";
+/// let mut tables = vec![0; nokchbem::TABLES_LENGTH];
+/// let mut work = vec![0; nokchbem::WORK_LENGTH];
+/// let mut answer = [0; 200];
+/// let length = nokchbem::analyze(sheet, &mut tables, &mut work, &mut answer)?;
+/// let text = b"query placed input\n1 1 0\n\n\
+///     query place index reached\n1 0 1 1\n1 1 0 1\n\n\
+///     query set name line col\n1 2 1 0 0\n1 2 2 0 0\n\n";
+/// assert_eq!(&answer[..length], text);
+/// # Ok::<(), nokchbem::Refusal>(())
+/// ```
+pub fn analyze(
+    sheet: &[u8],
+    tables: &mut [u16],
+    work: &mut [u64],
+    answer: &mut [u8],
+) -> Result<usize, Refusal> {
+    // SAFETY: each pointer and length are one slice's, and the three written ones are exclusive.
+    let result = unsafe {
+        nokchbem_analyze(
+            sheet.as_ptr(),
+            sheet.len(),
+            tables.as_mut_ptr(),
+            tables.len(),
+            work.as_mut_ptr(),
+            work.len(),
+            answer.as_mut_ptr(),
+            answer.len(),
+        )
+    };
+    match result {
+        // No byte of the text is 0.
+        0 => Ok(answer.iter().position(|&b| b == 0).unwrap_or(answer.len())),
         packed => Err(Refusal::unpack(packed)),
     }
 }

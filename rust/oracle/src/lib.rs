@@ -135,6 +135,42 @@ impl Prepared {
     }
 }
 
+/// A sheet as the original's own tree, so that the analysis alone can be timed.
+pub struct Built {
+    #[cfg(original)]
+    built: run::Built,
+}
+
+impl Built {
+    pub fn new(sheet: &Sheet) -> Result<Built, NotAtHand> {
+        #[cfg(original)]
+        return Ok(Built {
+            built: run::Built::new(sheet),
+        });
+        #[cfg(not(original))]
+        {
+            let _ = sheet;
+            Err(NotAtHand)
+        }
+    }
+
+    /// Makes the sheet's built-ins those of this thread. To be called before [`Built::analyze`],
+    /// and again after another sheet's.
+    pub fn supply_builtins(&self) {
+        #[cfg(original)]
+        self.built.supply_builtins();
+    }
+
+    /// Calls `analyze_query_snippet`; the added lines record nothing, and the call is never given
+    /// up. Is there an answer? Call it on a deep stack.
+    pub fn analyze(&self) -> bool {
+        #[cfg(original)]
+        return self.built.analyze_only();
+        #[cfg(not(original))]
+        false
+    }
+}
+
 /// Runs `work` on a thread whose stack holds the deepest sheets. The original recurses once for
 /// each level of an expression, and a sheet's expression may have 511.
 pub fn on_deep_stack<T: Send>(work: impl FnOnce() -> T + Send) -> T {

@@ -26,8 +26,6 @@ pub struct Analysis {
 
 #[derive(Default)]
 struct Log {
-    entries: u64,
-    limit: u64,
     /// Definitions and placements of queries whose analysis is not finished.
     definitions: Vec<(u32, usize, Vec<Recorded>)>,
     placed: Vec<u16>,
@@ -37,6 +35,10 @@ struct Log {
 
 thread_local! {
     static LOG: RefCell<Log> = RefCell::default();
+    /// Entries of `traverse`, and how many are allowed. These are counted while the original is
+    /// timed too, so they cost as little as can be.
+    static ENTRIES: Cell<u64> = const { Cell::new(0) };
+    static LIMIT: Cell<u64> = const { Cell::new(0) };
     /// Off while the original is timed: then only entries of `traverse` are counted.
     static RECORDING: Cell<bool> = const { Cell::new(true) };
 }
@@ -44,13 +46,12 @@ thread_local! {
 pub const TOO_LONG: &str = "traverse was entered too often";
 
 pub fn enter_traverse() -> anyhow::Result<()> {
-    LOG.with_borrow_mut(|log| {
-        log.entries += 1;
-        if log.entries > log.limit {
-            anyhow::bail!(TOO_LONG)
-        }
-        Ok(())
-    })
+    let entries = ENTRIES.get() + 1;
+    ENTRIES.set(entries);
+    if entries > LIMIT.get() {
+        anyhow::bail!(TOO_LONG)
+    }
+    Ok(())
 }
 
 pub fn record_definitions(qidx: u32, infos: &[StmtInfo<SourceStr>]) {
@@ -114,16 +115,18 @@ pub fn set_recording(on: bool) {
 
 /// Forgets everything and allows `limit` entries of `traverse`.
 pub fn restart(limit: u64) {
-    LOG.with_borrow_mut(|log| {
-        *log = Log {
-            limit,
-            ..Log::default()
-        }
-    });
+    allow(limit);
+    LOG.set(Log::default());
+}
+
+/// Starts to count entries of `traverse` anew.
+pub fn allow(limit: u64) {
+    ENTRIES.set(0);
+    LIMIT.set(limit);
 }
 
 pub fn entries() -> u64 {
-    LOG.with_borrow(|log| log.entries)
+    ENTRIES.get()
 }
 
 pub fn last_placed() -> Vec<u16> {

@@ -1,5 +1,6 @@
 //! Calls the original and reads its answer.
 
+use crate::ast::{Query, Ref};
 use crate::builtins::BUILTINS;
 use crate::from_rows::Rows;
 use crate::lexer::SourceStr;
@@ -13,7 +14,7 @@ use sheets::Sheet;
 use std::collections::BTreeMap;
 
 pub fn analyze(sheet: &Sheet) -> Run {
-    supply_builtins(sheet);
+    BUILTINS.supply(arities(sheet));
     let rows = Rows::new(sheet);
     let outer = rows.query(1);
     probe::restart(TRAVERSE_LIMIT);
@@ -50,7 +51,8 @@ pub fn analyze(sheet: &Sheet) -> Run {
     }
 }
 
-fn supply_builtins(sheet: &Sheet) {
+/// The arity of each built-in, by its path.
+fn arities(sheet: &Sheet) -> BTreeMap<String, u8> {
     let path = |parts: &[u16]| {
         let names = parts.iter().filter(|&&p| p != 0);
         let texts: Vec<&str> = names
@@ -58,13 +60,36 @@ fn supply_builtins(sheet: &Sheet) {
             .collect();
         texts.join(".")
     };
-    BUILTINS.supply(
-        sheet
-            .builtins
-            .iter()
-            .map(|b| (path(&b.path), b.arity as u8))
-            .collect(),
-    );
+    let builtins = sheet.builtins.iter();
+    builtins.map(|b| (path(&b.path), b.arity as u8)).collect()
+}
+
+/// The outer query as the original has it, and the built-ins.
+pub struct Built {
+    outer: Ref<Query>,
+    arities: BTreeMap<String, u8>,
+}
+
+impl Built {
+    pub fn new(sheet: &Sheet) -> Built {
+        Built {
+            outer: Rows::new(sheet).query(1),
+            arities: arities(sheet),
+        }
+    }
+
+    pub fn supply_builtins(&self) {
+        BUILTINS.supply(self.arities.clone());
+    }
+
+    /// The analysis with nothing recorded; is there an answer?
+    pub fn analyze_only(&self) -> bool {
+        probe::set_recording(false);
+        probe::allow(u64::MAX);
+        let result = Analyzer::new().analyze_query_snippet(&[], &self.outer);
+        probe::set_recording(true);
+        result.is_ok()
+    }
 }
 
 /// The original's errors, known by their message, with the position that the message starts with.

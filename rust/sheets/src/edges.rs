@@ -3,6 +3,7 @@
 //! computed by [`crate::check`].
 
 mod counts;
+mod deep;
 mod shapes;
 mod texts;
 
@@ -26,6 +27,7 @@ pub fn edges() -> Vec<Edge> {
     let mut edges = Vec::new();
     counts::add(&mut edges);
     shapes::add(&mut edges);
+    deep::add(&mut edges);
     texts::add(&mut edges);
     edges
 }

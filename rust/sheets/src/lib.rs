@@ -14,6 +14,7 @@ pub mod read;
 pub mod rng;
 pub mod sheet;
 pub mod shrink;
+pub mod small;
 pub mod tree;
 pub mod vectors;
 

@@ -6,7 +6,7 @@
 //! after the other, so that no branch is foreseen from the call before. The proved call zeroes its
 //! buffers and puts every question within its time.
 
-use differential::readers::ENOUGH;
+use differential::comparing::ENOUGH;
 use differential::timing::{best, geometric_mean};
 use sheets::sheet::{ExprRow, StatementRow};
 use sheets::{check, edges, generate, Kind, Sheet};

@@ -1,7 +1,7 @@
 //! What the proved reader has to answer and to leave in the tables, from what the plain reader
 //! says.
 
-use super::ENOUGH;
+use crate::comparing::{refusal, Call, Due, Lengths, Outcome};
 use nokchbem::Refusal;
 use reader::Rows;
 
@@ -9,21 +9,48 @@ use reader::Rows;
 /// row is.
 const AREAS: [(usize, usize); 4] = [(8, 4), (268, 8), (4_372, 7), (5_275, 1)];
 
+/// Behind the last row that there can be.
+const END: usize = 5_308;
+
+/// `nokchbem::read`, which is lent no answer.
+pub struct ReadCall;
+
+impl Call for ReadCall {
+    fn call(
+        sheet: &[u8],
+        tables: &mut [u16],
+        work: &mut [u64],
+        _: &mut [u8],
+    ) -> Result<(), Refusal> {
+        nokchbem::read(sheet, tables, work)
+    }
+
+    fn due(sheet: &[u8], lengths: Lengths) -> Due {
+        match rows(sheet, lengths) {
+            Err(refusal) => Due::refused(refusal),
+            Ok(rows) => Due {
+                tables: tables(&rows),
+                ..Due::passed(Outcome::Passed)
+            },
+        }
+    }
+
+    fn well_formed(answer: &[u8]) -> bool {
+        answer.is_empty()
+    }
+}
+
 /// Question 1 comes first; the others are the plain reader's.
-pub fn result(sheet: &[u8], tables: usize, work: usize) -> Result<Rows, Refusal> {
-    let refusal = |number, line: usize| Refusal {
-        number,
-        line: u16::try_from(line).expect("a sheet has fewer lines"),
-        col: 0,
-    };
-    if tables < ENOUGH || work < ENOUGH {
+pub fn rows(sheet: &[u8], lengths: Lengths) -> Result<Rows, Refusal> {
+    if !lengths.enough() {
         return Err(refusal(1, 0));
     }
     reader::read(sheet).map_err(|fault| refusal(fault.number, fault.line))
 }
 
-/// Puts the head and the rows into tables of zeros.
-pub fn fill(tables: &mut [u16], rows: &Rows) {
+/// The head and the rows.
+fn tables(rows: &Rows) -> Vec<u16> {
+    let mut tables = vec![0; END];
     let row_of = |name: &[u8]| rows.names.iter().position(|n| n == name).map(|at| at + 1);
     let special = [&b"_"[..], b"input", b"data"].map(|name| row_of(name).unwrap_or(0));
     let counts = rows.sections.each_ref().map(Vec::len);
@@ -37,4 +64,5 @@ pub fn fill(tables: &mut [u16], rows: &Rows) {
             tables[at..at + width].copy_from_slice(values);
         }
     }
+    tables
 }

@@ -1,10 +1,9 @@
 //! The sheets on which the readers are compared, a part a function.
 
-use super::smaller::smaller;
-use super::spread::spread;
-use super::{Difference, Lent, Tally, ENOUGH};
+use super::ReadCall;
+use crate::comparing::{self, smaller, Comparer, Difference, Lengths, Lent, Tally, ENOUGH};
 use sheets::rng::Rng;
-use sheets::{damage, edges, examples, generate};
+use sheets::{damage, examples, generate};
 
 /// A small sheet with what the trial queries lack: `some`, an `every`, a comprehension, a modifier.
 const NESTED: &str = "name\n_\ndata\ninput\nk\nv\nx\n
@@ -24,6 +23,14 @@ pub fn small_sheets() -> [Vec<u8>; 3] {
     [text(4), text(0), NESTED.into()]
 }
 
+/// The cases on all cores. A reader is lent no answer.
+fn spread(
+    count: u64,
+    case: impl Fn(&mut Comparer<ReadCall>, u64) -> Result<(), Difference> + Sync,
+) -> Result<Tally, Difference> {
+    comparing::spread(0, count, case)
+}
+
 /// Question 1: buffers of every length about the one asked for, with sheets of every sort.
 pub fn lengths() -> Result<Tally, Difference> {
     let mut sheets = small_sheets().to_vec();
@@ -32,9 +39,13 @@ pub fn lengths() -> Result<Tally, Difference> {
     let mut tally = Tally::default();
     for tables in lengths {
         for work in lengths {
-            let mut lent = Lent::new(tables, work);
+            let mut lent = Lent::<ReadCall>::new(Lengths {
+                tables,
+                work,
+                answer: 0,
+            });
             for sheet in &sheets {
-                tally.count(lent.compare(sheet).map_err(smaller)?);
+                tally.count(lent.compare(sheet).map_err(smaller::<ReadCall>)?);
             }
         }
     }
@@ -43,18 +54,7 @@ pub fn lengths() -> Result<Tally, Difference> {
 
 /// Every edge, and each that passes with so many different faults.
 pub fn edges(faults: u64) -> Result<Tally, Difference> {
-    let edges = edges::edges();
-    spread(edges.len() as u64, |comparer, number| {
-        let edge = &edges[number as usize];
-        comparer.compare(&edge.text)?;
-        if edge.expected.is_ok() {
-            let mut rng = Rng::new(number);
-            for _ in 0..faults {
-                comparer.compare(&damage::damage(&edge.text, &mut rng))?;
-            }
-        }
-        Ok(())
-    })
+    comparing::compare_edges::<ReadCall>(0, faults)
 }
 
 /// Every string of up to so many bytes.

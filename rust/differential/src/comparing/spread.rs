@@ -1,21 +1,22 @@
 //! Numbered cases on all cores.
 
-use super::{smaller::smaller, Comparer, Difference, Tally};
+use super::{smaller::smaller, Call, Comparer, Difference, Tally};
 use std::sync::atomic::{AtomicBool, AtomicU64, Ordering};
 use std::thread;
 
-/// Runs every case below `count`. A difference is that of the first case with one, made smaller,
-/// however many threads there are.
-pub fn spread(
+/// Runs every case below `count`, with answers of so many bytes. A difference is that of the first
+/// case with one, made smaller, however many threads there are.
+pub fn spread<C: Call>(
+    answer: usize,
     count: u64,
-    case: impl Fn(&mut Comparer, u64) -> Result<(), Difference> + Sync,
+    case: impl Fn(&mut Comparer<C>, u64) -> Result<(), Difference> + Sync,
 ) -> Result<Tally, Difference> {
     let threads = thread::available_parallelism().map_or(1, usize::from);
     // Whoever has taken some cases finishes them, so the first of all is among those found.
     let some = (count / (threads as u64 * 50)).clamp(1, 10_000);
     let (next, stop) = (AtomicU64::new(0), AtomicBool::new(false));
     let run = || {
-        let mut comparer = Comparer::default();
+        let mut comparer = Comparer::new(answer);
         while !stop.load(Ordering::Relaxed) {
             let first = next.fetch_add(some, Ordering::Relaxed);
             if first >= count {
@@ -31,7 +32,8 @@ pub fn spread(
         Ok(comparer.tally)
     };
     let ends: Vec<_> = thread::scope(|scope| {
-        let running: Vec<_> = (0..threads).map(|_| scope.spawn(run)).collect();
+        let deep = || oracle::on_deep_stack(run);
+        let running: Vec<_> = (0..threads).map(|_| scope.spawn(deep)).collect();
         let join = |thread: thread::ScopedJoinHandle<'_, _>| thread.join().expect("a whole run");
         running.into_iter().map(join).collect()
     });
@@ -45,6 +47,6 @@ pub fn spread(
     }
     match found.into_iter().min_by_key(|(number, _)| *number) {
         None => Ok(tally),
-        Some((_, first)) => Err(smaller(first)),
+        Some((_, first)) => Err(smaller::<C>(first)),
     }
 }

@@ -1,13 +1,12 @@
-//! A sheet on which the two readers differ.
+//! A sheet on which the two sides differ.
 
+use super::Lengths;
 use std::fmt;
 
 #[derive(Clone, Debug)]
 pub struct Difference {
     pub sheet: Vec<u8>,
-    /// How long the lent buffers were.
-    pub tables: usize,
-    pub work: usize,
+    pub lengths: Lengths,
     pub found: String,
 }
 
@@ -18,11 +17,7 @@ impl fmt::Display for Difference {
     fn fmt(&self, f: &mut fmt::Formatter<'_>) -> fmt::Result {
         let bytes = self.sheet.len();
         writeln!(f, "{}", self.found)?;
-        writeln!(
-            f,
-            "with tables of {} and work of {}, on this sheet of {bytes} bytes:",
-            self.tables, self.work
-        )?;
+        writeln!(f, "with {}, on this sheet of {bytes} bytes:", self.lengths)?;
         let shown = &self.sheet[..bytes.min(SHOWN)];
         for line in shown.split_inclusive(|&byte| byte == b'\n') {
             match line.strip_suffix(b"\n") {

@@ -1,6 +1,6 @@
-//! Makes a sheet on which the readers differ smaller.
+//! Makes a sheet on which the two sides differ smaller.
 
-use super::{Difference, Lent};
+use super::{Call, Difference, Lent};
 use sheets::{check, shrink};
 
 /// How many sheets are tried at most.
@@ -8,29 +8,31 @@ const MOST_CALLS: usize = 20_000;
 
 /// A smaller sheet with a difference, on buffers of the same lengths. Its difference may be
 /// another one.
-pub fn smaller(first: Difference) -> Difference {
-    let mut search = Search {
-        lent: Lent::new(first.tables, first.work),
-        least: first,
-        calls_left: MOST_CALLS,
-    };
-    // Rows of a valid sheet go by trees: a row alone can rarely be left out.
-    if let Ok(sheet) = check::check_text(&search.least.sheet) {
-        shrink::shrink(&sheet, |smaller| search.differs(smaller.text().as_bytes()));
-    }
-    search.without_lines();
-    search.without_bytes();
-    search.least
+pub fn smaller<C: Call>(first: Difference) -> Difference {
+    oracle::on_deep_stack(|| {
+        let mut search = Search::<C> {
+            lent: Lent::new(first.lengths),
+            least: first,
+            calls_left: MOST_CALLS,
+        };
+        // Rows of a valid sheet go by trees: a row alone can rarely be left out.
+        if let Ok(sheet) = check::check_text(&search.least.sheet) {
+            shrink::shrink(&sheet, |smaller| search.differs(smaller.text().as_bytes()));
+        }
+        search.without_lines();
+        search.without_bytes();
+        search.least
+    })
 }
 
-struct Search {
-    lent: Lent,
+struct Search<C> {
+    lent: Lent<C>,
     least: Difference,
     calls_left: usize,
 }
 
-impl Search {
-    /// Do the readers differ on this sheet too? The least one is kept.
+impl<C: Call> Search<C> {
+    /// Do the two differ on this sheet too? The least one is kept.
     fn differs(&mut self, sheet: &[u8]) -> bool {
         if self.calls_left == 0 {
             return false;

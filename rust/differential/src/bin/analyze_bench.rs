@@ -1,0 +1,219 @@
+//! `analyze_bench`: the time of the proved call, from the sheet's bytes to the answer's, beside the
+//! original's analysis alone, on its own tree, built beforehand.
+//!
+//! Each sheet is timed by itself, over many calls, the better of several runs counting; a class has
+//! the geometric mean of the sheets' ratios. *In turn* is the ratio of the times for all sheets one
+//! after the other, so that no branch is foreseen from the call before. Only sheets with an answer
+//! count. The proved call zeroes its buffers, reads, checks and writes within its time.
+//!
+//! Then the growth of both where the original's work multiplies: chains of brackets, and
+//! comprehensions under `with` of an array assignment, nested.
+
+use differential::analyses::parts::ANSWER;
+use differential::comparing::ENOUGH;
+use differential::timing::{best, geometric_mean};
+use oracle::{Built, NotAtHand, Outcome};
+use sheets::answer::Answer;
+use sheets::tree::{Expr, Literal, Node, Query, Snippet, Statement};
+use sheets::{check, edges, generate, Sheet};
+use std::hint::black_box;
+use std::process::ExitCode;
+use std::time::Instant;
+
+fn main() -> ExitCode {
+    match oracle::on_deep_stack(bench) {
+        Ok(()) => ExitCode::SUCCESS,
+        Err(error) => {
+            eprintln!("analyze_bench: {error}");
+            ExitCode::FAILURE
+        }
+    }
+}
+
+fn bench() -> Result<(), NotAtHand> {
+    println!("class                      sheets    bytes     proved    original  ratio  in turn");
+    let typical = |sheet: &Sheet| (3..=12).contains(&sheet.statements.len());
+    let large = |sheet: &Sheet| sheet.exprs.len() >= 300;
+    let long = |sheet: &Sheet| sheet.text().len() > 1_024;
+    report("up to 1 KB", &generated(1_000, |sheet| !long(sheet))?);
+    report("above 1 KB", &generated(1_000, long)?);
+    report("3 to 12 statements", &generated(1_000, typical)?);
+    report("300 expressions or more", &generated(200, large)?);
+    report("a count at its limit", &at_limits()?);
+    println!("\ngrowth                        bytes     proved    original  ratio");
+    for length in 1..=18 {
+        growth(&format!("{length} brackets"), &brackets(length))?;
+    }
+    for depth in 1..=7 {
+        growth(&format!("{depth} under `with`"), &under_with(depth))?;
+    }
+    Ok(())
+}
+
+/// A sheet for both.
+struct Timed {
+    text: Vec<u8>,
+    built: Built,
+}
+
+/// None where the original gives the sheet up or refuses it.
+fn timed(sheet: &Sheet) -> Result<Option<Timed>, NotAtHand> {
+    match oracle::analyze(sheet)?.outcome {
+        Outcome::Answered(Answer::Queries(_)) => Ok(Some(Timed {
+            text: sheet.text().into_bytes(),
+            built: Built::new(sheet)?,
+        })),
+        _ => Ok(None),
+    }
+}
+
+fn generated(count: usize, wanted: impl Fn(&Sheet) -> bool) -> Result<Vec<Timed>, NotAtHand> {
+    let mut all = Vec::new();
+    let mut sheets = (1..).map(generate::sheet).filter(wanted);
+    while all.len() < count {
+        all.extend(sheets.next().map_or(Ok(None), |sheet| timed(&sheet))?);
+    }
+    Ok(all)
+}
+
+/// The edges with an answer that have 500 lines or more.
+fn at_limits() -> Result<Vec<Timed>, NotAtHand> {
+    let lines = |text: &[u8]| text.iter().filter(|&&byte| byte == b'\n').count();
+    let mut all = Vec::new();
+    for edge in edges::edges() {
+        if edge.expected.is_ok() && lines(&edge.text) >= 500 {
+            let sheet = check::check_text(&edge.text).expect("an edge that passes");
+            all.extend(timed(&sheet)?);
+        }
+    }
+    Ok(all)
+}
+
+fn one_query(statements: Vec<Statement>) -> Sheet {
+    let snippet = Snippet {
+        query: Query { statements },
+        ..Snippet::default()
+    };
+    snippet.sheet()
+}
+
+/// `data[i][i]..`
+fn brackets(length: usize) -> Sheet {
+    let var = |name: &str| Node::Var(name.to_string()).at(1, 1);
+    let bracket = |e: Expr, _| Node::RefBrack(e.into(), var("i").into()).at(1, 1);
+    let chain = (0..length).fold(var("data"), bracket);
+    one_query(vec![Literal::Expr(chain).plain()])
+}
+
+/// `[x, y] = [1, 1] with .. as [1 | [x, y] = [1, 1] with ..]`, so deep.
+fn under_with(depth: usize) -> Sheet {
+    let number = || Node::Number.at(1, 1);
+    let var = |name: &str| Node::Var(name.to_string()).at(1, 1);
+    let statement = |with: Vec<Expr>| {
+        let array = |items: [Expr; 2]| Box::new(Node::Array(items.into()).at(1, 1));
+        let left = array([var("x"), var("y")]);
+        let right = array([number(), number()]);
+        Statement {
+            literal: Literal::Expr(Node::AssignEq(left, right).at(1, 1)),
+            with,
+        }
+    };
+    let nested = (0..depth).fold(statement(Vec::new()), |inner, _| {
+        let statements = vec![inner];
+        let compr = Node::ArrayCompr(number().into(), Query { statements });
+        statement(vec![compr.at(1, 1)])
+    });
+    one_query(vec![nested])
+}
+
+/// The buffers of the proved call.
+struct Buffers {
+    tables: Vec<u16>,
+    work: Vec<u64>,
+    answer: Vec<u8>,
+}
+
+impl Buffers {
+    fn new() -> Buffers {
+        Buffers {
+            tables: vec![0; ENOUGH],
+            work: vec![0; ENOUGH],
+            answer: vec![0; ANSWER],
+        }
+    }
+
+    fn proved(&mut self, sheet: &Timed) {
+        let Buffers {
+            tables,
+            work,
+            answer,
+        } = self;
+        let text = black_box(&sheet.text);
+        let _ = black_box(nokchbem::analyze(text, tables, work, answer));
+        black_box(&self.answer);
+    }
+}
+
+fn original(sheet: &Timed) {
+    black_box(sheet.built.analyze());
+}
+
+/// Nanoseconds a call of each.
+fn times(buffers: &mut Buffers, sheet: &Timed) -> (f64, f64) {
+    sheet.built.supply_builtins();
+    (
+        best(&mut || buffers.proved(sheet)),
+        best(&mut || original(sheet)),
+    )
+}
+
+fn in_turn(buffers: &mut Buffers, sheets: &[Timed]) -> f64 {
+    let (mut least_proved, mut least_original) = (f64::MAX, f64::MAX);
+    for _ in 0..20 {
+        let (mut sum_proved, mut sum_original) = (0.0, 0.0);
+        for sheet in sheets {
+            let started = Instant::now();
+            buffers.proved(sheet);
+            sum_proved += started.elapsed().as_nanos() as f64;
+        }
+        for sheet in sheets {
+            sheet.built.supply_builtins();
+            let started = Instant::now();
+            original(sheet);
+            sum_original += started.elapsed().as_nanos() as f64;
+        }
+        least_proved = sum_proved.min(least_proved);
+        least_original = sum_original.min(least_original);
+    }
+    least_proved / least_original
+}
+
+fn report(label: &str, sheets: &[Timed]) {
+    let mut buffers = Buffers::new();
+    let times: Vec<_> = sheets.iter().map(|s| times(&mut buffers, s)).collect();
+    let bytes = sheets.iter().map(|s| s.text.len()).sum::<usize>();
+    println!(
+        "{label:26} {:6} {:8} {:8.0}ns {:9.0}ns {:6.3} {:8.3}",
+        sheets.len(),
+        bytes / sheets.len(),
+        geometric_mean(times.iter().map(|t| t.0)),
+        geometric_mean(times.iter().map(|t| t.1)),
+        geometric_mean(times.iter().map(|t| t.0 / t.1)),
+        in_turn(&mut buffers, sheets)
+    );
+}
+
+/// Both on one sheet, whatever the original takes.
+fn growth(label: &str, sheet: &Sheet) -> Result<(), NotAtHand> {
+    let sheet = Timed {
+        text: sheet.text().into_bytes(),
+        built: Built::new(sheet)?,
+    };
+    let (proved, original) = times(&mut Buffers::new(), &sheet);
+    println!(
+        "{label:26} {:8} {proved:8.0}ns {original:9.0}ns {:6.3}",
+        sheet.text.len(),
+        proved / original
+    );
+    Ok(())
+}
