@@ -7,7 +7,6 @@ use mathlib.Core.Option.{Option, none, some}
 use Prim.Native.Nat.{ℕ, max}
 use native.Mathlib.Omega.{arith}
 use lib.Dec.{eqb}
-use Rattle.basics.specs.Truth.{bool-cases}
 use Rattle.basics.specs.Lists.{filter}
 use Rattle.names.specs.declared.Names.{Names}
 use Rattle.names.specs.Sets.{members, Empty}
@@ -32,8 +31,7 @@ use Rattle.used.specs.Adds.{adds-holds}
 use Rattle.using.specs.declared.Using.{Using}
 use Rattle.frame.specs.declared.Fault as declared
 use Rattle.frame.specs.declared.Progress.{Progress}
-use Rattle.frame.specs.Faults.{isSound, meaning}
-use Rattle.frame.specs.Steps.{not-sound}
+use Rattle.frame.specs.Faults.{isSound}
 use Rattle.frame.specs.Frames.{guarded, Agree, Ready, runs-none, grown-then}
 use Rattle.laws.specs.Guards.{fault-cases, guarded-sound, guarded-stays}
 use Rattle.recording.specs.Guards.{if-same}
@@ -41,7 +39,7 @@ use Rattle.recording.specs.Checks.{AssignedChecked}
 use Rattle.recording.specs.AssignedIn.{AssignedIn}
 use Rattle.recording.specs.Each.{lessOf}
 use Rattle.recording.specs.Records.{NamesFit, EachRecorded}
-use Rattle.analyzer.specs.Witnesses.{members-held, scopeOf, sets-of}
+use Rattle.analyzer.specs.Witnesses.{is-sound, members-held, scopeOf, sets-of}
 use Rattle.analyzer.specs.OneWay.{Checked, Assigns}
 
 -- ---- the question after first uses
@@ -93,13 +91,6 @@ module _ (check : Bool) (e : Tree) where
 
   pub checked-same : (s : State) → guarded (checkAssigned check e) s .run .fault ≡ sound → guarded (checkAssigned check e) s ≡ s
   checked-same s = guarded-same (checkAssigned check e) s (asked-same s)
-
-is-sound : (x : declared.Fault) → meaning x ≡ sound → isSound x ≡ true
-is-sound x e = go (bool-cases (isSound x))
-  where
-    go : (isSound x ≡ true) ⊎ (isSound x ≡ false) → isSound x ≡ true
-    go (inl b) = b
-    go (inr b) = absurd (not-sound x b e)
 
 -- ---- `checked`
 

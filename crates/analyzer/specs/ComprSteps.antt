@@ -9,7 +9,7 @@ use Prim.Native.Nat.{ℕ, _+_, _-_, _*_, _≤_}
 use native.Mathlib.Omega.{arith}
 use lib.ListN.{length, getD, take}
 use borrow.Rule.Slice.PartMut.{postOf, put-same}
-use Rattle.basics.specs.Truth.{bool-cases, eq-cases, not-both}
+use Rattle.basics.specs.Truth.{bool-cases, eq-cases}
 use Rattle.trees.specs.declared.Row.{Row}
 use Rattle.trees.specs.Sheet.{rowAt}
 use Rattle.trees.specs.Kinds.{isCompr}
@@ -21,10 +21,10 @@ use Rattle.gather.specs.Sheets.{sheetAt, Accepted}
 use Rattle.gather.specs.Exprs.{exprBy, tree-is, row-is}
 use Rattle.gather.specs.Chains.{chainAt}
 use Rattle.frame.specs.declared.Fault.{Fault}
-use Rattle.frame.specs.declared.Fault.the-variants.{Sound, Undefined, UsedBefore, Lengths, IndexVariable}
+use Rattle.frame.specs.declared.Fault.the-variants.{Sound}
 use Rattle.frame.specs.declared.Progress.{Progress}
-use Rattle.frame.specs.Faults.{isSound, meaning}
-use Rattle.frame.specs.Steps.{sound-is}
+use Rattle.frame.specs.Faults.{isSound}
+use Rattle.frame.specs.Steps.{sound-is, not-sound}
 use Rattle.frame.specs.Held.{held-same}
 use Rattle.frame.specs.Tails.{tail, tail-length, tail-answers, whole, whole-length, whole-answers, whole-front, table-of}
 use Rattle.frame.specs.Frames.{failed, Whole, Agree}
@@ -33,13 +33,6 @@ use Rattle.comprs.specs.Pending.{unscheduledAt, pendingAt, scheduled, pending}
 use Rattle.comprs.specs.After.{AfterCompr}
 use Rattle.analyzer.specs.Sites.{nestedBy, Around, RunsIn}
 use Rattle.analyzer.specs.Queries.{DoesQuery}
-
-not-sound : (f : Fault) → isSound f ≡ false → meaning f ≡ sound → ⊥
-not-sound Sound n e = not-both refl n
-not-sound (Undefined l c) n e = let z : _≡_ {A = ℕ} 0 1 = cc in omega arith
-not-sound (UsedBefore l c) n e = let z : _≡_ {A = ℕ} 0 1 = cc in omega arith
-not-sound (Lengths l c) n e = let z : _≡_ {A = ℕ} 0 1 = cc in omega arith
-not-sound IndexVariable n e = let z : _≡_ {A = ℕ} 0 1 = cc in omega arith
 
 module _ (t : List ℕ) (ok : Accepted t) (inner : List ℕ) (levels row : ℕ) (there : row ≡ 0 → ⊥) (high : row ≤ getD t 2 0) (w : Row)
     (is : w ≡ rowAt t row) (third : isCompr w ≡ true → (1 ≤ w .third) × (w .third ≤ 32)) (p : Progress) (firsts work : List ℕ)

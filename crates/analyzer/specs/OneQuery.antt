@@ -1,12 +1,11 @@
 -- The analysis of one query, from its empty start to its schedule in the table.
 use mathlib.Core.Path.{_≡_, refl, sym, ap, _∙_, subst}
-use mathlib.Core.Bool.{true, false, false≢true}
+use mathlib.Core.Bool.{true, false≢true}
 use mathlib.Core.List.{List, [], _∷_, _++_, foldl-append}
 use mathlib.Core.Logic.{_⊎_, inl, inr}
 use Prim.Native.Nat.{ℕ, zero, suc, _+_, _-_, _*_, _≤_, _<_}
 use native.Mathlib.Omega.{arith}
 use lib.ListN.{length, getD}
-use Rattle.basics.specs.Truth.{bool-cases}
 use Rattle.records.specs.Layout.{firstAt}
 use Rattle.trees.specs.Lists.{isSome, concatMap}
 use Rattle.trees.specs.Trees.{Tree}
@@ -43,7 +42,7 @@ use Rattle.frame.specs.Faults.{isSound, meaning}
 use Rattle.frame.specs.Held.{Held, held-none}
 use Rattle.frame.specs.Table.{answersOf, Based, Low, Table}
 use Rattle.frame.specs.Frames.{Agree}
-use Rattle.frame.specs.Steps.{sound-is, not-sound}
+use Rattle.frame.specs.Steps.{sound-is}
 use Rattle.laws.specs.Guards.{fault-cases, outputs-sound}
 use Rattle.laws.specs.Same.{same-local}
 use Rattle.laws.specs.KeepsNested.{keeps-outputs}
@@ -52,6 +51,7 @@ use Rattle.laws.specs.Outputs as outputs
 use Rattle.laws.specs.Outputs.{opened, opened-outputs, opened-inputs, opened-flag}
 use Rattle.laws.specs.Lows.{accepted-low, outputs-low, in-bounds}
 use Rattle.laws.specs.Fronts.{ended, front, analyze-sound, analyze-faulty, front-fits, front-low}
+use Rattle.analyzer.specs.Witnesses.{is-sound}
 use Rattle.analyzer.specs.Budgets.{budget, budgetAt}
 use Rattle.analyzer.specs.Sites.{nestedBy, Around, Inside}
 use Rattle.analyzer.specs.Moves.{inside-next, around-next, at-rows}
@@ -86,13 +86,6 @@ firsts-none ws zeros = record { has = λ x low. sym (zeros x); low = λ x p e. a
 weights-fit : (l : List Stmt) → total weight l ≤ total budget l
 weights-fit [] = omega arith
 weights-fit (st ∷ l) = omega (arith, weights-fit l)
-
-means-sound : (f : Fault) → meaning f ≡ sound → isSound f ≡ true
-means-sound f e = go (bool-cases (isSound f))
-  where
-    go : (isSound f ≡ true) ⊎ (isSound f ≡ false) → isSound f ≡ true
-    go (inl b) = b
-    go (inr b) = absurd (not-sound f b e)
 
 -- ---- no query, or no level left
 
@@ -387,7 +380,7 @@ module _ (t outer work : List ℕ) (query key value : ℕ) (spans : List ℕ) (n
               go (inl well) =
                   let held : Table t w₂ (end .run .schedules) =
                   subst (λ (u : Run). Table t w₂ (u .schedules)) (beside .run) (last-agrees .whole (well-last well) .table) in
-                  let there = done .enters (means-sound (v .fault) (last-agrees .fault ∙ well-last well)) (this well) (end .run .schedules) (ending well) held in
+                  let there = done .enters (is-sound (v .fault) (last-agrees .fault ∙ well-last well)) (this well) (end .run .schedules) (ending well) held in
                   subst Ends (sym (analyze-sound n (sheetAt t) parents query outs run well)) (same-fault ∙ well, λ e. there)
               go (inr faulty) =
                   subst Ends (sym (analyze-faulty n (sheetAt t) parents query outs run faulty)) (same-fault, λ e. absurd (faulty e))

@@ -1,12 +1,11 @@
 -- `some .. in ..`: the collection, the names that are bound, and the rest of the pattern.
 use mathlib.Core.Path.{_≡_, refl, sym, ap, _∙_, subst}
-use mathlib.Core.Bool.{true, false}
+use mathlib.Core.Bool.{true}
 use mathlib.Core.List.{List, [], _++_, map, map-map, map-append, foldl, foldl-append}
 use mathlib.Core.Logic.{_⊎_, inl, inr}
 use Prim.Native.Nat.{ℕ, suc, _+_, _≤_, max}
 use native.Mathlib.Omega.{arith}
 use lib.ListN.{length, length-map}
-use Rattle.basics.specs.Truth.{bool-cases}
 use Rattle.names.specs.Sets.{members, Empty}
 use Rattle.names.specs.declared.Names.{Names}
 use Rattle.records.specs.declared.Statement.{Statement}
@@ -46,11 +45,9 @@ use Rattle.recording.specs.Records.{NamesFit, ready-names, OneRecorded, SomeRec
 use Rattle.recording.specs.SomeVars.{SomeVars, SomeEntered}
 use Rattle.literals.specs.declared.context.Context.{Context}
 use Rattle.literals.specs.Contexts.{Stands}
-use Rattle.frame.specs.declared.Fault.{Fault}
 use Rattle.frame.specs.declared.Progress.{Progress}
-use Rattle.frame.specs.Faults.{isSound, meaning}
 use Rattle.frame.specs.Frames.{guarded, Agree, grown-then}
-use Rattle.frame.specs.Steps.{not-sound, ready-less}
+use Rattle.frame.specs.Steps.{ready-less}
 use Rattle.laws.specs.Guards.{fault-cases, was-sound, guarded-sound, guarded-stays}
 use Rattle.laws.specs.Same.{Same, same-trans, same-non-vars}
 use Rattle.laws.specs.Keeps.{keeps-guarded, keeps-definitions, keeps-first-uses}
@@ -61,18 +58,11 @@ use Rattle.analyzer.specs.Does.{DoesUse, DoesNonVars, DoesStep, someInSt
 use Rattle.analyzer.specs.Moves.{Steady, Enclosing, at-ready, inside-less, inside-next, runs-in-then, runs-in-as, under-inside, inside-under}
 use Rattle.analyzer.specs.Steadies.{fits, steady-then, steady-use, steady-others}
 use Rattle.analyzer.specs.AllUsed.{partsUse, othersUse, OthersUsed}
-use Rattle.analyzer.specs.Witnesses.{members-held, someMods, some-stand, scopeOf, sets-of}
+use Rattle.analyzer.specs.Witnesses.{is-sound, members-held, someMods, some-stand, scopeOf, sets-of}
 use Rattle.analyzer.specs.Patterns.{filter-append, non-vars-append}
 use Rattle.analyzer.specs.PatternSteps.{parts, others, steady-non-vars, others-append}
 
 -- ---- laws
-
-is-sound : (x : Fault) → meaning x ≡ sound → isSound x ≡ true
-is-sound x e = go (bool-cases (isSound x))
-  where
-    go : (isSound x ≡ true) ⊎ (isSound x ≡ false) → isSound x ≡ true
-    go (inl b) = b
-    go (inr b) = absurd (not-sound x b e)
 
 -- A step that stays at a fault is guarded by itself.
 guarded-steady : (t : List ℕ) (n : ℕ) (f : State → State) → Steady t n f → (s : State) → guarded f s ≡ f s

@@ -2,12 +2,13 @@
 use mathlib.Core.Path.{_≡_, refl, sym, _∙_}
 use mathlib.Core.Bool.{Bool, true, false, cond, _||_}
 use mathlib.Core.List.{List, [], _∷_, map}
+use mathlib.Core.Logic.{_⊎_, inl, inr}
 use mathlib.Core.Option.{some}
 use Prim.Native.Nat.{ℕ}
 use lib.Dec.{eqb}
 use borrow.Author.Tests.{eqb-true, eq-eqb}
 use Rattle.basics.specs.Lists.{elem}
-use Rattle.basics.specs.Truth.{bool-ext}
+use Rattle.basics.specs.Truth.{bool-cases, bool-ext}
 use Rattle.names.specs.Sets.{member, members}
 use Rattle.names.specs.Laws.{elem-members}
 use Rattle.names.specs.declared.Names.{Names}
@@ -16,11 +17,15 @@ use Rattle.trees.specs.Trees.{treeAt}
 use Rattle.trees.specs.Traverse.{comprs}
 use Rattle.scopes.specs.NameSets.{contains}
 use Rattle.scopes.specs.Scopes.{Span, Scope, spanIn}
+use Rattle.analysis.specs.States.{sound}
 use Rattle.analysis.specs.Comprs.{Mods}
 use Rattle.gather.specs.declared.scope.Scope.{Scope as Kept}
 use Rattle.gather.specs.Agrees.{Sets}
 use Rattle.gather.specs.Sheets.{sheetAt}
 use Rattle.used.specs.Own.{Holds}
+use Rattle.frame.specs.declared.Fault.{Fault}
+use Rattle.frame.specs.Faults.{isSound, meaning}
+use Rattle.frame.specs.Steps.{not-sound}
 use Rattle.literals.specs.declared.context.Context.{Context}
 use Rattle.literals.specs.Contexts.{Stands}
 
@@ -69,3 +74,12 @@ sets-of k = record {
   inputs = λ x. refl;
   flag = refl;
 }
+
+-- ---- faults
+
+pub is-sound : (x : Fault) → meaning x ≡ sound → isSound x ≡ true
+is-sound x e = go (bool-cases (isSound x))
+  where
+    go : (isSound x ≡ true) ⊎ (isSound x ≡ false) → isSound x ≡ true
+    go (inl b) = b
+    go (inr b) = absurd (not-sound x b e)
