@@ -1,4 +1,5 @@
 -- All names that an expression uses, as a set.
+use mathlib.Core.Path.{_≡_}
 use mathlib.Core.List.{List, [], _++_}
 use Prim.Native.Nat.{ℕ}
 use Rattle.names.specs.declared.Names.{Names}
@@ -33,9 +34,10 @@ module _ (t : List ℕ) where
   othersUse s cs es = partsUse s cs (nonVars (sheetAt t) (s .scope) es)
 
 module _ (t : List ℕ) (k : Scope) where
-  abbrev pub AllUsed : Names → Tree → Context → List ℕ → Names → Type 0
-  AllUsed names e x work r =
-      (m : Mods) → Stands t x m → (l : List ℕ) (s : State) → Sets k (s .scope) → Stored (answersOf work) (s .run .schedules)
+  -- Of every expression that has these comprehensions.
+  abbrev pub AllUsed : Names → List Tree → Context → List ℕ → Names → Type 0
+  AllUsed names cs x work r =
+      (e : Tree) → comprs e ≡ cs → (m : Mods) → Stands t x m → (l : List ℕ) (s : State) → Sets k (s .scope) → Stored (answersOf work) (s .run .schedules)
       → Holds names (usedVars (sheetAt t) (s .scope) l e) → Holds r (allUsed (sheetAt t) l m e s)
 
   abbrev pub OtherUsed : ℕ → ℕ → List ℕ → Names → Names → Type 0

@@ -9,6 +9,7 @@ pub mod ExprSteps
 pub mod EverySteps
 pub mod Asks
 pub mod Does
+pub mod ComprRows
 pub mod ComprWalk
 pub mod StmtSteps
 pub mod LiteralSteps

@@ -40,6 +40,7 @@ use Rattle.laws.specs.Keeps.{keeps-guarded, keeps-fail, keeps-gather-used-vars}
 use Rattle.analyzer.specs.Sites.{nestedBy, RunsIn}
 use Rattle.analyzer.specs.Asks.{otherAt, AsksComprs, AsksExpr}
 use Rattle.analyzer.specs.Does.{DoesComprs, DoesOthers}
+use Rattle.analyzer.specs.ComprRows.{at-lies, does-at}
 use Rattle.analyzer.specs.Moves.{Steady, at-ready, inside-next, runs-in, runs-in-then, runs-in-as}
 use Rattle.analyzer.specs.Steadies.{steady-then, steady-gather, steady-comprs}
 use Rattle.analyzer.specs.Patterns.{other-is}
@@ -187,14 +188,17 @@ module _ (t : List ℕ) where
       first : RunsIn t inner (λ parents. useOrFail (x .statement) expr) p firsts work q fs ws
       first = runs-in t inner (useOrFail (x .statement) expr) p q firsts fs work ws (use-or-fail row extras clear (x .statement) p firsts work u fs ws uses q is)
 
-      pub asks-own : Given → AsksComprs t inner row q fs ws
+      pub asks-own : Given → AsksComprs t inner (u .comprs) q fs ws
       asks-own h = record {
         inside = inside-next t inner p q firsts fs work ws (total bracketVars (otherAt t row)) (bracketVars expr + 0) 0
             (λ parents. useOrFail (x .statement) expr) (λ parents. steady-first (x .levels) (x .statement) expr) (omega (arith, few)) first (h .inside);
-        lies = h .first-lies;
+        lies = at-lies t false row (u .comprs) (uses .comprs) (h .inside .at .query) (h .first-lies);
       }
 
-      module _ (r : Progress) (gs vs : List ℕ) (own : DoesComprs t inner (comprs (exprBy t false row)) (x .levels) q fs ws r gs vs) where
+      module _ (r : Progress) (gs vs : List ℕ) (at-own : DoesComprs t inner (comprs (exprBy t false (u .comprs))) (x .levels) q fs ws r gs vs) where
+        own : DoesComprs t inner (comprs expr) (x .levels) q fs ws r gs vs
+        own = does-at t false row (u .comprs) (uses .comprs) inner (x .levels) q fs ws r gs vs at-own
+
         pub asks-mods : Given → AsksComprs t inner (x .mods) r gs vs
         unfolding asks-own
         asks-mods h = record {

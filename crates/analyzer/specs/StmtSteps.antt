@@ -62,6 +62,7 @@ use Rattle.analyzer.specs.Moves.{at-less, at-ready, under-next, runs-und
 use Rattle.analyzer.specs.Steadies.{fits}
 use Rattle.analyzer.specs.Asks.{AsksLiteral, stmtsAt, AsksStmts}
 use Rattle.analyzer.specs.Does.{DoesStep, literalStep, DoesStmts}
+use Rattle.analyzer.specs.ComprRows.{at-low, at-lies}
 
 module _ (t : List ℕ) (ok : Accepted t) (outer spans : List ℕ) (row i levels : ℕ) where
   -- No statement is left.
@@ -109,7 +110,7 @@ module _ (t : List ℕ) (ok : Accepted t) (outer spans : List ℕ) (row i levels
     module _ (none : Names) (clear : Empty (none .words)) (u : Using) (firsts₁ work₁ : List ℕ)
         (used : UsesMods t i (st .with) p none firsts work u firsts₁ work₁) where
       abbrev context : Context
-      context = record { statement = i; mods = st .with; names = u .names; levels = levels }
+      context = record { statement = i; mods = u .comprs; names = u .names; levels = levels }
 
       abbrev mods : State → State
       mods = useEach (sheetAt t) i chained
@@ -121,14 +122,14 @@ module _ (t : List ℕ) (ok : Accepted t) (outer spans : List ℕ) (row i levels
       asks-literal = record {
         under = under-next t outer spans p (u .progress) firsts firsts₁ work work₁ (total budget (stmtsAt t row)) (total size chained)
             (suc (literalSize (own .literal))) (suc i) (λ parents. mods) (λ parents. mods-add) (omega (arith, room))
-            (runs-under t outer spans mods p (u .progress) firsts firsts₁ work work₁ (used .runs)) (asks .under);
+            (runs-under t outer spans mods p (u .progress) firsts firsts₁ work work₁ (used .each .runs)) (asks .under);
         row = row;
         there = omega arith;
         low = high;
         is = is;
         lies = asks .lies;
-        mods-lie = named .with;
-        mods-low = with-low;
+        mods-lie = at-lies t true (st .with) (u .comprs) (used .comprs) (asks .under .at .query) (named .with);
+        mods-low = at-low t true (st .with) (u .comprs) (used .comprs) with-low;
       }
 
       -- ---- the literal
@@ -137,7 +138,7 @@ module _ (t : List ℕ) (ok : Accepted t) (outer spans : List ℕ) (row i levels
           (does : DoesStep t (literalStep t st context) outer spans context (u .progress) firsts₁ work₁ q firsts₂ work₂) where
         -- After a fault the names stand for what they hold.
         some : Mods
-        some = record { usedVars = members (u .names .words); comprs = comprs (treeAt (sheetAt t) (st .with)) }
+        some = record { usedVars = members (u .names .words); comprs = comprs (treeAt (sheetAt t) (u .comprs)) }
 
         some-stands : Stands t context some
         unfolding some
@@ -147,9 +148,9 @@ module _ (t : List ℕ) (ok : Accepted t) (outer spans : List ℕ) (row i levels
             → Stands t context (modsOf (sheetAt t) (mods s .scope) chained)
         unfolding modsOf
         stands s a fine = record {
-          comprs = mods-comprs (sheetAt t) (mods s .scope) (treeAt (sheetAt t) (st .with));
+          comprs = mods-comprs (sheetAt t) (mods s .scope) (treeAt (sheetAt t) (st .with)) ∙ sym (used .comprs .same);
           names = subst (λ (f : Tree → List ℕ). Holds (u .names) (concatMap f chained)) (sym (used-after-each (sheetAt t) i chained s []))
-              (adds-holds none (u .names) _ clear (used .names spans s a fine));
+              (adds-holds none (u .names) _ clear (used .each .names spans s a fine));
         }
 
         abbrev literal : List Scope → State → State
@@ -161,7 +162,7 @@ module _ (t : List ℕ) (ok : Accepted t) (outer spans : List ℕ) (row i levels
         literal-agrees parents s o a = go (bool-cases (isSound (u .progress .fault)))
           where
             now : Agree t spans (u .progress) firsts₁ work₁ (mods s)
-            now = used .runs .agrees spans s a
+            now = used .each .runs .agrees spans s a
 
             by : Mods → State → State
             by m = processLiteral (sheetAt t) (nestedBy t levels) parents i m (own .literal)
@@ -180,7 +181,7 @@ module _ (t : List ℕ) (ok : Accepted t) (outer spans : List ℕ) (row i levels
 
         literal-runs : RunsUnder t outer spans (λ parents s. literal parents (mods s)) p firsts work q firsts₂ work₂
         literal-runs = record {
-          grown = grown-then t p (u .progress) q work work₁ work₂ (used .runs .grown) (does some some-stands .grown);
+          grown = grown-then t p (u .progress) q work work₁ work₂ (used .each .runs .grown) (does some some-stands .grown);
           agrees = literal-agrees;
         }
 

@@ -36,6 +36,7 @@ use Rattle.analyzer.specs.Moves.{at-ready, at-rows, inside-next, runs-in
 use Rattle.analyzer.specs.Steadies.{steady-gather}
 use Rattle.analyzer.specs.Asks.{AsksComprs, AsksExpr}
 use Rattle.analyzer.specs.Does.{DoesComprs, DoesUse}
+use Rattle.analyzer.specs.ComprRows.{at-lies, does-at}
 use Rattle.analyzer.specs.ComprWalk.{does-then, asks-next}
 use Rattle.analyzer.specs.AllUsed.{AllUsed}
 
@@ -72,24 +73,28 @@ module _ (t inner : List ℕ) (extras : Names) (row : ℕ) (rest : Bool) (x : Co
 
     module _ (u : Using) (f₁ w₁ : List ℕ) (uses : UsesVars t extras (x .statement) row rest p firsts work u f₁ w₁) where
       -- Its comprehensions.
-      abbrev pub own-asks : AsksComprs t inner row (u .progress) f₁ w₁
+      abbrev pub own-asks : AsksComprs t inner (u .comprs) (u .progress) f₁ w₁
       own-asks = record {
         inside = inside-next t inner p (u .progress) firsts f₁ work w₁ (bracketVars expr) (bracketVars expr) 0
             (λ parents. gather t (x .levels) (x .statement) (listed .list) expr) (λ parents. steady-gather t (x .levels) (x .statement) (listed .list) expr) (omega arith)
             (runs-in t inner (gather t (x .levels) (x .statement) (listed .list) expr) p (u .progress) firsts f₁ work w₁ (uses .runs (listed .list) (listed .holds)))
             (h .inside);
-        lies = h .first-lies;
+        lies = at-lies t rest row (u .comprs) (uses .comprs) (h .inside .at .query) (h .first-lies);
       }
 
       -- Those of the modifiers.
-      pub mods-asks : (s₂ : Progress) (f₂ w₂ : List ℕ) → DoesComprs t inner (comprs expr) (x .levels) (u .progress) f₁ w₁ s₂ f₂ w₂
+      pub mods-asks : (s₂ : Progress) (f₂ w₂ : List ℕ) → DoesComprs t inner (comprs (exprBy t rest (u .comprs))) (x .levels) (u .progress) f₁ w₁ s₂ f₂ w₂
           → AsksComprs t inner (x .mods) s₂ f₂ w₂
-      mods-asks s₂ f₂ w₂ d = asks-next t inner (x .levels) row (comprs expr) (u .progress) s₂ f₁ f₂ w₁ w₂ own-asks d (x .mods) (h .mods-lie)
+      mods-asks s₂ f₂ w₂ d =
+          asks-next t inner (x .levels) (u .comprs) (comprs (exprBy t rest (u .comprs))) (u .progress) s₂ f₁ f₂ w₁ w₂ own-asks d (x .mods) (h .mods-lie)
 
   module _ (u : Using) (f₁ w₁ : List ℕ) (uses : UsesVars t extras (x .statement) row rest p firsts work u f₁ w₁)
-      (s₂ : Progress) (f₂ w₂ : List ℕ) (d₂ : DoesComprs t inner (comprs expr) (x .levels) (u .progress) f₁ w₁ s₂ f₂ w₂)
+      (s₂ : Progress) (f₂ w₂ : List ℕ) (at₂ : DoesComprs t inner (comprs (exprBy t rest (u .comprs))) (x .levels) (u .progress) f₁ w₁ s₂ f₂ w₂)
       (s₃ : Progress) (f₃ w₃ : List ℕ) (d₃ : DoesComprs t inner (comprs (exprBy t true (x .mods))) (x .levels) s₂ f₂ w₂ s₃ f₃ w₃)
-      (names : Names) (all : AllUsed t (s₃ .scope) (u .names) expr x w₃ names) where
+      (names : Names) (all : AllUsed t (s₃ .scope) (u .names) (comprs (exprBy t rest (u .comprs))) x w₃ names) where
+    d₂ : DoesComprs t inner (comprs expr) (x .levels) (u .progress) f₁ w₁ s₂ f₂ w₂
+    d₂ = does-at t rest row (u .comprs) (uses .comprs) inner (x .levels) (u .progress) f₁ w₁ s₂ f₂ w₂ at₂
+
     module _ (m : Mods) (st : Stands t x m) (l : List ℕ) (hl : Holds extras l) where
       abbrev whole-use : List Scope → State → State
       whole-use parents = useExpr (sheetAt t) (nestedBy t (x .levels)) parents (x .statement) l m expr
@@ -136,7 +141,7 @@ module _ (t inner : List ℕ) (extras : Names) (row : ℕ) (rest : Bool) (x : Co
             let held = end .whole clear in
             let own : Holds (u .names) (usedVars (sheetAt t) (s .scope) l expr) = uses .names l hl spans s a fine-before in
             let same = same-used (keeps-use-expr (sheetAt t) (nestedBy t (x .levels)) parents (x .statement) l m expr s) (sheetAt t) l expr in
-            all m st l (whole-use parents s) (held .scope .sets) (held .table .stored) (subst (Holds (u .names)) (sym same) own)
+            all expr (sym (uses .comprs .same)) m st l (whole-use parents s) (held .scope .sets) (held .table .stored) (subst (Holds (u .names)) (sym same) own)
 
-    pub does-use : DoesUse t inner extras expr x p firsts work (record { progress = s₃; names = names }) f₃ w₃
+    pub does-use : DoesUse t inner extras expr x p firsts work (record { progress = s₃; names = names; comprs = u .comprs }) f₃ w₃
     does-use = record { runs = use-runs; names = use-names }

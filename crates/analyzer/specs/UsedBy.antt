@@ -50,12 +50,12 @@ joined a b c r k l n ha hb u g = record {
 
 pub all-used : (t : List ℕ) (k : Scope) (names : Names) (row : ℕ) (rest : Bool) (x : Context) (work : List ℕ) (by own r : Names)
     → Union (names .words) (x .names .words) (by .words) → ComprsUsed t k work row rest by own → ComprsUsed t k work (x .mods) true own r
-    → AllUsed t k names (exprBy t rest row) x work r
+    → AllUsed t k names (comprs (exprBy t rest row)) x work r
 unfolding allUsed
-all-used t k names row rest x work by own r union first second m st l s sets stored h =
-    let e = exprBy t rest row in
+all-used t k names row rest x work by own r union first second e same m st l s sets stored h =
     let of-mods = exprBy t true (x .mods) in
-    let adds = adds-then by own r (comprsUse (comprs e) s) (comprsUse (comprs of-mods) s) (first s sets stored) (second s sets stored) in
+    let here : Adds by (comprsUse (comprs e) s) own = rw same (first s sets stored) in
+    let adds = adds-then by own r (comprsUse (comprs e) s) (comprsUse (comprs of-mods) s) here (second s sets stored) in
     let whole = joined names (x .names) by r (usedVars (sheetAt t) (s .scope) l e) (m .usedVars) _ h (st .names) union adds in
     let is : comprsUse (comprs e ++ m .comprs) s ≡ (comprsUse (comprs e) s ++ comprsUse (comprs of-mods) s) =
     use-both (comprs e) (m .comprs) s ∙ ap (λ (cs : List Tree). comprsUse (comprs e) s ++ comprsUse cs s) (st .comprs) in

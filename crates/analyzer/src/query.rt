@@ -126,11 +126,16 @@ fn use_expr(
     let mods = context.mods;
     let u = use_vars(tables, extras, statement, row, rest, p, firsts, work);
     let own = u.names;
+    let comprs = u.comprs;
     let mut s = u.progress;
-    s = process_comprs(tables, inner, row, rest, levels, s, firsts, work);
+    s = process_comprs(tables, inner, comprs, rest, levels, s, firsts, work);
     s = process_comprs(tables, inner, mods, true, levels, s, firsts, work);
-    let names = all_used(tables, s, own, row, rest, context, work);
-    Using { progress: s, names }
+    let names = all_used(tables, s, own, comprs, rest, context, work);
+    Using {
+        progress: s,
+        names,
+        comprs,
+    }
 }
 
 // A pair of an assignment, both ways; nothing where there is none. `check`: are the first uses of what stands on the left looked at?
@@ -239,8 +244,9 @@ fn process_non_var(
     let levels = context.levels;
     let mods = context.mods;
     let u = use_vars(tables, none, statement, row, false, p, firsts, work);
+    let comprs = u.comprs;
     let mut s = fail_if_some(p.count, u.progress);
-    s = process_comprs(tables, inner, row, false, levels, s, firsts, work);
+    s = process_comprs(tables, inner, comprs, false, levels, s, firsts, work);
     process_comprs(tables, inner, mods, true, levels, s, firsts, work)
 }
 
@@ -446,9 +452,9 @@ fn process_stmts(
     }
     let st = statement_at(tables, row);
     let none = Names::empty();
-    let mods = st.with as usize;
-    let u = use_mods(tables, statement, mods, p, none, firsts, work);
+    let u = use_mods(tables, statement, st.with as usize, p, none, firsts, work);
     let names = u.names;
+    let mods = u.comprs;
     let context = Context {
         statement,
         mods,

@@ -11,11 +11,12 @@ use trees::row_at;
 use used::assigned::pattern_of;
 ghost use Prim.Native.Nat.{_≤_};
 ghost use lib.ListN.{length, getD};
+ghost use Rattle.trees.specs.Traverse.{comprs};
 ghost use Rattle.gather.specs.Sheets.{Accepted};
 ghost use Rattle.gather.specs.Exprs.{exprBy};
 ghost use Rattle.analyzer.specs.AllUsed.{AllUsed, OthersUsed, OtherUsed, LeavesUsed};
 
-// Beside the names that it uses by itself.
+// Beside the names that it uses by itself. Its comprehensions are those at a row, with the rest of its chain if `rest`.
 pub fn all_used(
     tables: &[u16],
     p: Progress,
@@ -26,7 +27,7 @@ pub fn all_used(
     work: &[u64],
 ) -> Names
     requires { ⌜ Accepted (now tables) × (row ≤ getD (now tables) 2 0) × (context .mods ≤ getD (now tables) 2 0) × (4736 ≤ length (now work)) ⌝ }
-    ensures { λ r. ⌜ AllUsed (now (tables .entry)) (p .scope) names (exprBy (now (tables .entry)) rest row) context (now (work .entry)) r ⌝ }
+    ensures { λ r. ⌜ AllUsed (now (tables .entry)) (p .scope) names (comprs (exprBy (now (tables .entry)) rest row)) context (now (work .entry)) r ⌝ }
 {
     let scope = p.scope;
     let mods = context.mods;

@@ -7,7 +7,7 @@ use Prim.Native.Nat.{ℕ, _/_, _≤_, _<_}
 use native.Mathlib.Omega.{arith}
 use lib.Dec.{leb}
 use lib.ListN.{getD}
-use borrow.Author.Tests.{leb-true, le-leb, lt-leb}
+use borrow.Author.Tests.{leb-true}
 use Rattle.basics.specs.Truth.{eq-cases, and-left, and-right}
 use Rattle.records.specs.Layout.{exprAt}
 use Rattle.fields.specs.Fields.{queries, fieldFrom, third, kinds, kindFields}
@@ -21,13 +21,6 @@ abbrev pub QueryIn : Row → Type 0
 QueryIn w = isCompr w ≡ true → (1 ≤ w .third) × (w .third ≤ 32)
 
 -- ---- the ways out of the test
-
-module _ (w : Row) where
-  pub low-kind : w .kind < 10 → false ≡ isCompr w
-  low-kind l = rw (lt-leb 10 (w .kind) l)
-
-  pub high-kind : 10 ≤ w .kind → leb (w .kind) 12 ≡ isCompr w
-  high-kind l = rw (le-leb 10 (w .kind) l)
 
 -- ---- in an accepted sheet
 

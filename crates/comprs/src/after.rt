@@ -1,7 +1,6 @@
 // What the query of a comprehension takes rises to the query around it (`propagate_nested_scope`), where it is used.
 
 use crate::own::own_inputs;
-use crate::taken::is_compr;
 use crate::taken::taken_by;
 use frame::Fault;
 use frame::Progress;
@@ -10,6 +9,7 @@ use names::CAPACITY;
 use names::Names;
 use trees::Row;
 use used::first::add_first_use;
+use used::row::is_compr;
 ghost use mathlib.Core.Path.{_≡_};
 ghost use Prim.Native.Nat.{_≤_, _<_};
 ghost use lib.ListN.{length};

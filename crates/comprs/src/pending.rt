@@ -1,10 +1,10 @@
 // Which query of a comprehension is still to be analysed.
 
 use crate::taken::block_word;
-use crate::taken::is_compr;
 use answer::layout::STATE;
 use frame::Progress;
 use trees::Row;
+use used::row::is_compr;
 ghost use mathlib.Core.Path.{_≡_};
 ghost use Prim.Native.Nat.{_≤_};
 ghost use lib.ListN.{length};

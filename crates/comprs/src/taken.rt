@@ -4,11 +4,9 @@ use answer::layout::BLOCK;
 use answer::layout::INPUT;
 use answer::layout::STATE;
 use names::Names;
-use trees::Row;
 ghost use mathlib.Core.Path.{_≡_};
 ghost use Prim.Native.Nat.{_≤_, _<_};
 ghost use lib.ListN.{length};
-ghost use Rattle.trees.specs.Kinds.{isCompr};
 ghost use Rattle.answer.specs.Stored.{wordAt};
 ghost use Rattle.frame.specs.Table.{answersOf};
 ghost use Rattle.comprs.specs.Takes.{TakenBy};
@@ -19,24 +17,10 @@ const ANSWERS: usize = 4736;
 // Where the two words of a query's inputs begin in its block.
 const INPUTS: usize = 7;
 
-// The kinds of comprehensions: ArrayCompr is the first, ObjectCompr the last.
-const ARRAY_COMPR: u16 = 10;
-
-const OBJECT_COMPR: u16 = 12;
-
 // The inputs, and whether `input` is read.
 pub struct Taken {
     pub inputs: Names,
     pub uses: bool,
-}
-
-pub fn is_compr(w: Row) -> bool
-    ensures { λ r. ⌜ r ≡ isCompr w ⌝ }
-{
-    if w.kind < ARRAY_COMPR {
-        return false;
-    }
-    w.kind <= OBJECT_COMPR
 }
 
 // A word of the query's block.

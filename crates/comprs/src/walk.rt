@@ -1,7 +1,6 @@
 // What the comprehensions of an expression use of the query around them.
 
 use crate::own::own_inputs;
-use crate::taken::is_compr;
 use crate::taken::taken_by;
 use branches::kids_of;
 use branches::next_of;
@@ -9,6 +8,7 @@ use gather::scope::Scope;
 use names::Names;
 use trees::Row;
 use trees::row_at;
+use used::row::is_compr;
 ghost use Prim.Native.Nat.{_≤_};
 ghost use lib.ListN.{length, getD};
 ghost use Rattle.gather.specs.Sheets.{Accepted};

@@ -63,11 +63,16 @@ module _ (t : List ℕ) where
     pub agree-whole : Whole t spans p fs w s
     agree-whole = a .whole agree-sound
 
-  -- A fault ends it: only the fault and the count are kept.
+  -- A fault ends it: only the fault and the count are kept, whatever is left beside them.
+  pub failed-leaves : (spans : List ℕ) (p : Progress) (fs w fs′ w′ : List ℕ) (s : State) → Agree t spans p fs w s → (x : Fault) → isSound x ≡ false
+      → Agree t spans (failed p x) fs′ w′ (fail (meaning x) s)
+  unfolding fail setRun
+  failed-leaves spans p fs w fs′ w′ s a x b = record { fault = refl; count = a .count; whole = λ e. absurd (not-sound x b e) }
+
+  -- Where all else is left as it was.
   pub failed-agrees : (spans : List ℕ) (p : Progress) (fs w : List ℕ) (s : State) → Agree t spans p fs w s → (x : Fault) → isSound x ≡ false
       → Agree t spans (failed p x) fs w (fail (meaning x) s)
-  unfolding fail setRun
-  failed-agrees spans p fs w s a x b = record { fault = refl; count = a .count; whole = λ e. absurd (not-sound x b e) }
+  failed-agrees spans p fs w s a x b = failed-leaves spans p fs w fs w s a x b
 
   -- At a fault nothing is done.
   pub runs-stays : (f : State → State) (p : Progress) (fs w : List ℕ) → isSound (p .fault) ≡ false → Runs t (guarded f) p fs w p fs w

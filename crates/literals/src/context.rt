@@ -2,7 +2,8 @@
 
 use names::Names;
 
-// The statement's number, the row of its modifiers' chain, the names that these use, and the levels left for nested queries.
+// The statement's number, the row of its modifiers' chain or 0 where they have no comprehension, the names that they use, and the levels
+// left for nested queries.
 pub struct Context {
     pub statement: usize,
     pub mods: usize,

@@ -124,6 +124,10 @@ module _ (t : List ℕ) (k : Scope) where
   abbrev pub IndexDefined : ℕ → ℕ → Names → List ℕ → List ℕ → ℕ → ℕ → Type 0
   IndexDefined i row used ws rs a b = Defined k i (λ s. assignedVars s (treeAt (sheetAt t) row)) used ws rs a b
 
+  -- At a row that is the same.
+  pub index-as : (i r row : ℕ) → r ≡ row → (used : Names) (ws rs : List ℕ) (a b : ℕ) → IndexDefined i r used ws rs a b → IndexDefined i row used ws rs a b
+  index-as i r row is used ws rs a b = subst (λ (n : ℕ). IndexDefined i n used ws rs a b) is
+
   module _ (ok : Accepted t) where
     pub index-none : (row : ℕ) → row ≡ 0 → (i : ℕ) (used : Names) (ws : List ℕ) (a : ℕ) → IndexDefined i row used ws ws a a
     index-none row z i used ws a = defined-none k i (names row) used ws a (λ s h. rw (z, assigned-zero t s ok))

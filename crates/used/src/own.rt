@@ -1,4 +1,4 @@
-// What a variable is to a query: one of its own, a use of such a one, or undefined.
+// What a variable is to a query: one of its own, and a use of such a one.
 
 use gather::scope::Scope;
 use gather::special::is_special;
@@ -6,7 +6,7 @@ use names::Names;
 use trees::Row;
 ghost use Prim.Native.Nat.{_≤_, _<_};
 ghost use lib.ListN.{length};
-ghost use Rattle.used.specs.Own.{Owns, IsUndefined, IsUse};
+ghost use Rattle.used.specs.Own.{Owns, IsUse};
 
 // Is it a local or an unscoped name?
 pub fn owns(scope: Scope, name: usize) -> bool
@@ -17,21 +17,6 @@ pub fn owns(scope: Scope, name: usize) -> bool
         return true;
     }
     scope.unscoped.contains(name)
-}
-
-// Is the variable neither of this query nor an input?
-pub fn is_undefined(tables: &[u16], scope: Scope, w: Row) -> bool
-    requires { ⌜ (8192 ≤ length (now tables)) × (w .name < 128) ⌝ }
-    ensures { λ r. ⌜ IsUndefined (now (tables .entry)) scope w r ⌝ }
-{
-    if is_special(tables, w.name) {
-        return false;
-    }
-    let name = w.name as usize;
-    if owns(scope, name) {
-        return false;
-    }
-    !scope.inputs.contains(name)
 }
 
 // Does the variable use a name of this query? `extras` are the names that the extra argument of the expression binds.

@@ -1,69 +1,77 @@
-// The names that an expression uses, and the definitions that its brackets make.
+// The walk over an expression: what each row does by itself, and the definitions that its brackets make.
 
+use crate::found::Used;
 use crate::index::define_index;
 use crate::index::index_of;
-use crate::step::used_step;
+use crate::row::use_row;
 use branches::kids_of;
 use branches::next_of;
 use gather::scope::Scope;
 use names::Names;
 use trees::Row;
 use trees::row_at;
-ghost use Prim.Native.Nat.{_≤_, _<_};
+ghost use mathlib.Core.Path.{_≡_};
+ghost use Prim.Native.Nat.{_≤_};
 ghost use lib.ListN.{length, getD};
 ghost use Rattle.gather.specs.Sheets.{Accepted};
-ghost use Rattle.used.specs.Index.{IndexFits};
+ghost use Rattle.used.specs.Index.{IndexFits, IndexDefined};
 ghost use Rattle.used.specs.Defining.{indexRow, Room, Fresh, Here, Walked, Gathered};
 
-// The names, and how many definitions there are.
-pub struct Used {
-    pub names: Names,
-    pub count: usize,
-}
-
-// No name so far, and as many definitions.
+// No name so far; the rest stays.
 fn fresh(used: Used) -> Used
     ensures { λ r. ⌜ Fresh used r ⌝ }
 {
     let none = Names::empty();
-    Used {
-        names: none,
-        count: used.count,
-    }
+    used.with_names(none)
 }
 
-// A row whose first part used the names in `part`: the names in the index of a bracket are defined from these.
+// The names in the index of the bracket w are defined from the names `inner`, from row `count` on; nothing for any other row. Hands back
+// the count of rows.
+fn define_here(
+    tables: &[u16],
+    scope: Scope,
+    statement: usize,
+    w: Row,
+    inner: Names,
+    count: usize,
+    definitions: &mut [u64],
+) -> usize
+    requires { ⌜ Accepted (now tables) × (w .second ≤ getD (now tables) 2 0) × IndexFits (now tables) scope (indexRow w) count (length (now definitions)) ⌝ }
+    ensures { λ r. ⌜ IndexDefined (now (tables .entry)) scope statement (indexRow w) inner (now (definitions .entry)) (now (definitions .exit)) count r ⌝ }
+{
+    let index = index_of(w);
+    if index == 0 {
+        return count;
+    }
+    define_index(tables, scope, statement, index, inner, count, definitions)
+}
+
+// The row w did `own` by itself, and its first part came to `part`, from no name on.
 fn used_here(
     tables: &[u16],
     scope: Scope,
-    extras: Names,
     statement: usize,
     w: Row,
-    used: Used,
+    own: Used,
     part: Used,
     definitions: &mut [u64],
 ) -> Used
-    requires { ⌜ Accepted (now tables) × (w .name < 128) × (w .second ≤ getD (now tables) 2 0) × IndexFits (now tables) scope (indexRow w) (part .count) (length (now definitions)) ⌝ }
-    ensures { λ r. ⌜ Here (now (tables .entry)) scope extras statement w used part (now (definitions .entry)) (now (definitions .exit)) r ⌝ }
+    requires { ⌜ Accepted (now tables) × (w .second ≤ getD (now tables) 2 0) × IndexFits (now tables) scope (indexRow w) (part .count) (length (now definitions)) ⌝ }
+    ensures { λ r. ⌜ Here (now (tables .entry)) scope statement w own part (now (definitions .entry)) (now (definitions .exit)) r ⌝ }
 {
-    let index = index_of(w);
     let inner = part.names;
-    let names = used.names;
-    let count = define_index(
-        tables,
-        scope,
-        statement,
-        index,
-        inner,
-        part.count,
-        definitions,
-    );
-    let own = used_step(tables, scope, extras, w, names);
-    let all = own.union(inner);
-    Used { names: all, count }
+    let count = define_here(tables, scope, statement, w, inner, part.count, definitions);
+    let names = own.names.union(inner);
+    Used {
+        names,
+        count,
+        undefined: part.undefined,
+        reads: part.reads,
+        comprs: part.comprs,
+    }
 }
 
-// What a bracket indexes is walked from no name on, so that the names that it uses are known by themselves.
+// What a bracket indexes is walked from no name on, so that the names that it uses are known by themselves. `firsts` has a word a name.
 fn used_from(
     tables: &[u16],
     scope: Scope,
@@ -72,10 +80,11 @@ fn used_from(
     row: usize,
     rest: bool,
     used: Used,
+    firsts: &mut [u64],
     definitions: &mut [u64],
 ) -> Used
-    requires { ⌜ Accepted (now tables) × (row ≤ getD (now tables) 2 0) × Room (now tables) scope extras statement row rest (used .count) (length (now definitions)) ⌝ }
-    ensures { λ r. ⌜ Walked (now (tables .entry)) scope extras statement row rest used (now (definitions .entry)) (now (definitions .exit)) r ⌝ }
+    requires { ⌜ Accepted (now tables) × (row ≤ getD (now tables) 2 0) × (128 ≤ length (now firsts)) × Room (now tables) scope extras statement row rest (used .count) (length (now definitions)) ⌝ }
+    ensures { λ r. ⌜ Walked (now (tables .entry)) scope extras statement row rest used (now (firsts .entry)) (now (definitions .entry)) r (now (firsts .exit)) (now (definitions .exit)) ⌝ }
 {
     if row == 0 {
         return used;
@@ -83,7 +92,8 @@ fn used_from(
     let w = row_at(tables, row);
     let k = kids_of(w);
     let next = next_of(w, rest);
-    let none = fresh(used);
+    let own = use_row(tables, scope, extras, row, w, used, firsts);
+    let none = fresh(own);
     let part = used_from(
         tables,
         scope,
@@ -92,9 +102,10 @@ fn used_from(
         k.first,
         true,
         none,
+        firsts,
         definitions,
     );
-    let mut s = used_here(tables, scope, extras, statement, w, used, part, definitions);
+    let mut s = used_here(tables, scope, statement, w, own, part, definitions);
     s = used_from(
         tables,
         scope,
@@ -103,6 +114,7 @@ fn used_from(
         k.second,
         true,
         s,
+        firsts,
         definitions,
     );
     s = used_from(
@@ -113,12 +125,24 @@ fn used_from(
         k.third,
         true,
         s,
+        firsts,
         definitions,
     );
-    used_from(tables, scope, extras, statement, next, true, s, definitions)
+    used_from(
+        tables,
+        scope,
+        extras,
+        statement,
+        next,
+        true,
+        s,
+        firsts,
+        definitions,
+    )
 }
 
-// The expression at a row of a statement, with the rest of its chain if `rest`. The definitions are appended from row `count` on.
+// The expression at a row of a statement, with the rest of its chain if `rest`. Its uses enter `firsts`, and the definitions are appended
+// from row `count` on.
 pub fn used_vars(
     tables: &[u16],
     scope: Scope,
@@ -127,13 +151,20 @@ pub fn used_vars(
     row: usize,
     rest: bool,
     count: usize,
+    firsts: &mut [u64],
     definitions: &mut [u64],
 ) -> Used
-    requires { ⌜ Accepted (now tables) × (row ≤ getD (now tables) 2 0) × Room (now tables) scope extras statement row rest count (length (now definitions)) ⌝ }
-    ensures { λ r. ⌜ Gathered (now (tables .entry)) scope extras statement row rest count (now (definitions .entry)) (now (definitions .exit)) r ⌝ }
+    requires { ⌜ Accepted (now tables) × (row ≤ getD (now tables) 2 0) × (128 ≤ length (now firsts)) × Room (now tables) scope extras statement row rest count (length (now definitions)) ⌝ }
+    ensures { λ r. ⌜ Gathered (now (tables .entry)) scope extras statement row rest count (now (firsts .entry)) (now (definitions .entry)) r (now (firsts .exit)) (now (definitions .exit)) ⌝ }
 {
-    let none = Names::empty();
-    let start = Used { names: none, count };
+    let names = Names::empty();
+    let start = Used {
+        names,
+        count,
+        undefined: 0,
+        reads: false,
+        comprs: false,
+    };
     used_from(
         tables,
         scope,
@@ -142,6 +173,7 @@ pub fn used_vars(
         row,
         rest,
         start,
+        firsts,
         definitions,
     )
 }

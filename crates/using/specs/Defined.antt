@@ -1,6 +1,6 @@
--- The uses of an expression whose variables are all defined, where there is no fault.
-use mathlib.Core.Path.{_≡_, refl, sym, _∙_, subst}
-use mathlib.Core.Bool.{Bool, true}
+-- The uses of an expression where there is no fault, once it is walked.
+use mathlib.Core.Path.{_≡_, sym, _∙_, subst}
+use mathlib.Core.Bool.{Bool, true, cond}
 use mathlib.Core.List.{List, _++_}
 use Prim.Native.Nat.{ℕ, _+_, _*_, _≤_}
 use native.Mathlib.Omega.{arith}
@@ -11,18 +11,16 @@ use Rattle.uses.specs.Uses.{readsInput, usedVars, indexDefinitions}
 use Rattle.analysis.specs.States.{State, setScope, addFirstUses, addDefinitions}
 use Rattle.sizes.specs.Leaves.{bracketVars}
 use Rattle.sizes.specs.Using.{index-few}
-use Rattle.gather.specs.declared.scope.Scope.{Scope}
 use Rattle.gather.specs.Sheets.{sheetAt}
 use Rattle.gather.specs.Agrees.{WithFlag}
 use Rattle.gather.specs.Spans.{agrees-flag}
 use Rattle.gather.specs.Exprs.{exprBy}
-use Rattle.used.specs.declared.vars.Used.{Used}
+use Rattle.used.specs.declared.found.Used.{Used}
 use Rattle.used.specs.Own.{Holds}
-use Rattle.used.specs.Firsts.{FirstWalk}
 use Rattle.used.specs.Defining.{Room, Gathered}
 use Rattle.frame.specs.declared.Progress.{Progress}
 use Rattle.frame.specs.Faults.{isSound}
-use Rattle.frame.specs.Held.{held-append}
+use Rattle.frame.specs.Held.{Held, held-append}
 use Rattle.frame.specs.Lent.{back-length, back-appended, back-table}
 use Rattle.frame.specs.Frames.{Whole, Grown, Ready}
 use Rattle.frame.specs.Steps.{agree-whole}
@@ -33,6 +31,14 @@ use Rattle.using.specs.Gathers.{useAll}
 pub record Listed (extras : Names) : Type 0 where
   pub list : List ℕ
   pub holds : Holds extras list
+
+-- What a walk found is taken over.
+pub record Taken (row : ℕ) (p : Progress) (u : Used) (r : Using) : Type 0 where
+  pub flag : WithFlag (p .scope) (u .reads) (r .progress .scope)
+  pub count : r .progress .count ≡ u .count
+  pub fault : r .progress .fault ≡ p .fault
+  pub names : r .names ≡ u .names
+  pub comprs : r .comprs ≡ cond (u .comprs) row 0
 
 module _ (t : List ℕ) (extras : Names) (statement row : ℕ) (rest : Bool) (p : Progress) (firsts work : List ℕ) where
   -- What comes of it, for every list of names that `extras` holds and every state that the code's is.
@@ -74,10 +80,8 @@ module _ (t : List ℕ) (extras : Names) (statement row : ℕ) (rest : Bool) (p 
         low = omega (arith, fits, is, length-take-le e work few);
       }
 
-      module _ (b : Bool) (reads : b ≡ readsInput (sheetAt t) (exprBy t rest row)) (k : Scope) (flag : WithFlag (p .scope) b k)
-          (firsts′ : List ℕ) (walk : FirstWalk t (p .scope) extras row rest firsts firsts′)
-          (ys : List ℕ) (long : length ys ≡ length (take e work)) (u : Used)
-          (g : Gathered t (p .scope) extras statement row rest (p .count) (take e work) ys u) where
+      module _ (firsts′ ys : List ℕ) (long : length ys ≡ length (take e work)) (u : Used)
+          (g : Gathered t (p .scope) extras statement row rest (p .count) firsts (take e work) u firsts′ ys) where
         same : length ys ≡ e
         same = long ∙ length-take-le e work few
 
@@ -85,32 +89,38 @@ module _ (t : List ℕ) (extras : Names) (statement row : ℕ) (rest : Bool) (p 
         count-fits =
             omega (arith, fits, g .total (ready .state .scope) (now-whole .scope .sets) (listed .list) (listed .holds))
 
-        abbrev after : Using
-        after = record { progress = record { scope = k; count = u .count; fault = p .fault }; names = u .names }
-
-        defined-whole : (l : List ℕ) → Holds extras l → (spans : List ℕ) (s : State) → Whole t spans p firsts work s
-            → Whole t spans (after .progress) firsts′ (ys ++ drop e work) (useAll (sheetAt t) statement l (exprBy t rest row) s)
-        unfolding useAll addDefinitions addFirstUses setScope
-        defined-whole l h spans s w = record {
-          scope =
-              agrees-flag (p .scope) spans k (s .scope) (w .scope) (readsInput (sheetAt t) (exprBy t rest row))
-              (subst (λ (c : Bool). WithFlag (p .scope) c k) reads flag);
-          used-first = walk (s .scope) (w .scope .sets) l h (s .firstUses) (w .used-first);
-          rows =
-              held-append work (ys ++ drop e work) (p .count) (s .definitions) (w .rows) (u .count) _
-              (back-appended work ys e few same (p .count) (u .count) _ count-fits (g .rows (s .scope) (w .scope .sets) l h));
-          table = back-table work ys e few same t (s .run .schedules) last (w .table);
-        }
-
-        pub uses-all : UsesDefined after firsts′ (ys ++ drop e work)
-        uses-all =
+        -- The rows that were there stay, whatever the count is said to be.
+        pub rows-stay : (r : Progress) → p .count ≤ r .count → Grown t p work r (ys ++ drop e work)
+        rows-stay r up =
             let rows =
             back-appended work ys e few same (p .count) (u .count) _ count-fits
             (g .rows (ready .state .scope) (now-whole .scope .sets) (listed .list) (listed .holds)) in
-            record {
-              grown = record { long = back-length work ys e few same; up = rows .up; before = rows .before };
-              fault = refl;
-              whole = defined-whole;
-              names = λ l h spans s w. record { has = λ x. sym (g .names (s .scope) (w .scope .sets) l h x) };
-              recorded = λ l h spans s w. g .total (s .scope) (w .scope .sets) l h;
-            }
+            record { long = back-length work ys e few same; up = up; before = rows .before }
+
+        module _ (r : Using) (taken : Taken row p u r) where
+          defined-whole : (l : List ℕ) → Holds extras l → (spans : List ℕ) (s : State) → Whole t spans p firsts work s
+              → Whole t spans (r .progress) firsts′ (ys ++ drop e work) (useAll (sheetAt t) statement l (exprBy t rest row) s)
+          unfolding useAll addDefinitions addFirstUses setScope
+          defined-whole l h spans s w = record {
+            scope =
+                agrees-flag (p .scope) spans (r .progress .scope) (s .scope) (w .scope) (readsInput (sheetAt t) (exprBy t rest row))
+                (subst (λ (c : Bool). WithFlag (p .scope) c (r .progress .scope)) (g .reads) (taken .flag));
+            used-first = g .first (s .scope) (w .scope .sets) l h (s .firstUses) (w .used-first);
+            rows =
+                subst (λ (n : ℕ). Held (ys ++ drop e work) n (s .definitions ++ indexDefinitions (sheetAt t) (s .scope) l statement (exprBy t rest row)))
+                (sym (taken .count))
+                (held-append work (ys ++ drop e work) (p .count) (s .definitions) (w .rows) (u .count) _
+                (back-appended work ys e few same (p .count) (u .count) _ count-fits (g .rows (s .scope) (w .scope .sets) l h)));
+            table = back-table work ys e few same t (s .run .schedules) last (w .table);
+          }
+
+          pub uses-all : UsesDefined r firsts′ (ys ++ drop e work)
+          uses-all =
+              let total = g .total (ready .state .scope) (now-whole .scope .sets) (listed .list) (listed .holds) in
+              record {
+                grown = rows-stay (r .progress) (omega (arith, total, taken .count));
+                fault = taken .fault;
+                whole = defined-whole;
+                names = λ l h spans s w. rw (taken .names) (record { has = λ x. sym (g .names (s .scope) (w .scope .sets) l h x) });
+                recorded = λ l h spans s w. taken .count ∙ g .total (s .scope) (w .scope .sets) l h;
+              }

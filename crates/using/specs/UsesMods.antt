@@ -27,6 +27,7 @@ use Rattle.frame.specs.Faults.{isSound}
 use Rattle.frame.specs.Frames.{guarded, Agree, Runs, runs-then, runs-none, Ready}
 use Rattle.frame.specs.Steps.{ready-less, ready-next}
 use Rattle.using.specs.declared.Using.{Using}
+use Rattle.using.specs.ComprRows.{joining, ComprsAt, comprs-here, comprs-joined}
 use Rattle.using.specs.Gathers.{used-after, useEach}
 use Rattle.using.specs.Defined.{Listed}
 use Rattle.using.specs.UsesVars.{UsesVars}
@@ -46,16 +47,21 @@ module _ (t : List ℕ) (statement : ℕ) where
         → Adds before (concatMap (usedVars (sheetAt t) (s .scope) []) es) (r .names)
     pub sound-before : isSound (r .progress .fault) ≡ true → isSound (p .fault) ≡ true
 
-  abbrev pub UsesMods : ℕ → Progress → Names → List ℕ → List ℕ → Using → List ℕ → List ℕ → Type 0
-  UsesMods row = UsesEach (chainAt t row)
+  -- The chain at a row, and the row of its comprehensions.
+  pub record UsesMods (row : ℕ) (p : Progress) (before : Names) (firsts work : List ℕ) (r : Using) (firsts′ work′ : List ℕ) : Type 0 where
+    pub each : UsesEach (chainAt t row) p before firsts work r firsts′ work′
+    pub comprs : ComprsAt t true row (r .comprs)
 
   module _ (ok : Accepted t) (row : ℕ) where
     pub mods-none : row ≡ 0 → (p : Progress) (before : Names) (firsts work : List ℕ)
-        → UsesMods row p before firsts work (record { progress = p; names = before }) firsts work
-    mods-none z p before firsts work = rw (z, chain-none t ok) (record {
-      runs = runs-none t (λ s. s) (λ s. refl) p firsts work;
-      names = λ spans s a fine. adds-none before;
-      sound-before = λ fine. fine;
+        → UsesMods row p before firsts work (record { progress = p; names = before; comprs = 0 }) firsts work
+    mods-none z p before firsts work = rw z (record {
+      each = rw (chain-none t ok) (record {
+        runs = runs-none t (λ s. s) (λ s. refl) p firsts work;
+        names = λ spans s a fine. adds-none before;
+        sound-before = λ fine. fine;
+      });
+      comprs = comprs-here t true 0;
     })
 
     module _ (some : row ≡ 0 → ⊥) (high : row ≤ getD t 2 0) (p : Progress) (firsts work : List ℕ)
@@ -86,23 +92,26 @@ module _ (t : List ℕ) (statement : ℕ) where
         -- ---- and what they do together
 
         module _ (before all : Names) (union : Union (before .words) (u .names .words) (all .words)) (r : Using) (firsts₂ work₂ : List ℕ)
-            (others : UsesMods next (u .progress) all firsts₁ work₁ r firsts₂ work₂) where
-          together : UsesEach (exprBy t false row ∷ chainAt t next) p before firsts work r firsts₂ work₂
+            (others : UsesMods next (u .progress) all firsts₁ work₁ r firsts₂ work₂) (q : Using) (joined : q ≡ joining r (u .comprs) row) where
+          together : UsesEach (exprBy t false row ∷ chainAt t next) p before firsts work (joining r (u .comprs) row) firsts₂ work₂
           together = record {
             runs =
                 runs-then t (guarded step) (useEach (sheetAt t) statement (chainAt t next)) p (u .progress) (r .progress) firsts firsts₁ firsts₂
-                work work₁ work₂ here-runs (others .runs);
+                work work₁ work₂ here-runs (others .each .runs);
             names = λ spans s a fine.
                 adds-then before all (r .names) (usedVars (sheetAt t) (s .scope) [] (exprBy t false row)) _
                 (adds-union before before (u .names) all [] _ (adds-none before)
-                (here .names [] (holds-none e clear) spans s a (others .sound-before fine)) union)
+                (here .names [] (holds-none e clear) spans s a (others .each .sound-before fine)) union)
                 (subst (λ (f : Tree → List ℕ). Adds all (concatMap f (chainAt t next)) (r .names))
                 (used-after (sheetAt t) statement [] (exprBy t false row) s [])
-                (others .names spans (guarded step s) (here-runs .agrees spans s a) fine));
-            sound-before = λ fine. here .sound-before (others .sound-before fine);
+                (others .each .names spans (guarded step s) (here-runs .agrees spans s a) fine));
+            sound-before = λ fine. here .sound-before (others .each .sound-before fine);
           }
 
-          pub mods-row : UsesMods row p before firsts work r firsts₂ work₂
-          mods-row =
-              subst (λ (es : List Tree). UsesEach es p before firsts work r firsts₂ work₂)
-              (sym (subst (λ (n : ℕ). chainAt t row ≡ exprBy t false row ∷ chainAt t n) (sym is) (chain-row t ok row some high))) together
+          pub mods-row : UsesMods row p before firsts work q firsts₂ work₂
+          mods-row = subst (λ (v : Using). UsesMods row p before firsts work v firsts₂ work₂) (sym joined) (record {
+            each =
+                subst (λ (es : List Tree). UsesEach es p before firsts work (joining r (u .comprs) row) firsts₂ work₂)
+                (sym (subst (λ (n : ℕ). chainAt t row ≡ exprBy t false row ∷ chainAt t n) (sym is) (chain-row t ok row some high))) together;
+            comprs = comprs-joined t ok row some high next is (u .comprs) (r .comprs) (here .comprs) (others .comprs);
+          })

@@ -19,9 +19,10 @@ use Rattle.used.specs.Undefined.{variableAt, Found, Undefined}
 use Rattle.frame.specs.declared.Fault.the-variants.{Undefined as UndefinedAt}
 use Rattle.frame.specs.declared.Progress.{Progress}
 use Rattle.frame.specs.Faults.{isSound, meaning}
-use Rattle.frame.specs.Frames.{failed, guarded, Whole, Agree, Runs, Ready}
-use Rattle.frame.specs.Steps.{guarded-sound, agree-sound, agree-whole, failed-agrees, runs-stays}
+use Rattle.frame.specs.Frames.{failed, guarded, Whole, Agree, Grown, Runs, Ready}
+use Rattle.frame.specs.Steps.{guarded-sound, agree-sound, agree-whole, failed-leaves, runs-stays}
 use Rattle.using.specs.declared.Using.{Using}
+use Rattle.using.specs.ComprRows.{ComprsAt, comprs-here}
 use Rattle.using.specs.Gathers.{useAll, gather-defined, gather-undefined}
 use Rattle.using.specs.Defined.{UsesDefined}
 
@@ -36,14 +37,16 @@ module _ (t : List ℕ) (extras : Names) (statement row : ℕ) (rest : Bool) (p 
         → isSound (r .progress .fault) ≡ true
         → r .progress .count ≡ p .count + length (indexDefinitions (sheetAt t) (s .scope) l statement (exprBy t rest row))
     pub sound-before : isSound (r .progress .fault) ≡ true → isSound (p .fault) ≡ true
+    pub comprs : ComprsAt t rest row (r .comprs)
 
   -- A fault is there already.
-  pub uses-none : isSound (p .fault) ≡ false → (e : Names) → UsesVars (record { progress = p; names = e }) firsts work
+  pub uses-none : isSound (p .fault) ≡ false → (e : Names) → UsesVars (record { progress = p; names = e; comprs = row }) firsts work
   uses-none b e = record {
     runs = λ l h. runs-stays t (gatherUsedVars (sheetAt t) statement l (exprBy t rest row)) p firsts work b;
     names = λ l h spans s a fine. absurd (not-both fine b);
     recorded = λ l h spans s a fine. absurd (not-both fine b);
     sound-before = λ fine. fine;
+    comprs = comprs-here t rest row;
   }
 
   module _ (fine : isSound (p .fault) ≡ true) where
@@ -71,29 +74,32 @@ module _ (t : List ℕ) (extras : Names) (statement row : ℕ) (rest : Bool) (p 
           go zero ne f = absurd (ne refl)
           go (suc n) ne f = f .is
 
-      stops : (e : Names) → UsesVars (record { progress = failed p (UndefinedAt (rowAt t at .line) (rowAt t at .col)); names = e }) firsts work
-      stops e = record {
-        runs = λ l h. record {
-          grown = record { long = refl; up = omega arith; before = λ j low. refl };
-          agrees = λ spans s a.
-              subst (Agree t spans (failed p (UndefinedAt (rowAt t at .line) (rowAt t at .col))) firsts work)
-              (sym (done (gatherUsedVars (sheetAt t) statement l (exprBy t rest row)) spans s a
-              ∙ gather-undefined (sheetAt t) statement l (exprBy t rest row) s (rowAt t at) (variable spans s a)))
-              (failed-agrees t spans p firsts work s a (UndefinedAt (rowAt t at .line) (rowAt t at .col)) refl);
-        };
-        names = λ l h spans s a b. absurd (not-both b refl);
-        recorded = λ l h spans s a b. absurd (not-both b refl);
-        sound-before = λ b. absurd (not-both b refl);
-      }
+      -- What the walk left is not asked after, but for the rows that were there.
+      module _ (firsts′ work′ : List ℕ) (grown : (r : Progress) → p .count ≤ r .count → Grown t p work r work′) where
+        stops : (e : Names) → UsesVars (record { progress = failed p (UndefinedAt (rowAt t at .line) (rowAt t at .col)); names = e; comprs = row }) firsts′ work′
+        stops e = record {
+          runs = λ l h. record {
+            grown = grown (failed p (UndefinedAt (rowAt t at .line) (rowAt t at .col))) (omega arith);
+            agrees = λ spans s a.
+                subst (Agree t spans (failed p (UndefinedAt (rowAt t at .line) (rowAt t at .col))) firsts′ work′)
+                (sym (done (gatherUsedVars (sheetAt t) statement l (exprBy t rest row)) spans s a
+                ∙ gather-undefined (sheetAt t) statement l (exprBy t rest row) s (rowAt t at) (variable spans s a)))
+                (failed-leaves t spans p firsts work firsts′ work′ s a (UndefinedAt (rowAt t at .line) (rowAt t at .col)) refl);
+          };
+          names = λ l h spans s a b. absurd (not-both b refl);
+          recorded = λ l h spans s a b. absurd (not-both b refl);
+          sound-before = λ b. absurd (not-both b refl);
+          comprs = comprs-here t rest row;
+        }
 
-      pub uses-undefined : (q : Progress) → q ≡ failed p (UndefinedAt (rowAt t at .line) (rowAt t at .col))
-          → (e : Names) → UsesVars (record { progress = q; names = e }) firsts work
-      uses-undefined q is e = subst (λ (o : Progress). UsesVars (record { progress = o; names = e }) firsts work) (sym is) (stops e)
+        pub uses-undefined : (q : Progress) → q ≡ failed p (UndefinedAt (rowAt t at .line) (rowAt t at .col))
+            → (e : Names) → UsesVars (record { progress = q; names = e; comprs = row }) firsts′ work′
+        uses-undefined q is e = subst (λ (o : Progress). UsesVars (record { progress = o; names = e; comprs = row }) firsts′ work′) (sym is) (stops e)
 
     -- ---- all are defined
 
     module _ (at : ℕ) (found : Undefined t (p .scope) row rest at) (none-at : at ≡ 0) (r : Using) (firsts′ work′ : List ℕ)
-        (d : UsesDefined t extras statement row rest p firsts work r firsts′ work′) where
+        (d : UsesDefined t extras statement row rest p firsts work r firsts′ work′) (c : ComprsAt t rest row (r .comprs)) where
       defined-agrees : (l : List ℕ) → Holds extras l → (spans : List ℕ) (s : State) → Agree t spans p firsts work s
           → Agree t spans (r .progress) firsts′ work′ (useAll (sheetAt t) statement l (exprBy t rest row) s)
       unfolding useAll addDefinitions addFirstUses setScope
@@ -125,4 +131,5 @@ module _ (t : List ℕ) (extras : Names) (statement row : ℕ) (rest : Bool) (p 
         names = λ l h spans s a b. d .names l h spans s (whole spans s a);
         recorded = λ l h spans s a b. d .recorded l h spans s (whole spans s a);
         sound-before = λ b. fine;
+        comprs = c;
       }

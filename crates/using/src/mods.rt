@@ -28,12 +28,17 @@ pub fn use_mods(
     ensures { λ r. ⌜ UsesMods (now (tables .entry)) statement row p names (now (firsts .entry)) (now (work .entry)) r (now (firsts .exit)) (now (work .exit)) ⌝ }
 {
     if row == 0 {
-        return Using { progress: p, names };
+        return Using {
+            progress: p,
+            names,
+            comprs: 0,
+        };
     }
     let next = next_at(tables, row);
     let none = Names::empty();
     let used = use_vars(tables, none, statement, row, false, p, firsts, work);
     let progress = used.progress;
     let all = names.union(used.names);
-    use_mods(tables, statement, next, progress, all, firsts, work)
+    let others = use_mods(tables, statement, next, progress, all, firsts, work);
+    others.after(used.comprs, row)
 }

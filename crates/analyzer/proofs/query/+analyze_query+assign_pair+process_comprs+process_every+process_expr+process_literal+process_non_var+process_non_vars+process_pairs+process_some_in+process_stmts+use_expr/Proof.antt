@@ -258,7 +258,7 @@ pub +analyze-query+assign-pair+process-comprs+process-every+process-expr+process
     (process-stmts-needs.returns m)
     (process-stmts-needs.statement-at-requires m)
     (process-stmts-needs.empty-requires m)
-    (process-stmts-needs.cast-mods m)
+    (process-stmts-needs.cast-use-mods m)
     (process-stmts-needs.use-mods-requires m)
     (process-stmts-needs.process-literal-requires m)
     (process-stmts-needs.at-least-one-requires m)

@@ -1,4 +1,4 @@
--- The walk starts with no name.
+-- The walk starts with nothing found.
 use borrow.Author.Needs.{needs}
 use Rattle.used.specs.Defining.{gathered}
 use Rattle.used.proofs.vars.used_vars.Statement.{statement}
@@ -13,10 +13,14 @@ used-from-requires c κs = search needs
 same-length : tie.Need-same-length
 same-length c = search needs
 
+same-length-2 : tie.Need-same-length-2
+same-length-2 c = search needs
+
 returns : tie.Need-returns
 returns c =
-    let start = c .before .before .before .before .before .before .before in
-    gathered _ _ _ _ (start .args .row) (start .args .rest) _ _ (c .before .before .before .before .empty .ensures) _ _ _ (c .before .before .used-from .ensures)
+    let start = c .before .before .before .before .before .before .before .before .before .before .before in
+    gathered _ _ _ _ (start .args .row) (start .args .rest) _ _ (c .before .before .before .before .before .before .before .empty .ensures) _ _ _ _ _ (c .before .before .before .before .used-from .ensures)
 
 pub used-vars-spec : {M : Type 1} → statement M
-used-vars-spec = tie.close (tie.spec empty-requires used-from-requires same-length returns)
+used-vars-spec =
+    tie.close (tie.spec empty-requires used-from-requires same-length same-length-2 returns)

@@ -12,6 +12,7 @@ use Rattle.using.proofs.mods.+use_mods.Lts-use_mods as lts
 use Rattle.gather.proofs.each.next_at.Reads as next-at-reads
 use Rattle.names.proofs.Names.empty.Reads as empty-reads
 use Rattle.names.proofs.Names.union.Reads as union-reads
+use Rattle.using.proofs.Using.after.Reads as after-reads
 use Rattle.using.proofs.vars.use_vars.Reads as use-vars-reads
 use Rattle.using.proofs.mods.+use_mods.{statement}
 use Rattle.using.proofs.mods.+use_mods.Tie.{close}
@@ -37,6 +38,8 @@ known m = (
   union-reads.Learnt,
   below m,
   use-mods.Post,
+  after-reads.Asked,
+  after-reads.Learnt,
 )
 
 returns : (m : ℕ) → lts.Need-returns (known m) (here m) use-mods.Post
@@ -88,15 +91,18 @@ next-requires m c κs =
       ),
     )
 
+after-requires : (m : ℕ) → lts.Need-after-requires (known m) (here m) use-mods.Post
+after-requires m c κs = search needs
+
 same-length : (m : ℕ) → lts.Need-same-length (known m) (here m) use-mods.Post
-same-length m c = search needs
+same-length m c = omega (arith, c .before .before .before .before .before .before .before .before .before .before .before .before .before .before .use-vars .kept .1 .1 .1 .1 .1 .1 .0, c .before .before .before .before .before .use-mods .kept .1 .1 .1 .1 .1 .0)
 
 same-length-2 : (m : ℕ) → lts.Need-same-length-2 (known m) (here m) use-mods.Post
-same-length-2 m c = search needs
+same-length-2 m c = omega (arith, c .before .before .before .before .before .before .before .before .before .before .before .before .before .before .use-vars .kept .1 .1 .1 .1 .1 .1 .1 .0, c .before .before .before .before .before .use-mods .kept .1 .1 .1 .1 .1 .1 .0)
 
 returns-2 : (m : ℕ) → lts.Need-returns-2 (known m) (here m) use-mods.Post
 returns-2 m c =
-    let others = c .before .before .before .before in
+    let others = c .before .before .before .before .before in
     let both = others .before .before .before in
     let used = both .before .before .before .before .before .before in
     let none = used .before .before .before in
@@ -106,7 +112,7 @@ returns-2 m c =
     let a = start .args in
     let pre = start .pre .1 in
     mods-row (a .tables .now) (a .statement) (pre .0) (a .row) (else .if1 .left) (pre .1) (a .p) (a .firsts .now) (a .work .now) (pre .3) _ (none .empty .ensures) _ _ _ (used .use-vars .ensures) _ (next .next-at .ensures)
-    (a .names) _ (both .union .ensures) _ _ _ (others .use-mods .ensures)
+    (a .names) _ (both .union .ensures) _ _ _ (others .use-mods .ensures) _ (c .after .ensures)
 
 pub +use-mods-spec : {M : Type 1} → statement M
 +use-mods-spec = close μ λ m.
@@ -117,6 +123,7 @@ pub +use-mods-spec : {M : Type 1} → statement M
     (use-vars-requires m)
     (union-requires m)
     (next-requires m)
+    (after-requires m)
     (same-length m)
     (same-length-2 m)
     (returns-2 m)

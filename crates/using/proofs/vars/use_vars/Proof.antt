@@ -1,11 +1,25 @@
--- A fault before it, a fault in it, or none.
-use mathlib.Core.Path.{_≡_, sym, _∙_}
+-- A fault before it, a fault in it, or none. The definitions are appended to what lies in front of the table.
+use mathlib.Core.Path.{_≡_, refl, sym, _∙_}
 use mathlib.Core.Bool.{true}
+use Prim.Native.Nat.{ℕ, _+_, _-_}
+use native.Mathlib.Omega.{arith}
+use lib.ListN.{length}
+use lib.Seq.{length-take-le}
 use borrow.Author.Needs.{needs}
 use Rattle.frame.specs.Faults.{isSound}
+use Rattle.using.specs.ComprRows.{comprs-if}
+use Rattle.using.specs.Defined.{defined-room, rows-stay, uses-all}
 use Rattle.using.specs.UsesVars.{uses-none, undefined-low, uses-undefined, uses-defined}
 use Rattle.using.proofs.vars.use_vars.Statement.{statement}
 use Rattle.using.proofs.vars.use_vars.Tie as tie
+
+-- How many words lie in front of the table.
+front : tie.Start → ℕ
+front start = length (start .args .work .now) - 4736
+
+front-last : (start : tie.Start) → front start + 4736 ≡ length (start .args .work .now)
+unfolding front
+front-last start = omega (arith, start .pre .3 .room)
 
 fine : (k : tie.Then1) → isSound (k .before .before .before .before .before .args .p .fault) ≡ true
 fine k = sym (k .before .is-sound .ensures) ∙ k .if1 .taken
@@ -13,14 +27,34 @@ fine k = sym (k .before .is-sound .ensures) ∙ k .if1 .taken
 is-sound-requires : tie.Need-is-sound-requires
 is-sound-requires c κs = search needs
 
-undefined-var-requires : tie.Need-undefined-var-requires
-undefined-var-requires c κs = search needs
+sub-end : tie.Need-sub-end
+sub-end c =
+    let start = c .before .before .before .before .before .before in
+    omega (arith, start .pre .3 .room)
+
+slice-relend-prefix-used-vars : tie.Need-slice-relend-prefix-used-vars
+slice-relend-prefix-used-vars c = search needs
+
+slice-aggregate-used-vars : tie.Need-slice-aggregate-used-vars
+slice-aggregate-used-vars c =
+    let start = c .before .before .before .before .before .before .before .before in
+    sym (length-take-le (length (start .args .work .now) - 4736) (start .args .work .now) (omega arith))
+
+used-vars-requires : tie.Need-used-vars-requires
+unfolding front
+used-vars-requires c κs =
+    let k = c .before .before .before in
+    let start = k .before .before .before .before .before in
+    let a = start .args in
+    let pre = start .pre in (
+      pre .0,
+      pre .1,
+      pre .2,
+      defined-room (a .tables .now) (a .extras) (a .statement) (a .row) (a .rest) (a .p) (a .firsts .now) (a .work .now) (pre .3) (fine k) (pre .4) (front start) (front-last start) _ refl,
+    )
 
 use-defined-requires : tie.Need-use-defined-requires
-use-defined-requires c κs =
-    let k = c .before .before .before .before .before in
-    let pre = k .before .before .before .before .before .pre in
-    (pre .0, pre .1, pre .2, pre .3, fine k, pre .4)
+use-defined-requires c κs = search needs
 
 same-length : tie.Need-same-length
 same-length c = search needs
@@ -29,32 +63,48 @@ same-length-2 : tie.Need-same-length-2
 same-length-2 c = search needs
 
 returns : tie.Need-returns
+unfolding front
 returns c =
-    let u = c .before .before .before .before in
-    let k = u .before .before .before .before .before .before in
-    let a = k .before .before .before .before .before .args in
-    uses-defined (a .tables .now) (a .extras) (a .statement) (a .row) (a .rest) (a .p) (a .firsts .now) (a .work .now) (fine k) _
-    (u .before .before .before .before .undefined-var .ensures) (u .before .before .before .if2 .taken) _ _ _ (u .use-defined .ensures)
+    let u = c .before .before .before .before .before .before .before in
+    let k = u .before .before .before .before in
+    let start = k .before .before .before .before .before in
+    let a = start .args in
+    let pre = start .pre in
+    uses-defined (a .tables .now) (a .extras) (a .statement) (a .row) (a .rest) (a .p) (a .firsts .now) (a .work .now) (fine k) _ (u .used-vars .ensures .undefined) (c .before .if2 .taken) _ _ _
+    (uses-all (a .tables .now) (a .extras) (a .statement) (a .row) (a .rest) (a .p) (a .firsts .now) (a .work .now) (pre .3) (fine k) (pre .4) (front start) (front-last start)
+    _ _ (u .used-vars .kept .1 .1 .1 .1 .1 .1 .1 .1 .0) _ (u .used-vars .ensures) _ (c .use-defined .ensures))
+    (comprs-if (a .tables .now) (pre .0) _ (a .rest) (a .row) _ (c .use-defined .ensures .comprs) (u .used-vars .ensures .comprs))
 
 empty-requires : tie.Need-empty-requires
 empty-requires c κs = search needs
 
 fail-undefined-requires : tie.Need-fail-undefined-requires
 fail-undefined-requires c κs =
-    let k = c .before .before .before .before in
+    let u = c .before .before .before .before .before .before .before in
+    let k = u .before .before .before .before in
     let start = k .before .before .before .before .before in
     let a = start .args in (
       start .pre .0 .room,
-      undefined-low (a .tables .now) (a .extras) (a .statement) (a .row) (a .rest) (a .p) (a .firsts .now) (a .work .now) (fine k) _ (start .pre .3) (start .pre .0) _
-          (c .before .before .undefined-var .ensures),
+      undefined-low (a .tables .now) (a .extras) (a .statement) (a .row) (a .rest) (a .p) (a .firsts .now) (a .work .now) (fine k) _ (start .pre .3) (start .pre .0) _ (u .used-vars .ensures .undefined),
     )
 
+same-length-3 : tie.Need-same-length-3
+same-length-3 c = search needs
+
+same-length-4 : tie.Need-same-length-4
+same-length-4 c = search needs
+
 returns-2 : tie.Need-returns-2
+unfolding front
 returns-2 c =
-    let k = c .before .before .before .before .before in
-    let a = k .before .before .before .before .before .args in
-    uses-undefined (a .tables .now) (a .extras) (a .statement) (a .row) (a .rest) (a .p) (a .firsts .now) (a .work .now) (fine k) _
-    (c .before .before .before .undefined-var .ensures) (c .before .before .if2 .left) _ (c .fail-undefined .ensures) _
+    let u = c .before .before .before .before .before .before .before .before in
+    let k = u .before .before .before .before in
+    let start = k .before .before .before .before .before in
+    let a = start .args in
+    let pre = start .pre in
+    uses-undefined (a .tables .now) (a .extras) (a .statement) (a .row) (a .rest) (a .p) (a .firsts .now) (a .work .now) (fine k) _ (u .used-vars .ensures .undefined) (c .before .before .if2 .left) _ _
+    (rows-stay (a .tables .now) (a .extras) (a .statement) (a .row) (a .rest) (a .p) (a .firsts .now) (a .work .now) (pre .3) (fine k) (pre .4) (front start) (front-last start)
+    _ _ (u .used-vars .kept .1 .1 .1 .1 .1 .1 .1 .1 .0) _ (u .used-vars .ensures)) _ (c .fail-undefined .ensures) _
 
 empty-requires-2 : tie.Need-empty-requires-2
 empty-requires-2 c κs = search needs
@@ -62,21 +112,25 @@ empty-requires-2 c κs = search needs
 returns-3 : tie.Need-returns-3
 returns-3 c =
     let a = c .before .before .before .before .before .before .args in
-    uses-none (a .tables .now) (a .extras) (a .statement) (a .row) (a .rest) (a .p) (a .firsts .now) (a .work .now)
-    (sym (c .before .before .is-sound .ensures) ∙ c .before .if1 .left) _
+    uses-none (a .tables .now) (a .extras) (a .statement) (a .row) (a .rest) (a .p) (a .firsts .now) (a .work .now) (sym (c .before .before .is-sound .ensures) ∙ c .before .if1 .left) _
 
 pub use-vars-spec : {M : Type 1} → statement M
 use-vars-spec =
     tie.close
     (tie.spec
     is-sound-requires
-    undefined-var-requires
+    sub-end
+    slice-relend-prefix-used-vars
+    slice-aggregate-used-vars
+    used-vars-requires
     use-defined-requires
     same-length
     same-length-2
     returns
     empty-requires
     fail-undefined-requires
+    same-length-3
+    same-length-4
     returns-2
     empty-requires-2
     returns-3)

@@ -1,10 +1,12 @@
 -- `process_non_var`.
 use mathlib.Core.Path.{_∙_}
+use mathlib.Core.Bool.{false}
 use Prim.Native.Nat.{ℕ}
 use native.Mathlib.Omega.{arith}
 use borrow.Author.Needs.{needs}
 use Rattle.gather.specs.Walking.{few-remain}
 use Rattle.using.specs.UsesMods.{listed-none}
+use Rattle.analyzer.specs.ComprRows.{at-low}
 use Rattle.analyzer.specs.NonVarSteps.{non-var-none, asks-use, asks-own, asks-mods, non-var-does}
 use Rattle.analyzer.proofs.query.process_comprs.Reads as process-comprs
 use Rattle.analyzer.proofs.query.process_non_var.Reads as process-non-var
@@ -60,12 +62,12 @@ process-comprs-requires m c κs =
     let start = else .before .before .before .before .before in
     let a = start .args in
     let pre = start .pre .1 in (
-      omega (arith, start .pre .0, few-remain (a .tables .now) (pre .0) (a .row)),
+      omega (arith, start .pre .0, few-remain (a .tables .now) (pre .0) (used .use-vars .result .comprs)),
       (
         pre .0,
         pre .1,
         omega (arith, pre .2, used .use-vars .kept .1 .1 .1 .1 .1 .1 .0),
-        pre .3,
+        at-low (a .tables .now) false (a .row) _ (used .use-vars .ensures .comprs) (pre .3),
         asks-own (a .tables .now) (a .inner .now) (a .row) (else .if1 .left) (a .context) (a .p) (a .firsts .now) (a .work .now) _ (none .empty .ensures) _ _ _
             (used .use-vars .ensures) _ (failed .fail-if-some .ensures) (pre .4),
       ),

@@ -44,8 +44,8 @@ statement-at-requires m c κs =
 pub empty-requires : (m : ℕ) → process-stmts-lts.Need-empty-requires (known m) (process-stmts-at m) process-stmts.Post
 empty-requires m c κs = search needs
 
-pub cast-mods : (m : ℕ) → process-stmts-lts.Need-cast-mods (known m) (process-stmts-at m) process-stmts.Post
-cast-mods m c = search needs
+pub cast-use-mods : (m : ℕ) → process-stmts-lts.Need-cast-use-mods (known m) (process-stmts-at m) process-stmts.Post
+cast-use-mods m c = search needs
 
 pub use-mods-requires : (m : ℕ) → process-stmts-lts.Need-use-mods-requires (known m) (process-stmts-at m) process-stmts.Post
 use-mods-requires m c κs =

@@ -2,6 +2,7 @@
 use Prim.Native.Nat.{ℕ}
 use native.Mathlib.Omega.{arith}
 use Rattle.gather.specs.Walking.{few-remain}
+use Rattle.analyzer.specs.ComprRows.{at-low}
 use Rattle.analyzer.specs.UseExprs.{use-ready, use-room, own-asks, mods-asks, does-use}
 use Rattle.analyzer.proofs.query.process_comprs.Reads as process-comprs
 use Rattle.analyzer.proofs.query.use_expr.Reads as use-expr
@@ -31,12 +32,12 @@ process-comprs-requires m c κs =
     let u = c .before .before .before .before .before .before .before .before in
     let start = u .before .before .before .before .before .before .before in
     let pre = start .pre .1 in (
-      omega (arith, start .pre .0, few-remain _ (pre .0) (start .args .row)),
+      omega (arith, start .pre .0, few-remain _ (pre .0) (u .use-vars .result .comprs)),
       (
         pre .0,
         pre .1,
         omega (arith, pre .2, u .use-vars .kept .1 .1 .1 .1 .1 .1 .0),
-        pre .3,
+        at-low _ (start .args .rest) _ _ (u .use-vars .ensures .comprs) (pre .3),
         own-asks _ _ _ _ (start .args .rest) _ _ _ _ (pre .5) (pre .4) _ _ _ (u .use-vars .ensures),
       ),
     )
@@ -65,7 +66,7 @@ all-used-requires m c κs =
     let start = u .before .before .before .before .before .before .before in
     let pre = start .pre .1 in (
       pre .0,
-      pre .3,
+      at-low _ (start .args .rest) _ _ (u .use-vars .ensures .comprs) (pre .3),
       pre .5 .mods-low,
       omega (
         arith,
