@@ -1,65 +1,88 @@
 -- One scope more around a nested query.
-use mathlib.Core.Path.{_≡_, refl, sym, ap, _∙_, subst}
+use mathlib.Core.Path.{_≡_, refl, sym, ap, _∙_}
 use mathlib.Core.Bool.{Bool, true, false, cond, _||_}
 use mathlib.Core.List.{List, _∷_}
 use mathlib.Core.Logic.{_⊎_, inl, inr}
 use mathlib.Core.Option.{Option, none, some}
-use Prim.Native.Nat.{ℕ, suc, _+_, _/_, _≤_, _<_}
+use Prim.Native.Nat.{ℕ, _+_, _/_, _≤_, _<_, min}
 use native.Mathlib.Omega.{arith}
-use lib.Dec.{leb, ltb}
+use lib.Dec.{leb}
 use lib.ListN.{length, getD, set}
 use lib.Seq.{getD-set-same, getD-set-other}
-use borrow.Author.Tests.{le-leb, lt-leb, lt-ltb, le-ltb}
+use borrow.Author.Tests.{le-leb, lt-leb}
 use Rattle.basics.specs.Truth.{lt-cases, eq-cases}
 use Rattle.names.specs.Sets.{member}
 use Rattle.trees.specs.declared.Row.{Row}
 use Rattle.trees.specs.Lists.{isSome}
 use Rattle.scopes.specs.NameSets.{contains}
 use Rattle.scopes.specs.Scopes as spec
-use Rattle.scopes.specs.Scopes.{Span, spanIn, isLocal, notBelow, varExists}
+use Rattle.scopes.specs.Scopes.{Span, spanIn, notBelow, varExists}
 use Rattle.gather.specs.declared.scope.Scope.{Scope}
 use Rattle.gather.specs.Agrees.{Sets}
 use Rattle.gather.specs.Outers.{Outer}
 use Rattle.gather.specs.Spans.{Placed, Agrees}
+use Rattle.gather.specs.Changes.{Changed}
 
 -- The least line from which on a name exists, with a scope in which it may be a local at a line.
-unfoldable pub leastLine : Scope → ℕ → ℕ → ℕ → ℕ
-leastLine k x outer line =
-    cond (member (k .unscoped .words) x) 0 (cond (member (k .locals .words) x) (cond (ltb line outer) line outer) outer)
+unfoldable leastLine : Scope → ℕ → ℕ → ℕ → ℕ
+leastLine k x outer line = cond (member (k .unscoped .words) x) 0 (cond (member (k .locals .words) x) (min line outer) outer)
 
 -- Each local of s stands at the line that its word says.
 abbrev pub Lined : List ℕ → spec.Scope → Type 0
 Lined spans s = (x : ℕ) (p : Span) → spanIn (s .locals) x ≡ some p → getD spans x 0 / 65536 ≡ p .line
 
--- The numbers of names below n are those with the scope k.
-abbrev pub EnclosedTo : List ℕ → Scope → List ℕ → ℕ → List ℕ → Type 0
-EnclosedTo outer k spans n inner = (x : ℕ) → x < n → getD inner x 0 ≡ leastLine k x (getD outer x 0) (getD spans x 0 / 65536)
+-- The numbers of names are those with the scope k.
+abbrev LeastLines : List ℕ → Scope → List ℕ → List ℕ → Type 0
+LeastLines outer k spans inner = (x : ℕ) → x < 128 → getD inner x 0 ≡ leastLine k x (getD outer x 0) (getD spans x 0 / 65536)
 
-pub enclosed-more : (outer : List ℕ) (k : Scope) (spans inner : List ℕ) (n : ℕ) → n < length inner → EnclosedTo outer k spans n inner
-    → EnclosedTo outer k spans (n + 1) (set inner n (leastLine k n (getD outer n 0) (getD spans n 0 / 65536)))
-enclosed-more outer k spans inner n room h x low = go (eq-cases x n)
+-- ---- the three steps of the code
+
+-- The numbers of names below n are copied.
+pub record Copied (outer : List ℕ) (n : ℕ) (inner : List ℕ) : Type 0 where
+  pub has : (x : ℕ) → x < n → getD inner x 0 ≡ getD outer x 0
+
+pub copied-none : (outer inner : List ℕ) → Copied outer 0 inner
+copied-none outer inner = record { has = λ x low. absurd (omega arith) }
+
+pub copied-more : (outer inner : List ℕ) (n : ℕ) → n < length inner → Copied outer n inner → Copied outer (n + 1) (set inner n (getD outer n 0))
+copied-more outer inner n room h = record { has = λ x low. go x low (eq-cases x n) }
   where
-    go : (x ≡ n) ⊎ (x ≡ n → ⊥)
-        → getD (set inner n (leastLine k n (getD outer n 0) (getD spans n 0 / 65536))) x 0 ≡ leastLine k x (getD outer x 0) (getD spans x 0 / 65536)
-    go (inl e) =
-        ap (λ (i : ℕ). getD (set inner n (leastLine k n (getD outer n 0) (getD spans n 0 / 65536))) i 0) e ∙ getD-set-same inner n _ 0 room
-        ∙ ap (λ (i : ℕ). leastLine k i (getD outer i 0) (getD spans i 0 / 65536)) (sym e)
-    go (inr ne) = getD-set-other inner n x _ 0 ne ∙ h x (omega arith)
+    go : (x : ℕ) → x < n + 1 → (x ≡ n) ⊎ (x ≡ n → ⊥) → getD (set inner n (getD outer n 0)) x 0 ≡ getD outer x 0
+    go x low (inl e) = rw e (getD-set-same inner n (getD outer n 0) 0 room)
+    go x low (inr ne) = getD-set-other inner n x (getD outer n 0) 0 ne ∙ h .has x (omega arith)
+
+pub copied-all : (outer inner : List ℕ) (n : ℕ) → n ≤ 128 → 128 ≤ n → Copied outer n inner → Copied outer 128 inner
+copied-all outer inner n high low h = record { has = λ x under. h .has x (omega arith) }
+
+-- A local exists from its line on.
+abbrev pub lowered : List ℕ → ℕ → ℕ → ℕ
+lowered spans x v = min (getD spans x 0 / 65536) v
+
+abbrev pub Lowered : List ℕ → List ℕ → List ℕ → List ℕ → Type 0
+Lowered locals spans = Changed locals (lowered spans)
+
+-- An unscoped name exists at every line.
+abbrev pub cleared : ℕ → ℕ → ℕ
+cleared x v = 0
+
+abbrev pub Cleared : List ℕ → List ℕ → List ℕ → Type 0
+Cleared unscoped = Changed unscoped cleared
+
+least-lines : (outer : List ℕ) (k : Scope) (spans a b inner : List ℕ) → Copied outer 128 a → Lowered (k .locals .words) spans a b
+    → Cleared (k .unscoped .words) b inner → LeastLines outer k spans inner
+unfolding leastLine
+least-lines outer k spans a b inner copied low clear x h = rw (clear .has x h, low .has x h, copied .has x h)
 
 -- ---- what a variable finds
 
 -- The lesser of two is at most a number exactly if one of them is.
-least-of : (a b n : ℕ) → leb (cond (ltb a b) a b) n ≡ (leb a n || leb b n)
-least-of a b n = go (lt-cases a b) (lt-cases n a) (lt-cases n b)
+least-of : (a b n : ℕ) → leb (min a b) n ≡ (leb a n || leb b n)
+least-of a b n = go (lt-cases n a) (lt-cases n b)
   where
-    go : (a < b) ⊎ (b ≤ a) → (n < a) ⊎ (a ≤ n) → (n < b) ⊎ (b ≤ n) → leb (cond (ltb a b) a b) n ≡ (leb a n || leb b n)
-    go (inl h) (inl p) (inl q) = rw (lt-ltb a b h, lt-leb a n p, lt-leb b n q)
-    go (inl h) (inl p) (inr q) = absurd (omega arith)
-    go (inl h) (inr p) q = rw (lt-ltb a b h, le-leb a n p)
-    go (inr h) (inl p) (inl q) = rw (le-ltb a b h, lt-leb a n p, lt-leb b n q)
-    go (inr h) (inl p) (inr q) = rw (le-ltb a b h, lt-leb a n p, le-leb b n q)
-    go (inr h) (inr p) (inl q) = absurd (omega arith)
-    go (inr h) (inr p) (inr q) = rw (le-ltb a b h, le-leb a n p, le-leb b n q)
+    go : (n < a) ⊎ (a ≤ n) → (n < b) ⊎ (b ≤ n) → leb (min a b) n ≡ (leb a n || leb b n)
+    go (inl p) (inl q) = rw (lt-leb a n p, lt-leb b n q) (lt-leb (min a b) n (omega arith))
+    go (inl p) (inr q) = rw (lt-leb a n p, le-leb b n q) (le-leb (min a b) n (omega arith))
+    go (inr p) q = rw (le-leb a n p) (le-leb (min a b) n (omega arith))
 
 module _ (k : Scope) (s : spec.Scope) (a : Sets k s) (w : Row) where
   found-least : (spans : List ℕ) → Lined spans s → (outer : ℕ) → w .line < 65536
@@ -70,7 +93,7 @@ module _ (k : Scope) (s : spec.Scope) (a : Sets k s) (w : Row) where
       rw (a .unscoped (w .name)) (go (member (k .unscoped .words) (w .name)) (spanIn (s .locals) (w .name)) refl (a .locals (w .name)))
     where
       go : (u : Bool) (o : Option Span) → spanIn (s .locals) (w .name) ≡ o → isSome o ≡ member (k .locals .words) (w .name)
-          → leb (cond u 0 (cond (member (k .locals .words) (w .name)) (cond (ltb (getD spans (w .name) 0 / 65536) outer) (getD spans (w .name) 0 / 65536) outer) outer)) (w .line)
+          → leb (cond u 0 (cond (member (k .locals .words) (w .name)) (min (getD spans (w .name) 0 / 65536) outer) outer)) (w .line)
           ≡ (u || (notBelow o w || leb outer (w .line)))
       go true o is l = le-leb 0 (w .line) (omega arith)
       go false none is l = rw (sym l)
@@ -82,7 +105,7 @@ abbrev pub Encloses : List ℕ → Scope → List ℕ → List ℕ → Type 0
 Encloses outer k spans inner =
     (parents : List spec.Scope) → Outer outer parents → (s : spec.Scope) → Sets k s → Lined spans s → Outer inner (s ∷ parents)
 
-encloses-at : (outer : List ℕ) (k : Scope) (spans inner : List ℕ) → EnclosedTo outer k spans 128 inner → (parents : List spec.Scope)
+encloses-at : (outer : List ℕ) (k : Scope) (spans inner : List ℕ) → LeastLines outer k spans inner → (parents : List spec.Scope)
     → Outer outer parents → (s : spec.Scope) → Sets k s → Lined spans s → (w : Row) → w .name < 128 → w .line < 65536
     → varExists (s ∷ parents) w ≡ leb (getD inner (w .name) 0) (w .line)
 unfolding varExists
@@ -90,9 +113,11 @@ encloses-at outer k spans inner h parents o s a lined w low line =
     ap (λ (b : Bool). contains (s .unscoped) (w .name) || (notBelow (spanIn (s .locals) (w .name)) w || b)) (o .has w low line)
     ∙ sym (found-least k s a w spans lined (getD outer (w .name) 0) line) ∙ sym (ap (λ (n : ℕ). leb n (w .line)) (h (w .name) low))
 
-pub encloses : (outer : List ℕ) (k : Scope) (spans inner : List ℕ) → EnclosedTo outer k spans 128 inner → Encloses outer k spans inner
-encloses outer k spans inner h parents o s a lined =
-    record { has = λ w low line. encloses-at outer k spans inner h parents o s a lined w low line }
+pub encloses : (outer : List ℕ) (k : Scope) (spans a b inner : List ℕ) → Copied outer 128 a → Lowered (k .locals .words) spans a b
+    → Cleared (k .unscoped .words) b inner → Encloses outer k spans inner
+encloses outer k spans a b inner copied low clear parents o s agrees lined = record {
+  has = λ w name line. encloses-at outer k spans inner (least-lines outer k spans a b inner copied low clear) parents o s agrees lined w name line;
+}
 
 -- ---- with the words of the locals
 

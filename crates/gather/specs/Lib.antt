@@ -2,6 +2,7 @@ pub mod Sheets
 pub mod Exprs
 pub mod Agrees
 pub mod Outers
+pub mod Changes
 pub mod Enclosing
 pub mod Walking
 pub mod Inputs

@@ -1,27 +1,52 @@
 // The scopes around a nested query: those around the query that it stands in, and that query's own.
+// Most names are in neither set of a scope, so all are copied at once, and then the members alone are visited.
 
 use crate::scope::Scope;
 use names::CAPACITY;
+use names::Names;
 ghost use mathlib.Core.Path.{_≡_};
-ghost use Prim.Native.Nat.{_≤_, _<_};
-ghost use lib.ListN.{length, getD};
-ghost use Rattle.gather.specs.Enclosing.{leastLine, Encloses};
+ghost use Prim.Native.Nat.{_≤_, min};
+ghost use lib.ListN.{length};
+ghost use Rattle.gather.specs.Enclosing.{Copied, Lowered, Cleared, Encloses};
 
-// The least line from which on a name exists, with one scope more: always where it is unscoped, from its line on where it is a local.
-fn least_line(scope: Scope, name: usize, outer: u64, line: u64) -> u64
-    requires { ⌜ name < 128 ⌝ }
-    ensures { λ r. ⌜ r ≡ leastLine scope name outer line ⌝ }
+fn lesser(a: u64, b: u64) -> u64
+    ensures { λ r. ⌜ r ≡ min a b ⌝ }
 {
-    if scope.unscoped.contains(name) {
-        return 0;
+    if a < b { a } else { b }
+}
+
+// `to` receives the number of each name.
+fn copy(from: &[u64], to: &mut [u64])
+    requires { ⌜ (128 ≤ length (now from)) × (128 ≤ length (now to)) ⌝ }
+    ensures { λ _. ⌜ Copied (now (from .entry)) 128 (now (to .exit)) ⌝ }
+{
+    for name in 0..CAPACITY {
+        to[name] = from[name];
     }
-    if !scope.locals.contains(name) {
-        return outer;
+}
+
+// A local exists from its line on, where it did not before.
+fn lower_locals(locals: Names, spans: &[u64], inner: &mut [u64])
+    requires { ⌜ (128 ≤ length (now spans)) × (128 ≤ length (now inner)) ⌝ }
+    ensures { λ _. ⌜ Lowered (locals .words) (now (spans .entry)) (now (inner .entry)) (now (inner .exit)) ⌝ }
+{
+    let mut name = locals.next(0);
+    while name < CAPACITY {
+        inner[name] = lesser(spans[name] / 65536, inner[name]);
+        name = locals.next(name + 1);
     }
-    if line < outer {
-        return line;
+}
+
+// An unscoped name exists at every line.
+fn clear_unscoped(unscoped: Names, inner: &mut [u64])
+    requires { ⌜ 128 ≤ length (now inner) ⌝ }
+    ensures { λ _. ⌜ Cleared (unscoped .words) (now (inner .entry)) (now (inner .exit)) ⌝ }
+{
+    let mut name = unscoped.next(0);
+    while name < CAPACITY {
+        inner[name] = 0;
+        name = unscoped.next(name + 1);
     }
-    outer
 }
 
 // `inner` receives what `outer` is, with the scope that has its locals at `spans`.
@@ -29,7 +54,7 @@ pub fn enclose(outer: &[u64], scope: Scope, spans: &[u64], inner: &mut [u64])
     requires { ⌜ (128 ≤ length (now outer)) × (128 ≤ length (now spans)) × (128 ≤ length (now inner)) ⌝ }
     ensures { λ _. ⌜ Encloses (now (outer .entry)) scope (now (spans .entry)) (now (inner .exit)) ⌝ }
 {
-    for name in 0..CAPACITY {
-        inner[name] = least_line(scope, name, outer[name], spans[name] / 65536);
-    }
+    copy(outer, inner);
+    lower_locals(scope.locals, spans, inner);
+    clear_unscoped(scope.unscoped, inner);
 }
