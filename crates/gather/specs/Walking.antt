@@ -2,7 +2,7 @@
 use mathlib.Core.Path.{_≡_, subst}
 use mathlib.Core.Bool.{Bool, true, false, cond}
 use mathlib.Core.List.{List}
-use mathlib.Core.Logic.{inl}
+use mathlib.Core.Logic.{_⊎_, inl, inr}
 use Prim.Native.Nat.{ℕ, zero, suc, _≤_, _<_}
 use native.Mathlib.Omega.{arith}
 use lib.ListN.{getD}
@@ -89,3 +89,9 @@ module _ (t : List ℕ) where
 
     pub second-low : (w : Row) → w ≡ rowAt t r → w .second ≤ getD t 2 0
     second-low w is = rw is (onward-low (getD t 2 0) r _ (row-descends (countsAt t) t (ok .facts) r (omega arith) high .to-second))
+
+-- What a guarded call did, from the two ways that lead past it: it walked to r, or there is no row and r is s still.
+pub guarded : {S A B : Type 0} (W : ℕ → S → S → Type 0) → ((s : S) → W 0 s s) → (row : ℕ) (s r : S)
+    → (A → (v : S) × W row s v × (r ≡ v)) → (B → (row ≡ 0) × (r ≡ s)) → A ⊎ B → W row s r
+guarded W none row s r took left (inl a) = let w = took a in rw (w .2) (w .1)
+guarded W none row s r took left (inr b) = let w = left b in rw (w .0, w .1) (none s)

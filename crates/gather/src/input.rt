@@ -46,6 +46,7 @@ fn input_step(tables: &[u16], outer: &[u64], w: Row, scope: Scope) -> Scope
 }
 
 // The expression at a row, with the rest of its chain if `rest`.
+// Most rows have few parts: a call on none would only copy the scope.
 pub fn gather_input_vars(
     tables: &[u16],
     outer: &[u64],
@@ -63,8 +64,17 @@ pub fn gather_input_vars(
     let k = kids_of(w);
     let next = branches::next_of(w, rest);
     let mut s = input_step(tables, outer, w, scope);
-    s = gather_input_vars(tables, outer, k.first, true, s);
-    s = gather_input_vars(tables, outer, k.second, true, s);
-    s = gather_input_vars(tables, outer, k.third, true, s);
+    if k.first != 0 {
+        s = gather_input_vars(tables, outer, k.first, true, s);
+    }
+    if k.second != 0 {
+        s = gather_input_vars(tables, outer, k.second, true, s);
+    }
+    if k.third != 0 {
+        s = gather_input_vars(tables, outer, k.third, true, s);
+    }
+    if next == 0 {
+        return s;
+    }
     gather_input_vars(tables, outer, next, true, s)
 }

@@ -1,11 +1,13 @@
 -- The walk goes on to later rows only, and what the calls on the way do is a row's turn (`walk-turn`).
 use mathlib.Core.Path.{_≡_, sym, _∙_, subst}
+use mathlib.Core.Bool.{true}
 use Prim.Native.Nat.{ℕ, _<_}
 use borrow.Author.Needs.{needs}
 use borrow.Fn.Kinds.{In}
 use borrow.Fn.PlainCycle.{Measures, is, falls, and}
 use Rattle.trees.specs.Sheet.{rowAt, row-fields}
-use Rattle.gather.specs.Walking.{remains, Calls, row-low, low-name, calls}
+use Rattle.gather.specs.declared.scope.Scope.{Scope}
+use Rattle.gather.specs.Walking.{remains, Calls, row-low, low-name, calls, guarded}
 use Rattle.gather.specs.Inputs.{InputWalk, walk-none, walk-turn}
 use Rattle.gather.proofs.input.gather_input_vars.Reads as gather-input-vars
 use Rattle.gather.proofs.input.gather_input_vars.Kinds as kinds
@@ -78,37 +80,82 @@ ready m c =
 
 first-requires : (m : ℕ) → lts.Need-gather-input-vars-requires (known m) (here m) gather-input-vars.Post
 first-requires m c κs =
-    let pre = c .before .before .before .before .before .before .before .pre .1 in
-    let k = ready m (c .before) .first in
+    let n = c .before .before .before in
+    let pre = n .before .before .before .before .before .before .pre .1 in
+    let k = ready m n .first in
     (k .0, (pre .0, pre .1, k .1))
 
 second-requires : (m : ℕ) → lts.Need-gather-input-vars-requires-2 (known m) (here m) gather-input-vars.Post
 second-requires m c κs =
-    let pre = c .before .before .before .before .before .before .before .before .pre .1 in
-    let k = ready m (c .before .before) .second in
+    let n = c .before .before .before .before .before in
+    let pre = n .before .before .before .before .before .before .pre .1 in
+    let k = ready m n .second in
     (k .0, (pre .0, pre .1, k .1))
 
 third-requires : (m : ℕ) → lts.Need-gather-input-vars-requires-3 (known m) (here m) gather-input-vars.Post
 third-requires m c κs =
-    let pre = c .before .before .before .before .before .before .before .before .before .pre .1 in
-    let k = ready m (c .before .before .before) .third in
+    let n = c .before .before .before .before .before .before .before in
+    let pre = n .before .before .before .before .before .before .pre .1 in
+    let k = ready m n .third in
     (k .0, (pre .0, pre .1, k .1))
 
 next-requires : (m : ℕ) → lts.Need-gather-input-vars-requires-4 (known m) (here m) gather-input-vars.Post
 next-requires m c κs =
-    let pre = c .before .before .before .before .before .before .before .before .before .before .pre .1 in
-    let n = c .before .before .before .before in
+    let n = c .before .before .before .before .before .before .before .before in
+    let pre = n .before .before .before .before .before .before .pre .1 in
     let k = ready m n .next in
     (rw (n .next-of .ensures) (k .0), (pre .0, pre .1, rw (n .next-of .ensures) (k .1)))
 
-returns-2 : (m : ℕ) → lts.Need-returns-2 (known m) (here m) gather-input-vars.Post
-returns-2 m c =
-    let n = c .before .before .before .before .before in
+-- The three parts, each walked where there is one.
+first-walk : (m : ℕ) (c : lts.Joined2 (known m) (here m) gather-input-vars.Post)
+    → let n = c .before .before .before in
+    let a = n .before .before .before .before .before .before .args in
+    InputWalk (a .tables .now) (a .outer .now) (n .before .kids-of .result .first) true (c .before .before .input-step .result) (c .if2 .s)
+first-walk m c =
+    let start = c .before .before .before .before .before .before .before .before .before in
+    guarded (λ n. InputWalk (start .args .tables .now) (start .args .outer .now) n true) (walk-none _ _ (start .pre .1 .0) true) _ _ _
+    (λ w. (_, w .1 .ensures, w .2)) (λ w. (w .0 .left, w .1)) (c .if2 .came)
+
+second-walk : (m : ℕ) (c : lts.Joined3 (known m) (here m) gather-input-vars.Post)
+    → let n = c .before .before .before .before .before in
+    let a = n .before .before .before .before .before .before .args in
+    InputWalk (a .tables .now) (a .outer .now) (n .before .kids-of .result .second) true (c .before .before .if2 .s) (c .if3 .s)
+second-walk m c =
+    let start = c .before .before .before .before .before .before .before .before .before .before .before in
+    guarded (λ n. InputWalk (start .args .tables .now) (start .args .outer .now) n true) (walk-none _ _ (start .pre .1 .0) true) _ _ _
+    (λ w. (_, w .1 .ensures, w .2)) (λ w. (w .0 .left, w .1)) (c .if3 .came)
+
+third-walk : (m : ℕ) (c : lts.Joined4 (known m) (here m) gather-input-vars.Post)
+    → let n = c .before .before .before .before .before .before .before in
+    let a = n .before .before .before .before .before .before .args in
+    InputWalk (a .tables .now) (a .outer .now) (n .before .kids-of .result .third) true (c .before .before .if3 .s) (c .if4 .s)
+third-walk m c =
+    let start = c .before .before .before .before .before .before .before .before .before .before .before .before .before in
+    guarded (λ n. InputWalk (start .args .tables .now) (start .args .outer .now) n true) (walk-none _ _ (start .pre .1 .0) true) _ _ _
+    (λ w. (_, w .1 .ensures, w .2)) (λ w. (w .0 .left, w .1)) (c .if4 .came)
+
+-- The turn of a row, with the walk over the rest of its chain.
+turned : (m : ℕ) (c : lts.Joined4 (known m) (here m) gather-input-vars.Post) (s : Scope)
+    → let n = c .before .before .before .before .before .before .before in
+    let a = n .before .before .before .before .before .before .args in
+    InputWalk (a .tables .now) (a .outer .now) (n .next-of .result) true (c .if4 .s) s
+    → InputWalk (a .tables .now) (a .outer .now) (a .row) (a .rest) (a .scope) s
+turned m c s rest =
+    let n = c .before .before .before .before .before .before .before in
     let r = n .before .before in
     let start = r .before .before .before .before in
     walk-turn _ _ (start .pre .1 .0) _ (r .before .if1 .left) (start .pre .1 .2) (start .args .rest) _ (row-is m r) _ (n .before .kids-of .ensures) _ (n .next-of .ensures)
-    _ _ _ _ _ _ (c .before .before .before .before .input-step .ensures) (c .before .before .before .gather-input-vars .ensures) (c .before .before .gather-input-vars2 .ensures)
-    (c .before .gather-input-vars3 .ensures) (c .gather-input-vars4 .ensures)
+    _ _ _ _ _ _ (c .before .before .before .before .before .before .input-step .ensures) (first-walk m (c .before .before .before .before)) (second-walk m (c .before .before)) (third-walk m c) rest
+
+returns-2 : (m : ℕ) → lts.Need-returns-2 (known m) (here m) gather-input-vars.Post
+returns-2 m c =
+    let start = c .before .before .before .before .before .before .before .before .before .before .before .before .before .before in
+    turned m (c .before) _
+    (subst (λ (n : ℕ). InputWalk (start .args .tables .now) (start .args .outer .now) n true (c .before .if4 .s) (c .before .if4 .s))
+    (sym (c .if5 .taken)) (walk-none _ _ (start .pre .1 .0) true (c .before .if4 .s)))
+
+returns-3 : (m : ℕ) → lts.Need-returns-3 (known m) (here m) gather-input-vars.Post
+returns-3 m c = turned m (c .before .before) _ (c .gather-input-vars4 .ensures)
 
 pub +gather-input-vars-spec : {M : Type 1} → statement M
 +gather-input-vars-spec = close μ λ m.
@@ -121,5 +168,6 @@ pub +gather-input-vars-spec : {M : Type 1} → statement M
     (first-requires m)
     (second-requires m)
     (third-requires m)
-    (next-requires m)
     (returns-2 m)
+    (next-requires m)
+    (returns-3 m)
