@@ -1,11 +1,11 @@
 -- What a walk over rows owes at its calls of itself, whatever it gathers: each is on a later row, or on none.
-use mathlib.Core.Path.{_≡_, subst}
+use mathlib.Core.Path.{_≡_, refl, subst}
 use mathlib.Core.Bool.{Bool, true, false, cond}
 use mathlib.Core.List.{List}
 use mathlib.Core.Logic.{_⊎_, inl, inr}
 use Prim.Native.Nat.{ℕ, zero, suc, _≤_, _<_}
 use native.Mathlib.Omega.{arith}
-use lib.ListN.{getD}
+use lib.ListN.{length, getD}
 use Rattle.trees.specs.declared.Row.{Row}
 use Rattle.trees.specs.Sheet.{rowAt}
 use Rattle.trees.specs.Kinds.{isPattern}
@@ -95,3 +95,14 @@ pub guarded : {S A B : Type 0} (W : ℕ → S → S → Type 0) → ((s : S) →
     → (A → (v : S) × W row s v × (r ≡ v)) → (B → (row ≡ 0) × (r ≡ s)) → A ⊎ B → W row s r
 guarded W none row s r took left (inl a) = let w = took a in rw (w .2) (w .1)
 guarded W none row s r took left (inr b) = let w = left b in rw (w .0, w .1) (none s)
+
+-- The same where the walk also writes a list, whose length it keeps.
+pub guarded-list : {S A B : Type 0} (W : ℕ → S → List ℕ → S → List ℕ → Type 0) → ((s : S) (l : List ℕ) → W 0 s l s l)
+    → (row : ℕ) (s : S) (l : List ℕ) (r : S) (m : List ℕ)
+    → (A → (v : S) × (n : List ℕ) × W row s l v n × (length n ≡ length l) × (m ≡ n) × (r ≡ v))
+    → (B → (row ≡ 0) × (m ≡ l) × (r ≡ s)) → A ⊎ B → W row s l r m × (length m ≡ length l)
+guarded-list {S} W none row s l r m took left =
+    guarded {S = S × List ℕ} (λ n a b. W n (a .0) (a .1) (b .0) (b .1) × (length (b .1) ≡ length (a .1)))
+    (λ a. (none (a .0) (a .1), refl)) row (s, l) (r, m)
+    (λ x. let w = took x in ((w .0, w .1), (w .2, w .3), λ i. (w .5 i, w .4 i)))
+    (λ x. let w = left x in (w .0, λ i. (w .2 i, w .1 i)))

@@ -82,6 +82,7 @@ fn items_of(w: Row) -> usize
 }
 
 // The pattern at a row, with the rest of its chain if `rest`.
+// Most rows are variables, with no chain: a call on none would only copy the scope.
 pub fn gather_assigned_vars(
     tables: &[u16],
     outer: &[u64],
@@ -101,6 +102,11 @@ pub fn gather_assigned_vars(
     let items = items_of(w);
     let next = next_of(w, rest);
     let mut s = assign_step(tables, outer, w, can_shadow, scope, spans);
-    s = gather_assigned_vars(tables, outer, items, true, can_shadow, s, spans);
+    if items != 0 {
+        s = gather_assigned_vars(tables, outer, items, true, can_shadow, s, spans);
+    }
+    if next == 0 {
+        return s;
+    }
     gather_assigned_vars(tables, outer, next, true, can_shadow, s, spans)
 }

@@ -34,6 +34,7 @@ fn loop_step(tables: &[u16], outer: &[u64], w: Row, scope: Scope, spans: &mut [u
 }
 
 // The expression at a row, with the rest of its chain if `rest`.
+// Most rows have few parts: a call on none would only copy the scope.
 pub fn gather_loop_vars(
     tables: &[u16],
     outer: &[u64],
@@ -52,8 +53,17 @@ pub fn gather_loop_vars(
     let k = kids_of(w);
     let next = next_of(w, rest);
     let mut s = loop_step(tables, outer, w, scope, spans);
-    s = gather_loop_vars(tables, outer, k.first, true, s, spans);
-    s = gather_loop_vars(tables, outer, k.second, true, s, spans);
-    s = gather_loop_vars(tables, outer, k.third, true, s, spans);
+    if k.first != 0 {
+        s = gather_loop_vars(tables, outer, k.first, true, s, spans);
+    }
+    if k.second != 0 {
+        s = gather_loop_vars(tables, outer, k.second, true, s, spans);
+    }
+    if k.third != 0 {
+        s = gather_loop_vars(tables, outer, k.third, true, s, spans);
+    }
+    if next == 0 {
+        return s;
+    }
     gather_loop_vars(tables, outer, next, true, s, spans)
 }

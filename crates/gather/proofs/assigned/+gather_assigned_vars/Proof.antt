@@ -1,12 +1,16 @@
 -- The walk goes on to later rows only, and what the calls on the way do is a row's turn (`walk-turn`).
 use mathlib.Core.Path.{_≡_, sym, _∙_, subst}
+use mathlib.Core.Bool.{true}
+use mathlib.Core.List.{List}
 use Prim.Native.Nat.{ℕ, _<_}
 use native.Mathlib.Omega.{arith}
+use lib.ListN.{length}
 use borrow.Author.Needs.{needs}
 use borrow.Fn.Kinds.{In}
 use borrow.Fn.PlainCycle.{Measures, is, falls, and}
 use Rattle.trees.specs.Sheet.{rowAt, row-fields}
-use Rattle.gather.specs.Walking.{remains, Falls, row-low, low-name, pattern-calls}
+use Rattle.gather.specs.declared.scope.Scope.{Scope}
+use Rattle.gather.specs.Walking.{remains, Falls, row-low, low-name, pattern-calls, guarded-list}
 use Rattle.gather.specs.Assigned.{AssignWalk, walk-none, walk-turn}
 use Rattle.gather.proofs.assigned.gather_assigned_vars.Reads as gather-assigned-vars
 use Rattle.gather.proofs.assigned.gather_assigned_vars.Kinds as kinds
@@ -80,26 +84,61 @@ ready m c =
 
 items-requires : (m : ℕ) → lts.Need-gather-assigned-vars-requires (known m) (here m) gather-assigned-vars.Post
 items-requires m c κs =
-    let pre = c .before .before .before .before .before .before .before .before .before .before .before .before .pre .1 in
-    let k = ready m (c .before .before .before .before .before) .0 in
-    (k .0, (pre .0, pre .1, k .1, omega (arith, pre .3, c .before .before .before .assign-step .kept .1 .1 .1 .1 .1 .0)))
+    let pre = c .before .before .before .before .before .before .before .before .before .before .before .before .before .pre .1 in
+    let k = ready m (c .before .before .before .before .before .before) .0 in
+    (k .0, (pre .0, pre .1, k .1, omega (arith, pre .3, c .before .before .before .before .assign-step .kept .1 .1 .1 .1 .1 .0)))
 
-next-requires : (m : ℕ) → lts.Need-gather-assigned-vars-requires-2 (known m) (here m) gather-assigned-vars.Post
-next-requires m c κs =
-    let pre = c .before .before .before .before .before .before .before .before .before .before .before .before .before .before .before .before .pre .1 in
-    let k = ready m (c .before .before .before .before .before .before .before .before .before) .1 in
-    (k .0, (pre .0, pre .1, k .1, omega (arith, pre .3, c .before .before .before .before .before .before .before .assign-step .kept .1 .1 .1 .1 .1 .0, c .before .before .before .gather-assigned-vars .kept .1 .1 .1 .1 .1 .1 .0)))
+-- What the row is made of, walked where there is something.
+items-walk : (m : ℕ) (c : lts.Joined2 (known m) (here m) gather-assigned-vars.Post)
+    → let a = c .before .before .before .before .before .before .before .before .before .before .before .before .args in
+    let step = c .before .before .before .assign-step in
+    AssignWalk (a .tables .now) (a .outer .now) (c .before .before .before .before .before .before .items-of .result) true (a .can-shadow) (step .result) (step .last .1 .1 .1 .1 .1 .0) (c .if2 .s) (c .if2 .spans)
+    × (length (c .if2 .spans) ≡ length (step .last .1 .1 .1 .1 .1 .0))
+items-walk m c =
+    let start = c .before .before .before .before .before .before .before .before .before .before .before .before in
+    let a = start .args in
+    guarded-list (λ n. AssignWalk (a .tables .now) (a .outer .now) n true (a .can-shadow)) (walk-none _ _ (start .pre .1 .0) true (a .can-shadow)) _ _ _ _ _
+    (λ w. (_, _, w .2 .ensures, w .2 .kept .1 .1 .1 .1 .1 .1 .0, w .5, w .6)) (λ w. (w .0 .left, w .1, w .2)) (c .if2 .came)
 
-same-length : (m : ℕ) → lts.Need-same-length (known m) (here m) gather-assigned-vars.Post
-same-length m c = search needs
+kept : (m : ℕ) (c : lts.Joined2 (known m) (here m) gather-assigned-vars.Post) → length (c .if2 .spans) ≡ length (c .before .before .before .before .before .before .before .before .before .before .before .before .args .spans .now)
+kept m c = items-walk m c .1 ∙ c .before .before .before .assign-step .kept .1 .1 .1 .1 .1 .0
 
-returns-2 : (m : ℕ) → lts.Need-returns-2 (known m) (here m) gather-assigned-vars.Post
-returns-2 m c =
-    let n = c .before .before .before .before .before .before .before .before .before .before .before .before in
+-- The turn of a row, with the walk over the rest of its chain.
+turned : (m : ℕ) (c : lts.Joined2 (known m) (here m) gather-assigned-vars.Post) (s : Scope) (l : List ℕ)
+    → let a = c .before .before .before .before .before .before .before .before .before .before .before .before .args in
+    AssignWalk (a .tables .now) (a .outer .now) (c .before .before .before .before .before .next-of .result) true (a .can-shadow) (c .if2 .s) (c .if2 .spans) s l
+    → AssignWalk (a .tables .now) (a .outer .now) (a .row) (a .rest) (a .can-shadow) (a .scope) (a .spans .now) s l
+turned m c s l rest =
+    let n = c .before .before .before .before .before in
     let r = n .before .before in
     let start = r .before .before .before .before .before in
     walk-turn _ _ (start .pre .1 .0) _ (r .before .if1 .left) (start .pre .1 .2) (start .args .rest) _ _ (row-is m r) _ (n .before .items-of .ensures) _ (n .next-of .ensures)
-    _ _ _ _ _ _ _ _ (c .before .before .before .before .before .before .before .before .before .before .assign-step .ensures) (c .before .before .before .before .before .before .gather-assigned-vars .ensures) (c .before .before .gather-assigned-vars2 .ensures)
+    _ _ _ _ _ _ _ _ (c .before .before .before .assign-step .ensures) (items-walk m c .0) rest
+
+same-length : (m : ℕ) → lts.Need-same-length (known m) (here m) gather-assigned-vars.Post
+same-length m c = kept m (c .before)
+
+returns-2 : (m : ℕ) → lts.Need-returns-2 (known m) (here m) gather-assigned-vars.Post
+returns-2 m c =
+    let start = c .before .before .before .before .before .before .before .before .before .before .before .before .before in
+    let a = start .args in
+    let if2 = c .before .if2 in
+    turned m (c .before) _ _
+    (subst (λ (n : ℕ). AssignWalk (a .tables .now) (a .outer .now) n true (a .can-shadow) (if2 .s) (if2 .spans) (if2 .s) (if2 .spans))
+    (sym (c .if3 .taken)) (walk-none _ _ (start .pre .1 .0) true (a .can-shadow) (if2 .s) (if2 .spans)))
+
+next-requires : (m : ℕ) → lts.Need-gather-assigned-vars-requires-2 (known m) (here m) gather-assigned-vars.Post
+next-requires m c κs =
+    let j = c .before .before in
+    let pre = j .before .before .before .before .before .before .before .before .before .before .before .before .pre .1 in
+    let k = ready m (j .before .before .before .before .before) .1 in
+    (k .0, (pre .0, pre .1, k .1, omega (arith, pre .3, kept m j)))
+
+same-length-2 : (m : ℕ) → lts.Need-same-length-2 (known m) (here m) gather-assigned-vars.Post
+same-length-2 m c = c .before .before .gather-assigned-vars2 .kept .1 .1 .1 .1 .1 .1 .0 ∙ kept m (c .before .before .before .before .before)
+
+returns-3 : (m : ℕ) → lts.Need-returns-3 (known m) (here m) gather-assigned-vars.Post
+returns-3 m c = turned m (c .before .before .before .before .before) _ _ (c .before .before .gather-assigned-vars2 .ensures)
 
 pub +gather-assigned-vars-spec : {M : Type 1} → statement M
 +gather-assigned-vars-spec = close μ λ m.
@@ -110,6 +149,8 @@ pub +gather-assigned-vars-spec : {M : Type 1} → statement M
     (next-of-requires m)
     (assign-step-requires m)
     (items-requires m)
-    (next-requires m)
     (same-length m)
     (returns-2 m)
+    (next-requires m)
+    (same-length-2 m)
+    (returns-3 m)

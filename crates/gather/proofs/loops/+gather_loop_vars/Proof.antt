@@ -1,12 +1,16 @@
 -- The walk goes on to later rows only, and what the calls on the way do is a row's turn (`walk-turn`).
 use mathlib.Core.Path.{_≡_, sym, _∙_, subst}
+use mathlib.Core.Bool.{true}
+use mathlib.Core.List.{List}
 use Prim.Native.Nat.{ℕ, _<_}
 use native.Mathlib.Omega.{arith}
+use lib.ListN.{length}
 use borrow.Author.Needs.{needs}
 use borrow.Fn.Kinds.{In}
 use borrow.Fn.PlainCycle.{Measures, is, falls, and}
 use Rattle.trees.specs.Sheet.{rowAt, row-fields}
-use Rattle.gather.specs.Walking.{remains, Calls, row-low, second-low, calls}
+use Rattle.gather.specs.declared.scope.Scope.{Scope}
+use Rattle.gather.specs.Walking.{remains, Calls, row-low, second-low, calls, guarded-list}
 use Rattle.gather.specs.Loops.{LoopWalk, walk-none, walk-turn}
 use Rattle.gather.proofs.loops.gather_loop_vars.Reads as gather-loop-vars
 use Rattle.gather.proofs.loops.gather_loop_vars.Kinds as kinds
@@ -80,78 +84,105 @@ ready m c =
 
 first-requires : (m : ℕ) → lts.Need-gather-loop-vars-requires (known m) (here m) gather-loop-vars.Post
 first-requires m c κs =
-    let pre = c .before .before .before .before .before .before .before .before .before .before .before .before .pre .1 in
-    let k = ready m (c .before .before .before .before .before) .first in
-    (k .0, (pre .0, pre .1, k .1, omega (arith, pre .3, c .before .before .before .loop-step .kept .1 .1 .1 .1 .0)))
+    let n = c .before .before .before .before .before .before .before in
+    let pre = n .before .before .before .before .before .before .before .pre .1 in
+    let k = ready m n .first in
+    (k .0, (pre .0, pre .1, k .1, omega (arith, pre .3, c .before .before .before .before .before .loop-step .kept .1 .1 .1 .1 .0)))
+
+-- The three parts, each walked where there is one.
+first-walk : (m : ℕ) (c : lts.Joined2 (known m) (here m) gather-loop-vars.Post)
+    → let n = c .before .before .before .before .before .before in
+    let a = n .before .before .before .before .before .before .before .args in
+    LoopWalk (a .tables .now) (a .outer .now) (n .before .kids-of .result .first) true (c .before .before .before .before .loop-step .result) (c .before .before .before .before .loop-step .last .1 .1 .1 .1 .0) (c .if2 .s) (c .if2 .spans)
+    × (length (c .if2 .spans) ≡ length (c .before .before .before .before .loop-step .last .1 .1 .1 .1 .0))
+first-walk m c =
+    let start = c .before .before .before .before .before .before .before .before .before .before .before .before .before in
+    let a = start .args in
+    guarded-list (λ n. LoopWalk (a .tables .now) (a .outer .now) n true) (walk-none _ _ (start .pre .1 .0) true) _ _ _ _ _
+    (λ w. (_, _, w .2 .ensures, w .2 .kept .1 .1 .1 .1 .1 .0, w .5, w .6)) (λ w. (w .0 .left, w .1, w .2)) (c .if2 .came)
+
+first-kept : (m : ℕ) (c : lts.Joined2 (known m) (here m) gather-loop-vars.Post) → length (c .if2 .spans) ≡ length (c .before .before .before .before .before .before .before .before .before .before .before .before .before .args .spans .now)
+first-kept m c = first-walk m c .1 ∙ c .before .before .before .before .loop-step .kept .1 .1 .1 .1 .0
 
 second-requires : (m : ℕ) → lts.Need-gather-loop-vars-requires-2 (known m) (here m) gather-loop-vars.Post
 second-requires m c κs =
-    let b = c .before .before .before .before in
-    let pre = b .before .before .before .before .before .before .before .before .before .before .before .before .pre .1 in
-    let k = ready m (b .before .before .before .before .before) .second in
-    (k .0, (pre .0, pre .1, k .1, omega (arith, pre .3, b .before .before .before .loop-step .kept .1 .1 .1 .1 .0, c .before .before .before .gather-loop-vars .kept .1 .1 .1 .1 .1 .0)))
+    let n = c .before .before .before .before .before .before .before .before .before in
+    let pre = n .before .before .before .before .before .before .before .pre .1 in
+    let k = ready m n .second in
+    (k .0, (pre .0, pre .1, k .1, omega (arith, pre .3, first-kept m (c .before .before .before))))
+
+second-walk : (m : ℕ) (c : lts.Joined3 (known m) (here m) gather-loop-vars.Post)
+    → let n = c .before .before .before .before .before .before .before .before in
+    let a = n .before .before .before .before .before .before .before .args in
+    LoopWalk (a .tables .now) (a .outer .now) (n .before .kids-of .result .second) true (c .before .before .if2 .s) (c .before .before .if2 .spans) (c .if3 .s) (c .if3 .spans)
+    × (length (c .if3 .spans) ≡ length (c .before .before .if2 .spans))
+second-walk m c =
+    let start = c .before .before .before .before .before .before .before .before .before .before .before .before .before .before .before in
+    let a = start .args in
+    guarded-list (λ n. LoopWalk (a .tables .now) (a .outer .now) n true) (walk-none _ _ (start .pre .1 .0) true) _ _ _ _ _
+    (λ w. (_, _, w .2 .ensures, w .2 .kept .1 .1 .1 .1 .1 .0, w .5, w .6)) (λ w. (w .0 .left, w .1, w .2)) (c .if3 .came)
+
+second-kept : (m : ℕ) (c : lts.Joined3 (known m) (here m) gather-loop-vars.Post) → length (c .if3 .spans) ≡ length (c .before .before .before .before .before .before .before .before .before .before .before .before .before .before .before .args .spans .now)
+second-kept m c = second-walk m c .1 ∙ first-kept m (c .before .before)
 
 third-requires : (m : ℕ) → lts.Need-gather-loop-vars-requires-3 (known m) (here m) gather-loop-vars.Post
 third-requires m c κs =
-    let b = c .before .before .before .before .before .before .before .before in
-    let pre = b .before .before .before .before .before .before .before .before .before .before .before .before .pre .1 in
-    let k = ready m (b .before .before .before .before .before) .third in (
-      k .0,
-      (
-        pre .0,
-        pre .1,
-        k .1,
-        omega (
-          arith,
-          pre .3,
-          b .before .before .before .loop-step .kept .1 .1 .1 .1 .0,
-          c .before .before .before .before .before .before .before .gather-loop-vars .kept .1 .1 .1 .1 .1 .0,
-          c .before .before .before .gather-loop-vars2 .kept .1 .1 .1 .1 .1 .0,
-        ),
-      ),
-    )
+    let n = c .before .before .before .before .before .before .before .before .before .before .before in
+    let pre = n .before .before .before .before .before .before .before .pre .1 in
+    let k = ready m n .third in
+    (k .0, (pre .0, pre .1, k .1, omega (arith, pre .3, second-kept m (c .before .before .before))))
 
-next-requires : (m : ℕ) → lts.Need-gather-loop-vars-requires-4 (known m) (here m) gather-loop-vars.Post
-next-requires m c κs =
-    let b = c .before .before .before .before .before .before .before .before .before .before .before .before in
-    let pre = b .before .before .before .before .before .before .before .before .before .before .before .before .pre .1 in
-    let n = b .before .before .before .before .before in
-    let k = ready m n .next in (
-      rw (n .next-of .ensures) (k .0),
-      (
-        pre .0,
-        pre .1,
-        rw (n .next-of .ensures) (k .1),
-        omega (
-          arith,
-          pre .3,
-          b .before .before .before .loop-step .kept .1 .1 .1 .1 .0,
-          c .before .before .before .before .before .before .before .before .before .before .before .gather-loop-vars .kept .1 .1 .1 .1 .1 .0,
-          c .before .before .before .before .before .before .before .gather-loop-vars2 .kept .1 .1 .1 .1 .1 .0,
-          c .before .before .before .gather-loop-vars3 .kept .1 .1 .1 .1 .1 .0,
-        ),
-      ),
-    )
+third-walk : (m : ℕ) (c : lts.Joined4 (known m) (here m) gather-loop-vars.Post)
+    → let n = c .before .before .before .before .before .before .before .before .before .before in
+    let a = n .before .before .before .before .before .before .before .args in
+    LoopWalk (a .tables .now) (a .outer .now) (n .before .kids-of .result .third) true (c .before .before .if3 .s) (c .before .before .if3 .spans) (c .if4 .s) (c .if4 .spans)
+    × (length (c .if4 .spans) ≡ length (c .before .before .if3 .spans))
+third-walk m c =
+    let start = c .before .before .before .before .before .before .before .before .before .before .before .before .before .before .before .before .before in
+    let a = start .args in
+    guarded-list (λ n. LoopWalk (a .tables .now) (a .outer .now) n true) (walk-none _ _ (start .pre .1 .0) true) _ _ _ _ _
+    (λ w. (_, _, w .2 .ensures, w .2 .kept .1 .1 .1 .1 .1 .0, w .5, w .6)) (λ w. (w .0 .left, w .1, w .2)) (c .if4 .came)
 
-same-length : (m : ℕ) → lts.Need-same-length (known m) (here m) gather-loop-vars.Post
-same-length m c =
-    omega (
-      arith,
-      c .before .before .before .before .before .before .before .before .before .before .before .before .before .before .before .before .before .before .loop-step .kept .1 .1 .1 .1 .0,
-      c .before .before .before .before .before .before .before .before .before .before .before .before .before .before .gather-loop-vars .kept .1 .1 .1 .1 .1 .0,
-      c .before .before .before .before .before .before .before .before .before .before .gather-loop-vars2 .kept .1 .1 .1 .1 .1 .0,
-      c .before .before .before .before .before .before .gather-loop-vars3 .kept .1 .1 .1 .1 .1 .0,
-      c .before .before .gather-loop-vars4 .kept .1 .1 .1 .1 .1 .0,
-    )
+third-kept : (m : ℕ) (c : lts.Joined4 (known m) (here m) gather-loop-vars.Post) → length (c .if4 .spans) ≡ length (c .before .before .before .before .before .before .before .before .before .before .before .before .before .before .before .before .before .args .spans .now)
+third-kept m c = third-walk m c .1 ∙ second-kept m (c .before .before)
 
-returns-2 : (m : ℕ) → lts.Need-returns-2 (known m) (here m) gather-loop-vars.Post
-returns-2 m c =
-    let n = c .before .before .before .before .before .before .before .before .before .before .before .before .before .before .before .before .before .before .before .before in
+-- The turn of a row, with the walk over the rest of its chain.
+turned : (m : ℕ) (c : lts.Joined4 (known m) (here m) gather-loop-vars.Post) (s : Scope) (l : List ℕ)
+    → let n = c .before .before .before .before .before .before .before .before .before .before in
+    let a = n .before .before .before .before .before .before .before .args in
+    LoopWalk (a .tables .now) (a .outer .now) (n .next-of .result) true (c .if4 .s) (c .if4 .spans) s l
+    → LoopWalk (a .tables .now) (a .outer .now) (a .row) (a .rest) (a .scope) (a .spans .now) s l
+turned m c s l rest =
+    let n = c .before .before .before .before .before .before .before .before .before .before in
     let r = n .before .before in
     let start = r .before .before .before .before .before in
     walk-turn _ _ (start .pre .1 .0) _ (r .before .if1 .left) (start .pre .1 .2) (start .args .rest) _ (row-is m r) _ (n .before .kids-of .ensures) _ (n .next-of .ensures)
-    _ _ _ _ _ _ _ _ _ _ _ _ (c .before .before .before .before .before .before .before .before .before .before .before .before .before .before .before .before .before .before .loop-step .ensures) (c .before .before .before .before .before .before .before .before .before .before .before .before .before .before .gather-loop-vars .ensures) (c .before .before .before .before .before .before .before .before .before .before .gather-loop-vars2 .ensures)
-    (c .before .before .before .before .before .before .gather-loop-vars3 .ensures) (c .before .before .gather-loop-vars4 .ensures)
+    _ _ _ _ _ _ _ _ _ _ _ _ (c .before .before .before .before .before .before .before .before .loop-step .ensures) (first-walk m (c .before .before .before .before) .0) (second-walk m (c .before .before) .0) (third-walk m c .0) rest
+
+same-length : (m : ℕ) → lts.Need-same-length (known m) (here m) gather-loop-vars.Post
+same-length m c = third-kept m (c .before)
+
+returns-2 : (m : ℕ) → lts.Need-returns-2 (known m) (here m) gather-loop-vars.Post
+returns-2 m c =
+    let start = c .before .before .before .before .before .before .before .before .before .before .before .before .before .before .before .before .before .before in
+    let a = start .args in
+    let if4 = c .before .if4 in
+    turned m (c .before) _ _
+    (subst (λ (n : ℕ). LoopWalk (a .tables .now) (a .outer .now) n true (if4 .s) (if4 .spans) (if4 .s) (if4 .spans))
+    (sym (c .if5 .taken)) (walk-none _ _ (start .pre .1 .0) true (if4 .s) (if4 .spans)))
+
+next-requires : (m : ℕ) → lts.Need-gather-loop-vars-requires-4 (known m) (here m) gather-loop-vars.Post
+next-requires m c κs =
+    let n = c .before .before .before .before .before .before .before .before .before .before .before .before in
+    let pre = n .before .before .before .before .before .before .before .pre .1 in
+    let k = ready m n .next in
+    (rw (n .next-of .ensures) (k .0), (pre .0, pre .1, rw (n .next-of .ensures) (k .1), omega (arith, pre .3, third-kept m (c .before .before))))
+
+same-length-2 : (m : ℕ) → lts.Need-same-length-2 (known m) (here m) gather-loop-vars.Post
+same-length-2 m c = c .before .before .gather-loop-vars4 .kept .1 .1 .1 .1 .1 .0 ∙ third-kept m (c .before .before .before .before .before)
+
+returns-3 : (m : ℕ) → lts.Need-returns-3 (known m) (here m) gather-loop-vars.Post
+returns-3 m c = turned m (c .before .before .before .before .before) _ _ (c .before .before .gather-loop-vars4 .ensures)
 
 pub +gather-loop-vars-spec : {M : Type 1} → statement M
 +gather-loop-vars-spec = close μ λ m.
@@ -164,6 +195,8 @@ pub +gather-loop-vars-spec : {M : Type 1} → statement M
     (first-requires m)
     (second-requires m)
     (third-requires m)
-    (next-requires m)
     (same-length m)
     (returns-2 m)
+    (next-requires m)
+    (same-length-2 m)
+    (returns-3 m)
