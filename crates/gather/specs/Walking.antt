@@ -1,4 +1,4 @@
--- What a walk over rows owes at its calls of itself, whatever it gathers: each is on a later row, or on none.
+-- What a walk over rows owes at its calls of itself, whatever it gathers: each is on a later row, or on none; and what it learns past a guard.
 use mathlib.Core.Path.{_≡_, refl, subst}
 use mathlib.Core.Bool.{Bool, true, false, cond}
 use mathlib.Core.List.{List}

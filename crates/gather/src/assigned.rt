@@ -82,7 +82,7 @@ fn items_of(w: Row) -> usize
 }
 
 // The pattern at a row, with the rest of its chain if `rest`.
-// Most rows are variables, with no chain: a call on none would only copy the scope.
+// A call on no row would only copy the scope, so none is made.
 pub fn gather_assigned_vars(
     tables: &[u16],
     outer: &[u64],
