@@ -57,44 +57,32 @@ pub const SECOND: u32 = 65536;
 
 pub const THIRD: u32 = 16777216;
 
+// What the rows of one kind or form have in these fields.
+const ONE_PART: u32 = PART * FIRST;
+
+const TWO_PARTS: u32 = PART * FIRST + PART * SECOND;
+
+const TWO_OR_THREE_PARTS: u32 = PART_OR_NONE * FIRST + PART * SECOND + PART * THIRD;
+
+const PART_AND_NAME: u32 = NAME + PART * FIRST;
+
+const PART_AND_CHAIN: u32 = PART * FIRST + CHAIN_OR_NONE * SECOND;
+
+const ONE_CHAIN: u32 = CHAIN_OR_NONE * FIRST;
+
+const ONE_CHAIN_OF_PAIRS: u32 = CHAIN_OF_PAIRS * FIRST;
+
+const ONE_CHAIN_OF_VARS: u32 = CHAIN_OF_VARS * FIRST;
+
+const TERM_AND_QUERY: u32 = A_TERM * FIRST + QUERY * THIRD;
+
+const TWO_TERMS_AND_QUERY: u32 = A_TERM * FIRST + A_TERM * SECOND + QUERY * THIRD;
+
+const VARS_PART_AND_QUERY: u32 = QUERY + A_VAR_OR_NONE * FIRST + A_VAR * SECOND + PART * THIRD;
+
 pub const KINDS: usize = 22;
 
-const OF_KIND: [u32; KINDS + 1] = [
-    0,
-    NAME_OR_NONE, // 1 String
-    0, // 2 RawString
-    0, // 3 Number
-    0, // 4 Bool
-    0, // 5 Null
-    NAME, // 6 Var
-    CHAIN_OR_NONE * FIRST, // 7 Array
-    CHAIN_OR_NONE * FIRST, // 8 Set
-    CHAIN_OF_PAIRS * FIRST, // 9 Object
-    A_TERM * FIRST + QUERY * THIRD, // 10 ArrayCompr
-    A_TERM * FIRST + QUERY * THIRD, // 11 SetCompr
-    A_TERM * FIRST + A_TERM * SECOND + QUERY * THIRD, // 12 ObjectCompr
-    PART * FIRST + CHAIN_OR_NONE * SECOND, // 13 Call
-    PART * FIRST, // 14 UnaryExpr
-    NAME + PART * FIRST, // 15 RefDot
-    PART * FIRST + PART * SECOND, // 16 RefBrack
-    PART * FIRST + PART * SECOND, // 17 BinExpr
-    PART * FIRST + PART * SECOND, // 18 BoolExpr
-    PART * FIRST + PART * SECOND, // 19 ArithExpr
-    PART * FIRST + PART * SECOND, // 20 AssignExpr Eq
-    PART * FIRST + PART * SECOND, // 21 AssignExpr ColEq
-    PART_OR_NONE * FIRST + PART * SECOND + PART * THIRD, // 22 Membership
-];
-
 pub const FORMS: usize = 5;
-
-const OF_FORM: [u32; FORMS + 1] = [
-    0,
-    CHAIN_OF_VARS * FIRST, // 1 SomeVars
-    PART_OR_NONE * FIRST + PART * SECOND + PART * THIRD, // 2 SomeIn
-    PART * FIRST, // 3 Expr
-    PART * FIRST, // 4 NotExpr
-    QUERY + A_VAR_OR_NONE * FIRST + A_VAR * SECOND + PART * THIRD, // 5 Every
-];
 
 // What a field holds: the number of a row of a section.
 pub struct Field {
@@ -111,26 +99,50 @@ pub struct Field {
     pub pairs: bool,
 }
 
-// What the fields of a kind hold. An unknown kind lists none.
+// What the fields of a kind hold. An unknown kind lists none. With an arm for each number it compiles to a table in read-only memory;
+// a `const` array is built anew at each use, and numbers side by side in one arm are compared.
 pub fn of_kind(kind: u16) -> u32
     ensures { λ r. ⌜ r ≡ kindFields kind ⌝ }
 {
-    let k = kind as usize;
-    if KINDS < k {
-        return 0;
+    match kind {
+        1 => NAME_OR_NONE, // String
+        2 => 0, // RawString
+        3 => 0, // Number
+        4 => 0, // Bool
+        5 => 0, // Null
+        6 => NAME, // Var
+        7 => ONE_CHAIN, // Array
+        8 => ONE_CHAIN, // Set
+        9 => ONE_CHAIN_OF_PAIRS, // Object
+        10 => TERM_AND_QUERY, // ArrayCompr
+        11 => TERM_AND_QUERY, // SetCompr
+        12 => TWO_TERMS_AND_QUERY, // ObjectCompr
+        13 => PART_AND_CHAIN, // Call
+        14 => ONE_PART, // UnaryExpr
+        15 => PART_AND_NAME, // RefDot
+        16 => TWO_PARTS, // RefBrack
+        17 => TWO_PARTS, // BinExpr
+        18 => TWO_PARTS, // BoolExpr
+        19 => TWO_PARTS, // ArithExpr
+        20 => TWO_PARTS, // AssignExpr Eq
+        21 => TWO_PARTS, // AssignExpr ColEq
+        22 => TWO_OR_THREE_PARTS, // Membership
+        _ => 0,
     }
-    OF_KIND[k]
 }
 
 // What the fields of a form hold. An unknown form lists none.
 pub fn of_form(form: u16) -> u32
     ensures { λ r. ⌜ r ≡ formFields form ⌝ }
 {
-    let f = form as usize;
-    if FORMS < f {
-        return 0;
+    match form {
+        1 => ONE_CHAIN_OF_VARS, // SomeVars
+        2 => TWO_OR_THREE_PARTS, // SomeIn
+        3 => ONE_PART, // Expr
+        4 => ONE_PART, // NotExpr
+        5 => VARS_PART_AND_QUERY, // Every
+        _ => 0,
     }
-    OF_FORM[f]
 }
 
 // What the lowest byte says.

@@ -1,22 +1,44 @@
--- The table of the code is that of the definition; past its end nothing is entered.
-use mathlib.Core.Path.{refl, sym}
+-- In each arm the number is known, and the definition computes; past the table's end nothing is entered.
+use mathlib.Core.Path.{_≡_, refl, sym, ap}
+use Prim.Native.Nat.{ℕ}
 use native.Mathlib.Omega.{arith}
-use lib.ListN.{List·getD-eq-default}
-use borrow.Author.Needs.{needs}
+use Rattle.fields.specs.Arms.{left-over}
 use Rattle.branches.specs.Kids.{codes, enterCode}
 use Rattle.branches.proofs.enters.Statement.{statement}
 use Rattle.branches.proofs.enters.Tie as tie
 
-returns : tie.Need-returns
-unfolding enterCode
-returns c = sym (List·getD-eq-default codes 0 {n = c .before .args .kind} (omega arith))
+known : {k n : ℕ} → k ≡ n → enterCode n ≡ enterCode k
+known e = ap enterCode (sym e)
 
-array-read-result : tie.Need-array-read-result
-array-read-result c = search needs
-
-returns-2 : tie.Need-returns-2
+rest : tie.Need-returns-23
 unfolding enterCode
-returns-2 c = refl
+rest c = left-over codes 22 (c .before .args .kind) (omega arith) refl (c .match .rest)
 
 pub enters-spec : {M : Type 1} → statement M
-enters-spec = tie.close (tie.spec returns array-read-result returns-2)
+unfolding enterCode
+enters-spec =
+    tie.close
+    (tie.spec
+    (λ c. known (c .match .keys1))
+    (λ c. known (c .match .keys2))
+    (λ c. known (c .match .keys3))
+    (λ c. known (c .match .keys4))
+    (λ c. known (c .match .keys5))
+    (λ c. known (c .match .keys6))
+    (λ c. known (c .match .keys7))
+    (λ c. known (c .match .keys8))
+    (λ c. known (c .match .keys9))
+    (λ c. known (c .match .keys10))
+    (λ c. known (c .match .keys11))
+    (λ c. known (c .match .keys12))
+    (λ c. known (c .match .keys13))
+    (λ c. known (c .match .keys14))
+    (λ c. known (c .match .keys15))
+    (λ c. known (c .match .keys16))
+    (λ c. known (c .match .keys17))
+    (λ c. known (c .match .keys18))
+    (λ c. known (c .match .keys19))
+    (λ c. known (c .match .keys20))
+    (λ c. known (c .match .keys21))
+    (λ c. known (c .match .keys22))
+    rest)

@@ -1,25 +1,27 @@
--- The table of the code is that of the definition; past its end a form lists nothing.
-use mathlib.Core.Path.{refl, sym}
+-- In each arm the number is known, and the definition computes; past the table's end a form lists nothing.
+use mathlib.Core.Path.{_≡_, refl, sym, ap}
+use Prim.Native.Nat.{ℕ}
 use native.Mathlib.Omega.{arith}
-use lib.ListN.{List·getD-eq-default}
-use borrow.Author.Needs.{needs}
+use Rattle.fields.specs.Arms.{left-over}
 use Rattle.fields.specs.Fields.{forms, formFields}
 use Rattle.fields.proofs.of_form.Statement.{statement}
 use Rattle.fields.proofs.of_form.Tie as tie
 
-returns : tie.Need-returns
+known : {k n : ℕ} → k ≡ n → formFields n ≡ formFields k
+known e = ap formFields (sym e)
+
+rest : tie.Need-returns-6
 unfolding forms formFields
-returns c = sym (List·getD-eq-default forms 0 {n = c .before .args .form} (omega arith))
-
-mul-result : tie.Need-mul-result
-mul-result c = search needs
-
-array-read-result : tie.Need-array-read-result
-array-read-result c = search needs
-
-returns-2 : tie.Need-returns-2
-unfolding forms formFields
-returns-2 c = refl
+rest c = left-over forms 5 (c .before .args .form) (omega arith) refl (c .match .rest)
 
 pub of-form-spec : {M : Type 1} → statement M
-of-form-spec = tie.close (tie.spec returns mul-result array-read-result returns-2)
+unfolding forms formFields
+of-form-spec =
+    tie.close
+    (tie.spec
+    (λ c. known (c .match .keys1))
+    (λ c. known (c .match .keys2))
+    (λ c. known (c .match .keys3))
+    (λ c. known (c .match .keys4))
+    (λ c. known (c .match .keys5))
+    rest)

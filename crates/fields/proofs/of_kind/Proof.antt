@@ -1,25 +1,44 @@
--- The table of the code is that of the definition; past its end a kind lists nothing.
-use mathlib.Core.Path.{refl, sym}
+-- In each arm the number is known, and the definition computes; past the table's end a kind lists nothing.
+use mathlib.Core.Path.{_≡_, refl, sym, ap}
+use Prim.Native.Nat.{ℕ}
 use native.Mathlib.Omega.{arith}
-use lib.ListN.{List·getD-eq-default}
-use borrow.Author.Needs.{needs}
+use Rattle.fields.specs.Arms.{left-over}
 use Rattle.fields.specs.Fields.{kinds, kindFields}
 use Rattle.fields.proofs.of_kind.Statement.{statement}
 use Rattle.fields.proofs.of_kind.Tie as tie
 
-returns : tie.Need-returns
+known : {k n : ℕ} → k ≡ n → kindFields n ≡ kindFields k
+known e = ap kindFields (sym e)
+
+rest : tie.Need-returns-23
 unfolding kinds kindFields
-returns c = sym (List·getD-eq-default kinds 0 {n = c .before .args .kind} (omega arith))
-
-mul-result : tie.Need-mul-result
-mul-result c = search needs
-
-array-read-result : tie.Need-array-read-result
-array-read-result c = search needs
-
-returns-2 : tie.Need-returns-2
-unfolding kinds kindFields
-returns-2 c = refl
+rest c = left-over kinds 22 (c .before .args .kind) (omega arith) refl (c .match .rest)
 
 pub of-kind-spec : {M : Type 1} → statement M
-of-kind-spec = tie.close (tie.spec returns mul-result array-read-result returns-2)
+unfolding kinds kindFields
+of-kind-spec =
+    tie.close
+    (tie.spec
+    (λ c. known (c .match .keys1))
+    (λ c. known (c .match .keys2))
+    (λ c. known (c .match .keys3))
+    (λ c. known (c .match .keys4))
+    (λ c. known (c .match .keys5))
+    (λ c. known (c .match .keys6))
+    (λ c. known (c .match .keys7))
+    (λ c. known (c .match .keys8))
+    (λ c. known (c .match .keys9))
+    (λ c. known (c .match .keys10))
+    (λ c. known (c .match .keys11))
+    (λ c. known (c .match .keys12))
+    (λ c. known (c .match .keys13))
+    (λ c. known (c .match .keys14))
+    (λ c. known (c .match .keys15))
+    (λ c. known (c .match .keys16))
+    (λ c. known (c .match .keys17))
+    (λ c. known (c .match .keys18))
+    (λ c. known (c .match .keys19))
+    (λ c. known (c .match .keys20))
+    (λ c. known (c .match .keys21))
+    (λ c. known (c .match .keys22))
+    rest)
