@@ -1,5 +1,5 @@
--- What reading a field gives, and the ways out of `field_at`.
-use mathlib.Core.Path.{_≡_, sym, ap, _∙_}
+-- What reading a field gives, and the ways out of `long_field_at` and `field_at`.
+use mathlib.Core.Path.{_≡_, refl, sym, ap, _∙_}
 use mathlib.Core.Bool.{true, false}
 use mathlib.Core.List.{List}
 use Prim.Native.Nat.{ℕ, suc, _+_, _≤_, _<_}
@@ -14,7 +14,8 @@ use Rattle.text.specs.DigitLaws.{digitsOf}
 use Rattle.text.specs.RowLaws.{fits, Spaced, Ended, starts-spaced, starts-ended, no-more, no-space, no-newline, no-number}
 use Rattle.values.specs.declared.Number.{Number}
 use Rattle.values.specs.declared.Field.{Field}
-use Rattle.values.specs.Numbers.{NumberRead}
+use Rattle.values.specs.Numbers.{digitAt, NumberRead}
+use Rattle.values.specs.NumberLaws.{digit-low, reading-first, reading-next, reading-done, taken-one}
 
 -- At a place stands a value and its separator; or no row of numbers goes on so there.
 pub record FieldRead (s : List ℕ) (at separator : ℕ) (r : Field) : Type 0 where
@@ -79,3 +80,30 @@ module _ (s : List ℕ) (at separator : ℕ) (high : at ≤ length s) (n : Numbe
             no-space = λ w. absurd (not-both f w);
             no-newline = λ w. absurd (not-both f w);
           }
+
+-- ---- one digit, and the separator behind it
+
+module _ (s : List ℕ) (at separator d : ℕ) (h : at + 1 < length s) (e : getD s (at + 1) 0 ≡ separator)
+    (is : d ≡ digitAt (drop at s)) (small : d < 10) (r : Field) (g : r .good ≡ true) (v : r .value ≡ d) (x : r .next ≡ (at + 1) + 1) where
+  abbrev one : Number
+  one = record { good = true; value = d; end = at + 1 }
+
+  -- A separator below the digits ends the number.
+  one-read : separator < 48 → NumberRead (drop at s) at one
+  one-read low =
+      let first = reading-first s at d (omega arith) is in
+      let none = digit-low s (at + 1) separator h (sym e) low in
+      let next = reading-next s at first small (digitAt (drop (at + 1) s)) (omega arith) refl in
+      reading-done s at next (omega arith) one (taken-one s at (at + 1) _ one refl (omega arith) refl refl)
+
+  as-read : separator < 48 → FieldRead s at separator r
+  as-read low = field-good s at separator (omega arith) one (one-read low) r refl h e g v x
+
+  pub field-digit : FieldRead s at separator r
+  field-digit = record {
+    next = λ w. (omega arith, omega arith);
+    spaced = λ w p. as-read (omega arith) .spaced w p;
+    ended = λ w p. as-read (omega arith) .ended w p;
+    no-space = λ w. absurd (not-both g w);
+    no-newline = λ w. absurd (not-both g w);
+  }

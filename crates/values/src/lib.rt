@@ -106,8 +106,29 @@ fn check_digits(s: &[u8], at: usize, end: usize, value: u32) -> Number
     }
 }
 
-// The number at a place, and the separator behind it.
+// The number at a place, and the separator behind it. Most numbers are one digit, which is looked for first.
 fn field_at(s: &[u8], at: usize, separator: u8) -> Field
+    requires { ⌜ at ≤ length (now s) ⌝ }
+    ensures { λ r. ⌜ FieldRead (now (s .entry)) at separator r ⌝ }
+{
+    let end = at + 1;
+    if end < s.len() {
+        if s[end] == separator {
+            let digit = digit_at(s, at);
+            if digit < 10 {
+                return Field {
+                    good: true,
+                    value: digit as u16,
+                    next: end + 1,
+                };
+            }
+        }
+    }
+    long_field_at(s, at, separator)
+}
+
+// The number at a place, of any length, and the separator behind it.
+fn long_field_at(s: &[u8], at: usize, separator: u8) -> Field
     requires { ⌜ at ≤ length (now s) ⌝ }
     ensures { λ r. ⌜ FieldRead (now (s .entry)) at separator r ⌝ }
 {

@@ -1,49 +1,37 @@
--- Each way out is one of the laws: a field, another byte behind the number, nothing behind it, or no number.
+-- One digit before the separator is the law `field-digit`; all else is what `long_field_at` reads.
 use mathlib.Core.Path.{refl}
 use borrow.Author.Needs.{needs}
-use Rattle.values.specs.Fields.{field-none, field-over, field-wrong, field-good}
+use Rattle.values.specs.Fields.{field-digit}
 use Rattle.values.proofs.field_at.Statement.{statement}
 use Rattle.values.proofs.field_at.Tie as tie
 
-number-at-requires : tie.Need-number-at-requires
-number-at-requires c κs = search needs
+add-end : tie.Need-add-end
+add-end c = search needs
 
-shared-slice-read-if3 : tie.Need-shared-slice-read-if3
-shared-slice-read-if3 c = search needs
+shared-slice-read-if2 : tie.Need-shared-slice-read-if2
+shared-slice-read-if2 c = search needs
 
-add-t12 : tie.Need-add-t12
-add-t12 c = search needs
+digit-at-requires : tie.Need-digit-at-requires
+digit-at-requires c κs = search needs
+
+cast-t12 : tie.Need-cast-t12
+cast-t12 c = search needs
+
+add-t13 : tie.Need-add-t13
+add-t13 c = search needs
 
 returns : tie.Need-returns
 returns c =
-    let n = c .before .before .before .before in
-    field-good _ _ _ (n .before .before .pre) _ (n .number-at .ensures) _ (c .before .before .before .if1 .taken)
-    (c .before .before .if2 .taken) (c .if3 .taken) refl refl refl
+    field-digit _ _ _ _ (c .before .before .before .before .if1 .taken) (c .before .before .if2 .taken) (c .before .digit-at .ensures)
+    (c .if3 .taken) _ refl refl refl
+
+long-field-at-requires : tie.Need-long-field-at-requires
+long-field-at-requires c κs = search needs
 
 returns-2 : tie.Need-returns-2
-returns-2 c =
-    let n = c .before .before .before .before in
-    field-wrong _ _ _ (n .before .before .pre) _ (n .number-at .ensures) _ (c .before .before .before .if1 .taken)
-    (c .before .before .if2 .taken) (c .if3 .left) refl
-
-returns-3 : tie.Need-returns-3
-returns-3 c =
-    let n = c .before .before in
-    field-over _ _ _ (n .before .before .pre) _ (n .number-at .ensures) _ (c .before .if1 .taken) (c .if2 .left) refl
-
-returns-4 : tie.Need-returns-4
-returns-4 c =
-    let n = c .before in
-    field-none _ _ _ (n .before .before .pre) _ (n .number-at .ensures) _ (c .if1 .left) refl
+returns-2 c = search needs
 
 pub field-at-spec : {M : Type 1} → statement M
 field-at-spec =
     tie.close
-    (tie.spec
-    number-at-requires
-    shared-slice-read-if3
-    add-t12
-    returns
-    returns-2
-    returns-3
-    returns-4)
+    (tie.spec add-end shared-slice-read-if2 digit-at-requires cast-t12 add-t13 returns long-field-at-requires returns-2)
