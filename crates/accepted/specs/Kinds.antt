@@ -1,20 +1,14 @@
 -- What the table of kinds has in common: a comprehension's terms come with its query.
 use mathlib.Core.Path.{_≡_, refl, ap, _∙_}
 use mathlib.Core.Bool.{Bool, true, false, not, cond, _&&_, _||_}
-use mathlib.Core.List.{List, [], _∷_}
 use mathlib.Core.Logic.{_⊎_, inl, inr, ⊎-elim}
-use Prim.Native.Nat.{ℕ, zero, suc, _/_}
+use Prim.Native.Nat.{ℕ, _/_}
 use lib.Dec.{eqb}
-use lib.ListN.{getD}
 use borrow.Author.Tests.{eqb-true, eq-eqb}
 use Rattle.basics.specs.Truth.{not-both, and-left, and-right, or-cases}
 use Rattle.basics.specs.Lists.{all}
 use Rattle.fields.specs.Fields.{queries, fieldFrom, query, first, second, third, kinds, kindFields}
-
-pub all-getD : (f : ℕ → Bool) (l : List ℕ) (d : ℕ) → all f l ≡ true → f d ≡ true → (k : ℕ) → f (getD l k d) ≡ true
-all-getD f [] d h p k = p
-all-getD f (x ∷ l) d h p zero = and-left (f x) (all f l) h
-all-getD f (x ∷ l) d h p (suc k) = all-getD f l d (and-right (f x) (all f l) h) p k
+use Rattle.fields.specs.Tables.{all-getD}
 
 -- A term is no query, and stands in a row whose third is one.
 termWith : ℕ → ℕ → Bool

@@ -5,15 +5,12 @@ use mathlib.Core.List.{List, [], _∷_}
 use mathlib.Core.Logic.{_⊎_, inl, inr, ⊎-elim}
 use Prim.Native.Nat.{ℕ, zero, suc, _-_, _≤_, _<_}
 use native.Mathlib.Omega.{arith}
-use lib.Dec.{eqb}
-use borrow.Author.Tests.{eqb-true}
-use Rattle.basics.specs.Truth.{bool-cases, not-both, or-cases}
-use Rattle.basics.specs.Lists.{all}
+use Rattle.basics.specs.Truth.{bool-cases, not-both}
 use Rattle.records.specs.declared.Counts.{Counts}
 use Rattle.records.specs.Layout.{Within, exprAt}
-use Rattle.fields.specs.Fields.{names, fieldFrom, kinds, kindFields, limitOf}
+use Rattle.fields.specs.Fields.{names, limitOf}
+use Rattle.fields.specs.Tables.{name-in-kind}
 use Rattle.accepted.specs.Facts.{Part, SheetFacts}
-use Rattle.accepted.specs.Kinds.{all-getD}
 use Rattle.trees.specs.declared.Row.{Row}
 use Rattle.trees.specs.Sheet.{rowAt}
 use Rattle.trees.specs.Kinds.{isCompr}
@@ -72,26 +69,14 @@ module _ (n r : ℕ) (w : Row) (d : Descends n r w) where
 
 -- ---- names
 
--- A field for a name, or for nothing.
-nameField : ℕ → Bool
-nameField fs = eqb (fieldFrom fs .section) names || eqb (fieldFrom fs .section) 0
-
-kinds-name : all nameField kinds ≡ true
-unfolding nameField kinds fieldFrom
-kinds-name = refl
-
 module _ (c : Counts) (t : List ℕ) (within : Within c) (facts : SheetFacts c t) where
   low-by : (section v : ℕ) → v ≤ limitOf c section → (section ≡ names) ⊎ (section ≡ 0) → v < 128
   low-by section v h (inl e) = let l : v ≤ limitOf c names = subst (λ (k : ℕ). v ≤ limitOf c k) e h in omega (arith, within .few-names)
   low-by section v h (inr e) = let l : v ≤ limitOf c 0 = subst (λ (k : ℕ). v ≤ limitOf c k) e h in omega arith
 
   pub name-low : (r : ℕ) → 1 ≤ r → r ≤ c .exprs → rowAt t r .name < 128
-  unfolding rowAt nameField kindFields fieldFrom
-  name-low r a b =
-      let section = fieldFrom (kindFields (exprAt t r .kind)) .section in
-      let p = all-getD nameField kinds 0 kinds-name refl (exprAt t r .kind) in
-      low-by section (exprAt t r .name) (facts .expr r a b .name .fine .in-range)
-      (⊎-elim (λ q. inl (eqb-true section names q)) (λ q. inr (eqb-true section 0 q)) (or-cases (eqb section names) (eqb section 0) p))
+  unfolding rowAt
+  name-low r a b = low-by _ (exprAt t r .name) (facts .expr r a b .name .fine .in-range) (name-in-kind (exprAt t r .kind))
 
   pub row-onwards : (r : ℕ) → 1 ≤ r → r ≤ c .exprs → Onwards (c .exprs) r (rowAt t r)
   row-onwards r a b = onwards (c .exprs) r (rowAt t r) (row-descends c t facts r a b)

@@ -13,7 +13,7 @@ use Rattle.basics.specs.Lists.{all}
 use Rattle.records.specs.declared.Statement.{Statement}
 use Rattle.records.specs.Layout.{statementAt, firstAt}
 use Rattle.fields.specs.Fields.{expressions, first, second, third, fieldFrom, forms, formFields, limitOf}
-use Rattle.accepted.specs.Kinds.{all-getD}
+use Rattle.fields.specs.Tables.{all-getD}
 use Rattle.trees.specs.Sheet.{sheetOf}
 use Rattle.trees.specs.Trees.{treeAt, chain}
 use Rattle.trees.specs.Statements.{Stmt, noStatement, literalOf, stmtsFrom, stmtsOf}

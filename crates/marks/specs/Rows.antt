@@ -16,10 +16,12 @@ use Rattle.records.specs.declared.Statement.{Statement}
 use Rattle.records.specs.Layout.{Within, exprAt, statementAt}
 use Rattle.fields.specs.declared.Field.{Field}
 use Rattle.fields.specs.Fields.{fieldFrom, chainOrNone, statementOrNone, query, first, second, third, kindFields, formFields}
+use Rattle.fields.specs.Tables.{name-in-kind}
 use Rattle.naming.specs.Entries.{Entry, queryRow, statementRow, exprRow, placeOf, nextField, exprEntries, statementEntries, queryEntries}
 use Rattle.naming.specs.Namings.{namers, inChain, byQueries, byStatements, byExprs}
 use Rattle.marks.specs.Codes.{code-member}
 use Rattle.marks.specs.Marks.{Marks, nameWork, rowWork, marks-row, target-bound}
+use Rattle.marks.specs.Steps.{target-of-name, name-none}
 
 abbrev pub fieldOf : ℕ → Field → ℕ → Entry
 fieldOf r f v = record { field = f; value = v; place = statementRow r }
@@ -100,16 +102,20 @@ pub fields-work : (c : Counts) (x : Statement) (r fs : ℕ) (w u v y z a b : Lis
 unfolding rowWork
 fields-work c x r fs w u v y z a b e p q s t m n = rw (n, m, t, s, q, p, e)
 
-pub parts-work : (c : Counts) (x : Expr) (r : ℕ) (member : Bool) (fs next : ℕ) (w u v y z a : List ℕ)
+-- The `name` comes first, and names no row.
+pub parts-work : (c : Counts) (x : Expr) (r : ℕ) (member : Bool) (fs next : ℕ) (w v y z a : List ℕ)
     → fs ≡ kindFields (x .kind) → next ≡ cond member chainOrNone 0
-    → u ≡ nameWork c (exprRow r) (partOf c x r (fieldFrom fs) (x .name)) w
-    → v ≡ nameWork c (exprRow r) (partOf c x r (fieldFrom (fs / first)) (x .first)) u
+    → v ≡ nameWork c (exprRow r) (partOf c x r (fieldFrom (fs / first)) (x .first)) w
     → y ≡ nameWork c (exprRow r) (partOf c x r (fieldFrom (fs / second)) (x .second)) v
     → z ≡ nameWork c (exprRow r) (partOf c x r (fieldFrom (fs / third)) (x .third)) y
     → a ≡ nameWork c (exprRow r) (partOf c x r (fieldFrom next) (x .next)) z
     → a ≡ rowWork c (exprRow r) (partsOf c member x r) w
 unfolding rowWork
-parts-work c x r member fs next w u v y z a e f p q s t m = rw (m, t, s, q, p, e, f)
+parts-work c x r member fs next w v y z a e f q s t m =
+    let named = fieldFrom (kindFields (x .kind)) in
+    let none : w ≡ nameWork c (exprRow r) (partOf c x r named (x .name)) w =
+    name-none c (exprRow r) (partOf c x r named (x .name)) w 0 (target-of-name c named (x .name) (name-in-kind (x .kind))) refl in
+    rw (m, t, s, q, e, f, ← none)
 
 -- ---- zeros
 

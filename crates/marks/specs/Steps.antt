@@ -2,15 +2,17 @@
 use mathlib.Core.Path.{_≡_, refl, sym, ap, ap₂, _∙_, subst}
 use mathlib.Core.Bool.{Bool, true, false, cond, _&&_}
 use mathlib.Core.List.{List, [], _∷_, _++_}
+use mathlib.Core.Logic.{_⊎_, inl, inr}
 use Prim.Native.Nat.{ℕ, _+_, _/_, _≤_, _<_}
 use native.Mathlib.Omega.{arith}
 use lib.Dec.{eqb}
 use lib.ListN.{getD, set}
 use borrow.Author.Tests.{eq-eqb, ne-eqb, le-leb, lt-leb, lt-ltb, le-ltb}
+use Rattle.basics.specs.Truth.{bool-cases}
 use Rattle.records.specs.declared.Counts.{Counts}
 use Rattle.fields.specs.declared.Field.{Field}
-use Rattle.fields.specs.Fields.{limitOf}
-use Rattle.naming.specs.Entries.{Entry, rowIn, target}
+use Rattle.fields.specs.Fields.{names, limitOf}
+use Rattle.naming.specs.Entries.{Entry, rowIn, inRange, target}
 use Rattle.naming.specs.Namings.{upwards}
 use Rattle.marks.specs.Codes.{nextCode}
 use Rattle.marks.specs.Marks.{nameWork, rowWork}
@@ -33,6 +35,15 @@ module _ (c : Counts) (f : Field) (v : ℕ) where
   target-in l r z e h q =
       q ∙ sym (rw (lt-ltb 0 v (omega arith), le-leb v (limitOf c (f .section)) (subst (λ (k : ℕ). v ≤ k) e h)))
 
+  pub target-of-name : (f .section ≡ names) ⊎ (f .section ≡ 0) → 0 ≡ target c f v
+  unfolding target
+  target-of-name h = go (bool-cases (inRange c f v)) h
+    where
+      go : (inRange c f v ≡ true) ⊎ (inRange c f v ≡ false) → (f .section ≡ names) ⊎ (f .section ≡ 0) → 0 ≡ target c f v
+      go (inl p) (inl e) = sym (rw (p, e))
+      go (inl p) (inr e) = sym (rw (p, e))
+      go (inr p) e = sym (rw p)
+
 -- ---- what it does to the marks
 
 module _ (c : Counts) (by : ℕ) (e : Entry) (w : List ℕ) (to : ℕ) (is : to ≡ target c (e .field) (e .value)) where
@@ -47,6 +58,9 @@ module _ (c : Counts) (by : ℕ) (e : Entry) (w : List ℕ) (to : ℕ) (is : to 
       ap (set w to) (q ∙ ap (λ (b : Bool). nextCode (getD w to 0) b (e .field .chain) (e .place)) u)
       ∙ ap (λ (k : ℕ). set w k (nextCode (getD w k 0) (upwards by k) (e .field .chain) (e .place))) is
       ∙ sym (rw (ne-eqb (target c (e .field) (e .value)) 0 (λ y. z (is ∙ y))))
+
+pub name-zero : (c : Counts) (by : ℕ) (e : Entry) (w : List ℕ) → e .value ≡ 0 → w ≡ nameWork c by e w
+name-zero c by e w z = name-none c by e w 0 (target-zero c (e .field) (e .value) z) refl
 
 -- ---- the query in a mark
 

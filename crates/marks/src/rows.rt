@@ -40,6 +40,9 @@ fn name_from(work: &mut [u64], counts: Counts, by: usize, holds: u32, value: u16
     requires { ⌜ (673 ≤ length (now work)) × (place ≤ 672) × Within counts ⌝ }
     ensures { λ _. ⌜ now (work .exit) ≡ nameWork counts by (record { field = fieldFrom holds; value = value; place = place }) (now (work .entry)) ⌝ }
 {
+    if value == 0 {
+        return;
+    }
     let field = field_from(holds);
     name(work, counts, by, field, value, place);
 }
@@ -81,6 +84,9 @@ fn name_part(work: &mut [u64], counts: Counts, row: usize, x: Expr, holds: u32, 
     requires { ⌜ (673 ≤ length (now work)) × (row ≤ 512) × Within counts ⌝ }
     ensures { λ _. ⌜ now (work .exit) ≡ nameWork counts (exprRow row) (partOf counts x row (fieldFrom holds) value) (now (work .entry)) ⌝ }
 {
+    if value == 0 {
+        return;
+    }
     let field = field_from(holds);
     let place = place_of(counts, field, x, row);
     name(work, counts, EXPR_ROW + row, field, value, place);
@@ -96,13 +102,13 @@ pub fn next_holds(member: bool) -> u32
     0
 }
 
+// A row's `name` is no row that it names.
 fn name_expr(work: &mut [u64], counts: Counts, row: usize, member: bool, x: Expr)
     requires { ⌜ (673 ≤ length (now work)) × (row ≤ 512) × Within counts ⌝ }
     ensures { λ _. ⌜ now (work .exit) ≡ rowWork counts (exprRow row) (partsOf counts member x row) (now (work .entry)) ⌝ }
 {
     let fs = of_kind(x.kind);
     let next = next_holds(member);
-    name_part(work, counts, row, x, fs, x.name);
     name_part(work, counts, row, x, fs / FIRST, x.first);
     name_part(work, counts, row, x, fs / SECOND, x.second);
     name_part(work, counts, row, x, fs / THIRD, x.third);

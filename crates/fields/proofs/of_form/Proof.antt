@@ -2,7 +2,7 @@
 use mathlib.Core.Path.{_≡_, refl, sym, ap}
 use Prim.Native.Nat.{ℕ}
 use native.Mathlib.Omega.{arith}
-use Rattle.fields.specs.Arms.{left-over}
+use Rattle.fields.specs.Tables.{left-over}
 use Rattle.fields.specs.Fields.{forms, formFields}
 use Rattle.fields.proofs.of_form.Statement.{statement}
 use Rattle.fields.proofs.of_form.Tie as tie

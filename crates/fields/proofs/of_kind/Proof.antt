@@ -2,7 +2,7 @@
 use mathlib.Core.Path.{_≡_, refl, sym, ap}
 use Prim.Native.Nat.{ℕ}
 use native.Mathlib.Omega.{arith}
-use Rattle.fields.specs.Arms.{left-over}
+use Rattle.fields.specs.Tables.{left-over}
 use Rattle.fields.specs.Fields.{kinds, kindFields}
 use Rattle.fields.proofs.of_kind.Statement.{statement}
 use Rattle.fields.proofs.of_kind.Tie as tie

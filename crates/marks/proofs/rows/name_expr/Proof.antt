@@ -1,4 +1,4 @@
--- Five fields, one after the other.
+-- Four fields, one after the other; the `name` names no row.
 use Rattle.marks.specs.Rows.{parts-work}
 use borrow.Author.Needs.{needs}
 use Rattle.marks.proofs.rows.name_expr.Statement.{statement}
@@ -22,15 +22,18 @@ name-part-requires-3 c κs = search needs
 name-part-requires-4 : tie.Need-name-part-requires-4
 name-part-requires-4 c κs = search needs
 
-name-part-requires-5 : tie.Need-name-part-requires-5
-name-part-requires-5 c κs = search needs
-
 same-length : tie.Need-same-length
 same-length c = search needs
 
 returns : tie.Need-returns
 returns c =
-    let a = c .before .before .before .before .before .before .before .before .before .before .before .before .before .before .before .before .before .before .before .before .before .before .before .args in parts-work (a .counts) (a .x) (a .row) (a .member) (c .before .before .before .before .before .before .before .before .before .before .before .before .before .before .before .before .before .before .before .before .before .of-kind .result) (c .before .before .before .before .before .before .before .before .before .before .before .before .before .before .before .before .before .before .before .before .next-holds .result) _ _ _ _ _ _ (c .before .before .before .before .before .before .before .before .before .before .before .before .before .before .before .before .before .before .before .before .before .of-kind .ensures) (c .before .before .before .before .before .before .before .before .before .before .before .before .before .before .before .before .before .before .before .before .next-holds .ensures) (c .before .before .before .before .before .before .before .before .before .before .before .before .before .before .before .before .before .before .name-part .ensures) (c .before .before .before .before .before .before .before .before .before .before .before .before .before .before .name-part2 .ensures) (c .before .before .before .before .before .before .before .before .before .before .name-part3 .ensures) (c .before .before .before .before .before .before .name-part4 .ensures) (c .before .before .name-part5 .ensures)
+    let at-first = c .before .before .before .before .before .before .before .before .before .before .before .before .before .before in
+    let start = at-first .before .before .before .before .before in
+    let a = start .args in
+    let fs = at-first .before .before .before .of-kind in
+    let next = at-first .before .before .next-holds in
+    parts-work (a .counts) (a .x) (a .row) (a .member) (fs .result) (next .result) _ _ _ _ _ (fs .ensures) (next .ensures)
+    (at-first .name-part .ensures) (c .before .before .before .before .before .before .before .before .before .before .name-part2 .ensures) (c .before .before .before .before .before .before .name-part3 .ensures) (c .before .before .name-part4 .ensures)
 
 pub name-expr-spec : {M : Type 1} → statement M
 name-expr-spec =
@@ -42,6 +45,5 @@ name-expr-spec =
     name-part-requires-2
     name-part-requires-3
     name-part-requires-4
-    name-part-requires-5
     same-length
     returns)

@@ -1,14 +1,18 @@
--- The place is one of the rows.
+-- A 0 names nothing. The place is one of the rows.
 use mathlib.Core.Path.{_≡_, ap, _∙_}
 use Prim.Native.Nat.{ℕ, _≤_}
 use native.Mathlib.Omega.{arith}
 use Rattle.fields.specs.declared.Field.{Field}
 use Rattle.naming.specs.Entries.{exprRow, placeOf}
 use Rattle.marks.specs.Marks.{nameWork}
+use Rattle.marks.specs.Steps.{name-zero}
 use Rattle.marks.specs.Rows.{partOf, place-bound}
 use borrow.Author.Needs.{needs}
 use Rattle.marks.proofs.rows.name_part.Statement.{statement}
 use Rattle.marks.proofs.rows.name_part.Tie as tie
+
+returns : tie.Need-returns
+returns c = name-zero _ _ _ _ (c .if1 .taken)
 
 field-from-requires : tie.Need-field-from-requires
 field-from-requires c κs = search needs
@@ -21,17 +25,22 @@ add-name c = search needs
 
 name-requires : tie.Need-name-requires
 name-requires c κs =
-    let a = c .before .before .before .before .args in (search needs, omega (arith, place-bound (a .counts) (c .before .before .before .before .pre .2) (c .before .before .field-from .result) (a .x) (a .row) (c .before .before .before .before .pre .1), c .before .place-of .ensures), c .before .before .before .before .pre .2)
+    let start = c .before .before .before .before .before in
+    let a = start .args in
+    let bound = place-bound (a .counts) (start .pre .2) (c .before .before .field-from .result) (a .x) (a .row) (start .pre .1) in
+    (search needs, omega (arith, bound, c .before .place-of .ensures), start .pre .2)
 
 same-length : tie.Need-same-length
 same-length c = search needs
 
-returns : tie.Need-returns
-returns c =
-    let a = c .before .before .before .before .before .before .before .args in c .before .before .name .ensures ∙ ap (λ (p : ℕ). nameWork (a .counts) (exprRow (a .row)) (record { field = c .before .before .before .before .before .field-from .result; value = a .value; place = p }) (a .work .now)) (c .before .before .before .before .place-of .ensures)
-    ∙ ap (λ (f : Field). nameWork (a .counts) (exprRow (a .row)) (partOf (a .counts) (a .x) (a .row) f (a .value)) (a .work .now)) (c .before .before .before .before .before .field-from .ensures)
+returns-2 : tie.Need-returns-2
+returns-2 c =
+    let a = c .before .before .before .before .before .before .before .before .args in
+    let field = c .before .before .before .before .before .field-from in
+    c .before .before .name .ensures ∙ ap (λ (p : ℕ). nameWork (a .counts) (exprRow (a .row)) (record { field = field .result; value = a .value; place = p }) (a .work .now)) (c .before .before .before .before .place-of .ensures)
+    ∙ ap (λ (f : Field). nameWork (a .counts) (exprRow (a .row)) (partOf (a .counts) (a .x) (a .row) f (a .value)) (a .work .now)) (field .ensures)
 
 pub name-part-spec : {M : Type 1} → statement M
 name-part-spec =
     tie.close
-    (tie.spec field-from-requires place-of-requires add-name name-requires same-length returns)
+    (tie.spec returns field-from-requires place-of-requires add-name name-requires same-length returns-2)

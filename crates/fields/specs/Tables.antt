@@ -1,0 +1,56 @@
+-- What is proved of the tables once.
+use mathlib.Core.Path.{_≡_, refl, sym}
+use mathlib.Core.Bool.{Bool, true, _||_}
+use mathlib.Core.List.{List, [], _∷_}
+use mathlib.Core.Logic.{_⊎_, inl, inr, ⊎-elim}
+use Prim.Native.Nat.{ℕ, zero, suc, _≤_}
+use native.Mathlib.Omega.{arith}
+use lib.Dec.{eqb}
+use lib.ListN.{length, getD, List·getD-eq-default}
+use borrow.Author.Tests.{eqb-true}
+use Rattle.basics.specs.Truth.{and-left, and-right, or-cases}
+use Rattle.basics.specs.Lists.{all}
+use Rattle.fields.specs.Fields.{names, fieldFrom, kinds, kindFields}
+
+-- ---- a `match` that has an arm for each number of a table from 1 on
+
+-- The number `k` is none from 1 to `n`, as the last arm knows it.
+abbrev pub NoArm : ℕ → ℕ → Type 0
+NoArm zero k = Unit
+NoArm (suc n) k = NoArm n k × (k ≡ suc n → ⊥)
+
+past : (n k : ℕ) → NoArm n (suc k) → n ≤ k
+past zero k h = omega arith
+past (suc n) k h =
+    let p = past n k (h .0) in
+    let q : suc k ≡ suc n → ⊥ = h .1 in
+    omega arith
+
+-- Left to it are the table's 0, and what lies past the end.
+pub left-over : (l : List ℕ) (n k : ℕ) → length l ≤ suc n → getD l 0 0 ≡ 0 → NoArm n k → 0 ≡ getD l k 0
+left-over l n zero short z h = sym z
+left-over l n (suc k) short z h =
+    let p = past n k h in
+    sym (List·getD-eq-default l 0 {n = suc k} (omega arith))
+
+-- ---- what all numbers of a table have in common
+
+pub all-getD : (f : ℕ → Bool) (l : List ℕ) (d : ℕ) → all f l ≡ true → f d ≡ true → (k : ℕ) → f (getD l k d) ≡ true
+all-getD f [] d h p k = p
+all-getD f (x ∷ l) d h p zero = and-left (f x) (all f l) h
+all-getD f (x ∷ l) d h p (suc k) = all-getD f l d (and-right (f x) (all f l) h) p k
+
+nameOrNothing : ℕ → Bool
+nameOrNothing fs = eqb (fieldFrom fs .section) names || eqb (fieldFrom fs .section) 0
+
+names-in-kinds : all nameOrNothing kinds ≡ true
+unfolding nameOrNothing kinds fieldFrom
+names-in-kinds = refl
+
+-- The `name` of a row is a name, or nothing.
+pub name-in-kind : (kind : ℕ) → (fieldFrom (kindFields kind) .section ≡ names) ⊎ (fieldFrom (kindFields kind) .section ≡ 0)
+unfolding kindFields nameOrNothing fieldFrom
+name-in-kind kind =
+    let section = fieldFrom (kindFields kind) .section in
+    ⊎-elim (λ p. inl (eqb-true section names p)) (λ p. inr (eqb-true section 0 p))
+    (or-cases (eqb section names) (eqb section 0) (all-getD nameOrNothing kinds 0 names-in-kinds refl kind))
