@@ -133,6 +133,17 @@ module _ (t : List ℕ) (k : Scope) (extras : Names) (i : ℕ) where
       comprs = met-none t isCompr ok 0 refl rest (a .comprs);
     })
 
+    -- Past a guard: it walked, or there is no row and all is as it was.
+    pub guarded-walk : {A B : Type 0} (row : ℕ) (a : Used) (fs ws : List ℕ) (r : Used) (gs vs : List ℕ)
+        → (A → (v : Used) × (hs : List ℕ) × (us : List ℕ) × Walked row true a fs ws v hs us × (length hs ≡ length fs) × (length us ≡ length ws)
+        × (gs ≡ hs) × (vs ≡ us) × (r ≡ v))
+        → (B → (row ≡ 0) × (gs ≡ fs) × (vs ≡ ws) × (r ≡ a)) → A ⊎ B
+        → Walked row true a fs ws r gs vs × (length gs ≡ length fs) × (length vs ≡ length ws)
+    guarded-walk row a fs ws r gs vs took left (inl x) = let w = took x in rw (w .6, w .7, w .8) (w .3, w .4, w .5)
+    guarded-walk row a fs ws r gs vs took left (inr y) =
+        let w = left y in
+        rw (w .1, w .2, w .3) (walked-none row (w .0) true a fs ws, refl, refl)
+
     -- ---- a row's turn
 
     at-row : (s : spec.Scope) (l : List ℕ) (row : ℕ)

@@ -72,6 +72,7 @@ fn used_here(
 }
 
 // What a bracket indexes is walked from no name on, so that the names that it uses are known by themselves. `firsts` has a word a name.
+// Most rows have few parts, and a call copies all it is given: so none is made where there is no part.
 fn used_from(
     tables: &[u16],
     scope: Scope,
@@ -93,41 +94,50 @@ fn used_from(
     let k = kids_of(w);
     let next = next_of(w, rest);
     let own = use_row(tables, scope, extras, row, w, used, firsts);
-    let none = fresh(own);
-    let part = used_from(
-        tables,
-        scope,
-        extras,
-        statement,
-        k.first,
-        true,
-        none,
-        firsts,
-        definitions,
-    );
+    let mut part = fresh(own);
+    if k.first != 0 {
+        part = used_from(
+            tables,
+            scope,
+            extras,
+            statement,
+            k.first,
+            true,
+            part,
+            firsts,
+            definitions,
+        );
+    }
     let mut s = used_here(tables, scope, statement, w, own, part, definitions);
-    s = used_from(
-        tables,
-        scope,
-        extras,
-        statement,
-        k.second,
-        true,
-        s,
-        firsts,
-        definitions,
-    );
-    s = used_from(
-        tables,
-        scope,
-        extras,
-        statement,
-        k.third,
-        true,
-        s,
-        firsts,
-        definitions,
-    );
+    if k.second != 0 {
+        s = used_from(
+            tables,
+            scope,
+            extras,
+            statement,
+            k.second,
+            true,
+            s,
+            firsts,
+            definitions,
+        );
+    }
+    if k.third != 0 {
+        s = used_from(
+            tables,
+            scope,
+            extras,
+            statement,
+            k.third,
+            true,
+            s,
+            firsts,
+            definitions,
+        );
+    }
+    if next == 0 {
+        return s;
+    }
     used_from(
         tables,
         scope,

@@ -1,14 +1,18 @@
 -- The walk goes on to later rows only, and what the calls on the way do together is a row's turn (`walked-turn`).
 use mathlib.Core.Path.{_≡_, _∙_}
+use mathlib.Core.Bool.{true}
+use mathlib.Core.List.{List}
 use Prim.Native.Nat.{ℕ, _<_}
 use native.Mathlib.Omega.{arith}
+use lib.ListN.{length}
 use borrow.Author.Needs.{needs}
 use borrow.Fn.Kinds.{In}
 use borrow.Fn.PlainCycle.{Measures, is, falls, and}
 use Rattle.trees.specs.Sheet.{rowAt, row-fields}
 use Rattle.gather.specs.Walking.{remains, Calls, row-low, low-name, calls}
+use Rattle.used.specs.declared.found.Used.{Used}
 use Rattle.used.specs.UsedVars.{second-low}
-use Rattle.used.specs.Defining.{walked-none, first-room, here-fits, second-room, third-room, next-room, walked-turn}
+use Rattle.used.specs.Defining.{Walked, walked-none, guarded-walk, first-room, here-fits, second-room, third-room, next-room, walked-turn}
 use Rattle.used.proofs.vars.used_from.Reads as used-from
 use Rattle.used.proofs.vars.used_from.Kinds as kinds
 use Rattle.used.proofs.vars.+used_from.Lts-used_from as lts
@@ -94,7 +98,7 @@ ready m c =
 
 first-requires : (m : ℕ) → lts.Need-used-from-requires (known m) (at m) used-from.Post
 first-requires m c κs =
-    let f = c .before .before in
+    let f = c .before .before .before .before in
     let o = f .before .before .before in
     let n = o .before .before in
     let r = n .before .before in
@@ -111,10 +115,24 @@ first-requires m c κs =
       ),
     )
 
+-- ---- the three parts, each walked where there is one
+
+first-walk : (m : ℕ) (c : lts.Joined2 (known m) (at m) used-from.Post)
+    → let o = c .before .before .before .before .before in
+    let a = c .before .before .before .before .before .before .before .before .before .before .before .before .before .before .args in
+    Walked (a .tables .now) (a .scope) (a .extras) (a .statement) (c .before .before .before .before .before .before .before .before .kids-of .result .first) true (c .before .before .fresh .result) (o .use-row .last .1 .1 .1 .1 .1 .1 .0) (a .definitions .now) (c .if2 .part) (c .if2 .firsts) (c .if2 .definitions)
+    × (length (c .if2 .firsts) ≡ length (o .use-row .last .1 .1 .1 .1 .1 .1 .0)) × (length (c .if2 .definitions) ≡ length (a .definitions .now))
+first-walk m c =
+    let start = c .before .before .before .before .before .before .before .before .before .before .before .before .before .before in
+    guarded-walk _ _ _ _ (start .pre .1 .0) _ _ _ _ _ _ _ (λ w. (_, _, _, w .3 .ensures, w .3 .kept .1 .1 .1 .1 .1 .1 .1 .0, w .3 .kept .1 .1 .1 .1 .1 .1 .1 .1 .0, w .8, w .9, w .10)) (λ w. (w .0 .left, w .1, w .2, w .3)) (c .if2 .came)
+
+first-firsts : (m : ℕ) (c : lts.Joined2 (known m) (at m) used-from.Post) → length (c .if2 .firsts) ≡ length (c .before .before .before .before .before .before .before .before .before .before .before .before .before .before .args .firsts .now)
+first-firsts m c = first-walk m c .1 ∙ c .before .before .before .before .before .use-row .kept .1 .1 .1 .1 .1 .1 .0
+
 here-requires : (m : ℕ) → lts.Need-used-here-requires (known m) (at m) used-from.Post
 here-requires m c κs =
-    let u = c .before .before .before .before .before in
-    let f = u .before .before .before in
+    let j = c .before in
+    let f = j .before .before in
     let o = f .before .before .before in
     let n = o .before .before in
     let r = n .before .before in
@@ -123,14 +141,14 @@ here-requires m c κs =
       pre .0,
       rw (row-is m r) (second-low _ (pre .0) _ (r .before .if1 .left) (pre .1)),
       here-fits _ _ _ _ (pre .0) _ (r .before .if1 .left) (pre .1) (start .args .rest) _ (row-is m r) _ (n .before .kids-of .ensures) _ (n .next-of .ensures)
-          (start .args .used) _ (pre .3) (o .use-row .result) (f .fresh .result) (o .use-row .ensures .count) (f .fresh .ensures) _ _ _ _ _ (u .used-from .ensures) _ (omega (arith, u .used-from .kept .1 .1 .1 .1 .1 .1 .1 .1 .0)),
+          (start .args .used) _ (pre .3) (o .use-row .result) (f .fresh .result) (o .use-row .ensures .count) (f .fresh .ensures) _ _ _ _ _ (first-walk m j .0) _ (first-walk m j .2),
     )
 
 second-requires : (m : ℕ) → lts.Need-used-from-requires-2 (known m) (at m) used-from.Post
 second-requires m c κs =
-    let h = c .before .before .before .before in
-    let u = h .before .before .before .before .before .before in
-    let f = u .before .before .before in
+    let h = c .before .before .before .before .before .before in
+    let j = h .before .before in
+    let f = j .before .before in
     let o = f .before .before .before in
     let n = o .before .before in
     let r = n .before .before in
@@ -141,19 +159,35 @@ second-requires m c κs =
       (
         pre .0,
         k .1,
-        omega (arith, pre .2, o .use-row .kept .1 .1 .1 .1 .1 .1 .0, u .used-from .kept .1 .1 .1 .1 .1 .1 .1 .0),
+        omega (arith, pre .2, first-firsts m j),
         second-room _ _ _ _ (pre .0) _ (r .before .if1 .left) (pre .1) (start .args .rest) _ (row-is m r) _ (n .before .kids-of .ensures) _ (n .next-of .ensures)
-            (start .args .used) _ (pre .3) (o .use-row .result) (f .fresh .result) (o .use-row .ensures .count) (f .fresh .ensures) _ _ _ _ _ (u .used-from .ensures) _ _ (h .used-here .ensures) _
-            (omega (arith, u .used-from .kept .1 .1 .1 .1 .1 .1 .1 .1 .0, h .used-here .kept .1 .1 .1 .1 .1 .1 .0)),
+            (start .args .used) _ (pre .3) (o .use-row .result) (f .fresh .result) (o .use-row .ensures .count) (f .fresh .ensures) _ _ _ _ _ (first-walk m j .0) _ _ (h .used-here .ensures) _
+            (h .used-here .kept .1 .1 .1 .1 .1 .1 .0 ∙ first-walk m j .2),
       ),
     )
 
+second-walk : (m : ℕ) (c : lts.Joined3 (known m) (at m) used-from.Post)
+    → let h = c .before .before .before .before in
+    let j = c .before .before .before .before .before .before in
+    let a = j .before .before .before .before .before .before .before .before .before .before .before .before .before .before .args in
+    Walked (a .tables .now) (a .scope) (a .extras) (a .statement) (j .before .before .before .before .before .before .before .before .kids-of .result .second) true (h .used-here .result) (j .if2 .firsts) (h .used-here .last .1 .1 .1 .1 .1 .1 .0) (c .if3 .s) (c .if3 .firsts) (c .if3 .definitions)
+    × (length (c .if3 .firsts) ≡ length (j .if2 .firsts)) × (length (c .if3 .definitions) ≡ length (h .used-here .last .1 .1 .1 .1 .1 .1 .0))
+second-walk m c =
+    let start = c .before .before .before .before .before .before .before .before .before .before .before .before .before .before .before .before .before .before .before .before in
+    guarded-walk _ _ _ _ (start .pre .1 .0) _ _ _ _ _ _ _ (λ w. (_, _, _, w .3 .ensures, w .3 .kept .1 .1 .1 .1 .1 .1 .1 .0, w .3 .kept .1 .1 .1 .1 .1 .1 .1 .1 .0, w .8, w .9, w .10)) (λ w. (w .0 .left, w .1, w .2, w .3)) (c .if3 .came)
+
+second-firsts : (m : ℕ) (c : lts.Joined3 (known m) (at m) used-from.Post) → length (c .if3 .firsts) ≡ length (c .before .before .before .before .before .before .before .before .before .before .before .before .before .before .before .before .before .before .before .before .args .firsts .now)
+second-firsts m c = second-walk m c .1 ∙ first-firsts m (c .before .before .before .before .before .before)
+
+second-definitions : (m : ℕ) (c : lts.Joined3 (known m) (at m) used-from.Post) → length (c .if3 .definitions) ≡ length (c .before .before .before .before .before .before .before .before .before .before .before .before .before .before .before .before .before .before .before .before .args .definitions .now)
+second-definitions m c = second-walk m c .2 ∙ c .before .before .before .before .used-here .kept .1 .1 .1 .1 .1 .1 .0 ∙ first-walk m (c .before .before .before .before .before .before) .2
+
 third-requires : (m : ℕ) → lts.Need-used-from-requires-3 (known m) (at m) used-from.Post
 third-requires m c κs =
-    let v = c .before .before .before .before .before .before in
-    let h = v .before .before .before .before .before in
-    let u = h .before .before .before .before .before .before in
-    let f = u .before .before .before in
+    let l = c .before .before .before .before in
+    let h = l .before .before .before .before in
+    let j = h .before .before in
+    let f = j .before .before in
     let o = f .before .before .before in
     let n = o .before .before in
     let r = n .before .before in
@@ -164,20 +198,67 @@ third-requires m c κs =
       (
         pre .0,
         k .1,
-        omega (arith, pre .2, o .use-row .kept .1 .1 .1 .1 .1 .1 .0, u .used-from .kept .1 .1 .1 .1 .1 .1 .1 .0, v .used-from2 .kept .1 .1 .1 .1 .1 .1 .1 .0),
+        omega (arith, pre .2, second-firsts m l),
         third-room _ _ _ _ (pre .0) _ (r .before .if1 .left) (pre .1) (start .args .rest) _ (row-is m r) _ (n .before .kids-of .ensures) _ (n .next-of .ensures)
-            (start .args .used) _ (pre .3) (o .use-row .result) (f .fresh .result) (o .use-row .ensures .count) (f .fresh .ensures) _ _ _ _ _ (u .used-from .ensures) _ _ (h .used-here .ensures) _ _ _ (v .used-from2 .ensures) _
-            (omega (arith, u .used-from .kept .1 .1 .1 .1 .1 .1 .1 .1 .0, h .used-here .kept .1 .1 .1 .1 .1 .1 .0, v .used-from2 .kept .1 .1 .1 .1 .1 .1 .1 .1 .0)),
+            (start .args .used) _ (pre .3) (o .use-row .result) (f .fresh .result) (o .use-row .ensures .count) (f .fresh .ensures) _ _ _ _ _ (first-walk m j .0) _ _ (h .used-here .ensures) _ _ _ (second-walk m l .0) _
+            (second-definitions m l),
       ),
     )
 
+third-walk : (m : ℕ) (c : lts.Joined4 (known m) (at m) used-from.Post)
+    → let l = c .before .before in
+    let j = l .before .before .before .before .before .before in
+    let a = j .before .before .before .before .before .before .before .before .before .before .before .before .before .before .args in
+    Walked (a .tables .now) (a .scope) (a .extras) (a .statement) (j .before .before .before .before .before .before .before .before .kids-of .result .third) true (l .if3 .s) (l .if3 .firsts) (l .if3 .definitions) (c .if4 .s) (c .if4 .firsts) (c .if4 .definitions)
+    × (length (c .if4 .firsts) ≡ length (l .if3 .firsts)) × (length (c .if4 .definitions) ≡ length (l .if3 .definitions))
+third-walk m c =
+    let start = c .before .before .before .before .before .before .before .before .before .before .before .before .before .before .before .before .before .before .before .before .before .before in
+    guarded-walk _ _ _ _ (start .pre .1 .0) _ _ _ _ _ _ _ (λ w. (_, _, _, w .3 .ensures, w .3 .kept .1 .1 .1 .1 .1 .1 .1 .0, w .3 .kept .1 .1 .1 .1 .1 .1 .1 .1 .0, w .8, w .9, w .10)) (λ w. (w .0 .left, w .1, w .2, w .3)) (c .if4 .came)
+
+third-firsts : (m : ℕ) (c : lts.Joined4 (known m) (at m) used-from.Post) → length (c .if4 .firsts) ≡ length (c .before .before .before .before .before .before .before .before .before .before .before .before .before .before .before .before .before .before .before .before .before .before .args .firsts .now)
+third-firsts m c = third-walk m c .1 ∙ second-firsts m (c .before .before)
+
+third-definitions : (m : ℕ) (c : lts.Joined4 (known m) (at m) used-from.Post) → length (c .if4 .definitions) ≡ length (c .before .before .before .before .before .before .before .before .before .before .before .before .before .before .before .before .before .before .before .before .before .before .args .definitions .now)
+third-definitions m c = third-walk m c .2 ∙ second-definitions m (c .before .before)
+
+-- The turn of a row, with the walk over the rest of its chain.
+turned : (m : ℕ) (c : lts.Joined4 (known m) (at m) used-from.Post) (e : Used) (fs ds : List ℕ)
+    → let n = c .before .before .before .before .before .before .before .before .before .before .before .before .before .before .before in
+    let a = c .before .before .before .before .before .before .before .before .before .before .before .before .before .before .before .before .before .before .before .before .before .before .args in
+    Walked (a .tables .now) (a .scope) (a .extras) (a .statement) (n .next-of .result) true (c .if4 .s) (c .if4 .firsts) (c .if4 .definitions) e fs ds
+    → Walked (a .tables .now) (a .scope) (a .extras) (a .statement) (a .row) (a .rest) (a .used) (a .firsts .now) (a .definitions .now) e fs ds
+turned m c e fs ds rest =
+    let l = c .before .before in
+    let h = l .before .before .before .before in
+    let j = h .before .before in
+    let f = j .before .before in
+    let o = f .before .before .before in
+    let n = o .before .before in
+    let r = n .before .before in
+    let start = r .before .before .before .before .before in
+    let pre = start .pre .1 in
+    walked-turn _ _ _ _ (pre .0) _ (r .before .if1 .left) (pre .1) (start .args .rest) _ (row-is m r) _ (n .before .kids-of .ensures) _ (n .next-of .ensures)
+    _ _ _ _ _ _ _ _ _ _ _ _ _ _ _ _ _ _ _ _ (o .use-row .ensures) (f .fresh .ensures) (first-walk m j .0) (h .used-here .ensures)
+    (second-walk m l .0) (third-walk m c .0) rest
+
+same-length : (m : ℕ) → lts.Need-same-length (known m) (at m) used-from.Post
+same-length m c = third-firsts m (c .before)
+
+same-length-2 : (m : ℕ) → lts.Need-same-length-2 (known m) (at m) used-from.Post
+same-length-2 m c = third-definitions m (c .before)
+
+returns-2 : (m : ℕ) → lts.Need-returns-2 (known m) (at m) used-from.Post
+returns-2 m c =
+    let start = c .before .before .before .before .before .before .before .before .before .before .before .before .before .before .before .before .before .before .before .before .before .before .before in
+    turned m (c .before) _ _ _ (walked-none _ _ _ _ (start .pre .1 .0) _ (c .if5 .taken) true _ _ _)
+
 next-requires : (m : ℕ) → lts.Need-used-from-requires-4 (known m) (at m) used-from.Post
 next-requires m c κs =
-    let x = c .before .before .before .before .before .before in
-    let v = x .before .before .before .before .before .before .before in
-    let h = v .before .before .before .before .before in
-    let u = h .before .before .before .before .before .before in
-    let f = u .before .before .before in
+    let q = c .before .before .before in
+    let l = q .before .before in
+    let h = l .before .before .before .before in
+    let j = h .before .before in
+    let f = j .before .before in
     let o = f .before .before .before in
     let n = o .before .before in
     let r = n .before .before in
@@ -188,32 +269,21 @@ next-requires m c κs =
       (
         pre .0,
         rw (n .next-of .ensures) (k .1),
-        omega (arith, pre .2, o .use-row .kept .1 .1 .1 .1 .1 .1 .0, u .used-from .kept .1 .1 .1 .1 .1 .1 .1 .0, v .used-from2 .kept .1 .1 .1 .1 .1 .1 .1 .0, x .used-from3 .kept .1 .1 .1 .1 .1 .1 .1 .0),
+        omega (arith, pre .2, third-firsts m q),
         next-room _ _ _ _ (pre .0) _ (r .before .if1 .left) (pre .1) (start .args .rest) _ (row-is m r) _ (n .before .kids-of .ensures) _ (n .next-of .ensures)
-            (start .args .used) _ (pre .3) (o .use-row .result) (f .fresh .result) (o .use-row .ensures .count) (f .fresh .ensures) _ _ _ _ _ (u .used-from .ensures) _ _ (h .used-here .ensures) _ _ _ (v .used-from2 .ensures) _ _ _ (x .used-from3 .ensures) _
-            (omega (arith, u .used-from .kept .1 .1 .1 .1 .1 .1 .1 .1 .0, h .used-here .kept .1 .1 .1 .1 .1 .1 .0, v .used-from2 .kept .1 .1 .1 .1 .1 .1 .1 .1 .0, x .used-from3 .kept .1 .1 .1 .1 .1 .1 .1 .1 .0)),
+            (start .args .used) _ (pre .3) (o .use-row .result) (f .fresh .result) (o .use-row .ensures .count) (f .fresh .ensures) _ _ _ _ _ (first-walk m j .0) _ _ (h .used-here .ensures) _ _ _ (second-walk m l .0) _ _ _ (third-walk m q .0) _
+            (third-definitions m q),
       ),
     )
 
-same-length : (m : ℕ) → lts.Need-same-length (known m) (at m) used-from.Post
-same-length m c =
-    omega (arith, c .before .before .before .before .before .before .before .before .before .before .before .before .before .before .before .before .before .before .before .before .before .before .before .before .before .before .before .before .before .before .before .before .before .before .before .use-row .kept .1 .1 .1 .1 .1 .1 .0, c .before .before .before .before .before .before .before .before .before .before .before .before .before .before .before .before .before .before .before .before .before .before .before .before .before .before .before .before .before .used-from .kept .1 .1 .1 .1 .1 .1 .1 .0, c .before .before .before .before .before .before .before .before .before .before .before .before .before .before .before .before .before .before .used-from2 .kept .1 .1 .1 .1 .1 .1 .1 .0, c .before .before .before .before .before .before .before .before .before .before .before .used-from3 .kept .1 .1 .1 .1 .1 .1 .1 .0, c .before .before .before .before .used-from4 .kept .1 .1 .1 .1 .1 .1 .1 .0)
+same-length-3 : (m : ℕ) → lts.Need-same-length-3 (known m) (at m) used-from.Post
+same-length-3 m c = c .before .before .before .before .used-from4 .kept .1 .1 .1 .1 .1 .1 .1 .0 ∙ third-firsts m (c .before .before .before .before .before .before .before .before)
 
-same-length-2 : (m : ℕ) → lts.Need-same-length-2 (known m) (at m) used-from.Post
-same-length-2 m c =
-    omega (arith, c .before .before .before .before .before .before .before .before .before .before .before .before .before .before .before .before .before .before .before .before .before .before .before .before .before .before .before .before .before .used-from .kept .1 .1 .1 .1 .1 .1 .1 .1 .0, c .before .before .before .before .before .before .before .before .before .before .before .before .before .before .before .before .before .before .before .before .before .before .before .used-here .kept .1 .1 .1 .1 .1 .1 .0, c .before .before .before .before .before .before .before .before .before .before .before .before .before .before .before .before .before .before .used-from2 .kept .1 .1 .1 .1 .1 .1 .1 .1 .0, c .before .before .before .before .before .before .before .before .before .before .before .used-from3 .kept .1 .1 .1 .1 .1 .1 .1 .1 .0, c .before .before .before .before .used-from4 .kept .1 .1 .1 .1 .1 .1 .1 .1 .0)
+same-length-4 : (m : ℕ) → lts.Need-same-length-4 (known m) (at m) used-from.Post
+same-length-4 m c = c .before .before .before .before .used-from4 .kept .1 .1 .1 .1 .1 .1 .1 .1 .0 ∙ third-definitions m (c .before .before .before .before .before .before .before .before)
 
-returns-2 : (m : ℕ) → lts.Need-returns-2 (known m) (at m) used-from.Post
-returns-2 m c =
-    let f = c .before .before .before .before .before .before .before .before .before .before .before .before .before .before .before .before .before .before .before .before .before .before .before .before .before .before .before .before .before .before .before .before in
-    let o = f .before .before .before in
-    let n = o .before .before in
-    let r = n .before .before in
-    let start = r .before .before .before .before .before in
-    let pre = start .pre .1 in
-    walked-turn _ _ _ _ (pre .0) _ (r .before .if1 .left) (pre .1) (start .args .rest) _ (row-is m r) _ (n .before .kids-of .ensures) _ (n .next-of .ensures)
-    _ _ _ _ _ _ _ _ _ _ _ _ _ _ _ _ _ _ _ _ (o .use-row .ensures) (f .fresh .ensures) (c .before .before .before .before .before .before .before .before .before .before .before .before .before .before .before .before .before .before .before .before .before .before .before .before .before .before .before .before .before .used-from .ensures) (c .before .before .before .before .before .before .before .before .before .before .before .before .before .before .before .before .before .before .before .before .before .before .before .used-here .ensures)
-    (c .before .before .before .before .before .before .before .before .before .before .before .before .before .before .before .before .before .before .used-from2 .ensures) (c .before .before .before .before .before .before .before .before .before .before .before .used-from3 .ensures) (c .before .before .before .before .used-from4 .ensures)
+returns-3 : (m : ℕ) → lts.Need-returns-3 (known m) (at m) used-from.Post
+returns-3 m c = turned m (c .before .before .before .before .before .before .before .before) _ _ _ (c .before .before .before .before .used-from4 .ensures)
 
 pub +used-from-spec : {M : Type 1} → statement M
 +used-from-spec = close μ λ m.
@@ -228,7 +298,10 @@ pub +used-from-spec : {M : Type 1} → statement M
     (here-requires m)
     (second-requires m)
     (third-requires m)
-    (next-requires m)
     (same-length m)
     (same-length-2 m)
     (returns-2 m)
+    (next-requires m)
+    (same-length-3 m)
+    (same-length-4 m)
+    (returns-3 m)
