@@ -2,6 +2,7 @@
 use mathlib.Core.Path.{_≡_}
 use mathlib.Core.List.{List, [], _++_}
 use Prim.Native.Nat.{ℕ}
+use Rattle.names.specs.Sets.{Union}
 use Rattle.names.specs.declared.Names.{Names}
 use Rattle.trees.specs.Lists.{concatMap}
 use Rattle.trees.specs.Trees.{Tree, treeAt}
@@ -16,6 +17,7 @@ use Rattle.gather.specs.Sheets.{sheetAt}
 use Rattle.gather.specs.Agrees.{Sets}
 use Rattle.used.specs.Own.{Holds}
 use Rattle.used.specs.Adds.{Adds}
+use Rattle.using.specs.declared.Using.{Using}
 use Rattle.literals.specs.declared.context.Context.{Context}
 use Rattle.literals.specs.Contexts.{Stands}
 use Rattle.frame.specs.Table.{answersOf}
@@ -32,6 +34,12 @@ module _ (t : List ℕ) where
 
   abbrev pub othersUse : State → List Tree → List Tree → List ℕ
   othersUse s cs es = partsUse s cs (nonVars (sheetAt t) (s .scope) es)
+
+-- Without comprehensions: the names of the expression and of the modifiers, and nothing else changes.
+pub record WithoutComprs (u : Using) (x : Context) (r : Using) : Type 0 where
+  pub progress : r .progress ≡ u .progress
+  pub names : Union (u .names .words) (x .names .words) (r .names .words)
+  pub comprs : r .comprs ≡ u .comprs
 
 module _ (t : List ℕ) (k : Scope) where
   -- Of every expression that has these comprehensions.

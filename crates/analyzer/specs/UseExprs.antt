@@ -1,5 +1,5 @@
 -- `use_expr`: the uses of an expression, then its comprehensions, then those of the modifiers.
-use mathlib.Core.Path.{_≡_, sym, ap, _∙_, subst}
+use mathlib.Core.Path.{_≡_, sym, ap, ap₂, _∙_, subst}
 use mathlib.Core.Bool.{Bool, true, false}
 use mathlib.Core.List.{List, _++_}
 use mathlib.Core.Logic.{_⊎_, inl, inr}
@@ -16,12 +16,13 @@ use Rattle.analysis.specs.States.{sound, State}
 use Rattle.analysis.specs.Using.{gatherUsedVars}
 use Rattle.analysis.specs.Comprs.{Mods, processComprs, useExpr, allUsed}
 use Rattle.sizes.specs.Leaves.{bracketVars}
-use Rattle.gather.specs.Sheets.{sheetAt}
+use Rattle.gather.specs.Sheets.{sheetAt, Accepted}
 use Rattle.gather.specs.Exprs.{exprBy}
 use Rattle.used.specs.Own.{Holds}
 use Rattle.using.specs.declared.Using.{Using}
 use Rattle.using.specs.Defined.{Listed}
 use Rattle.using.specs.UsesVars.{UsesVars}
+use Rattle.comprs.specs.Used.{used-none}
 use Rattle.literals.specs.declared.context.Context.{Context}
 use Rattle.literals.specs.Contexts.{Stands}
 use Rattle.frame.specs.declared.Progress.{Progress}
@@ -37,8 +38,9 @@ use Rattle.analyzer.specs.Steadies.{steady-gather}
 use Rattle.analyzer.specs.Asks.{AsksComprs, AsksExpr}
 use Rattle.analyzer.specs.Does.{DoesComprs, DoesUse}
 use Rattle.analyzer.specs.ComprRows.{at-lies, does-at}
-use Rattle.analyzer.specs.ComprWalk.{does-then, asks-next}
-use Rattle.analyzer.specs.AllUsed.{AllUsed}
+use Rattle.analyzer.specs.ComprWalk.{does-then, does-none, asks-next}
+use Rattle.analyzer.specs.AllUsed.{AllUsed, WithoutComprs}
+use Rattle.analyzer.specs.UsedBy.{all-used}
 
 module _ (t : List ℕ) (levels : ℕ) (i : ℕ) (l : List ℕ) (e : Tree) where
   abbrev gather : State → State
@@ -145,3 +147,20 @@ module _ (t inner : List ℕ) (extras : Names) (row : ℕ) (rest : Bool) (x : Co
 
     pub does-use : DoesUse t inner extras expr x p firsts work (record { progress = s₃; names = names; comprs = u .comprs }) f₃ w₃
     does-use = record { runs = use-runs; names = use-names }
+
+  -- There are no comprehensions.
+  module _ (ok : Accepted t) (u : Using) (f₁ w₁ : List ℕ) (uses : UsesVars t extras (x .statement) row rest p firsts work u f₁ w₁)
+      (none : u .comprs ≡ 0) (no-mods : x .mods ≡ 0) (r : Using) (w : WithoutComprs u x r) where
+    all-own : AllUsed t (u .progress .scope) (u .names) (comprs (exprBy t rest (u .comprs))) x w₁ (r .names)
+    all-own =
+        all-used t (u .progress .scope) (u .names) (u .comprs) rest x w₁ (r .names) (r .names) (r .names) (w .names)
+        (used-none t ok (u .progress .scope) w₁ (u .comprs) none rest (r .names)) (used-none t ok (u .progress .scope) w₁ (x .mods) no-mods true (r .names))
+
+    is : record { progress = u .progress; names = r .names; comprs = u .comprs } ≡ r
+    is = ap₂ (λ (q : Progress) (n : ℕ). record { progress = q; names = r .names; comprs = n }) (sym (w .progress)) (sym (w .comprs))
+
+    pub does-without : DoesUse t inner extras expr x p firsts work r f₁ w₁
+    does-without =
+        subst (λ (v : Using). DoesUse t inner extras expr x p firsts work v f₁ w₁) is
+        (does-use u f₁ w₁ uses (u .progress) f₁ w₁ (does-none t inner (x .levels) ok (u .comprs) none rest (u .progress) f₁ w₁)
+        (u .progress) f₁ w₁ (does-none t inner (x .levels) ok (x .mods) no-mods true (u .progress) f₁ w₁) (r .names) all-own)

@@ -6,7 +6,9 @@ use crate::finish::begun;
 use crate::finish::finish;
 use crate::finish::opened;
 use crate::used_by::all_used;
+use crate::used_by::none_left;
 use crate::used_by::others_used;
+use crate::used_by::without_comprs;
 use branches::kids_of;
 use branches::next_of;
 use comprs::after::after_compr;
@@ -125,8 +127,11 @@ fn use_expr(
     let levels = context.levels;
     let mods = context.mods;
     let u = use_vars(tables, extras, statement, row, rest, p, firsts, work);
-    let own = u.names;
     let comprs = u.comprs;
+    if none_left(comprs, mods) {
+        return without_comprs(u, context);
+    }
+    let own = u.names;
     let mut s = u.progress;
     s = process_comprs(tables, inner, comprs, rest, levels, s, firsts, work);
     s = process_comprs(tables, inner, mods, true, levels, s, firsts, work);

@@ -9,12 +9,15 @@ use literals::used_names::used_names;
 use names::Names;
 use trees::row_at;
 use used::assigned::pattern_of;
+use using::Using;
+ghost use mathlib.Core.Path.{_≡_};
+ghost use mathlib.Core.Bool.{true};
 ghost use Prim.Native.Nat.{_≤_};
 ghost use lib.ListN.{length, getD};
 ghost use Rattle.trees.specs.Traverse.{comprs};
 ghost use Rattle.gather.specs.Sheets.{Accepted};
 ghost use Rattle.gather.specs.Exprs.{exprBy};
-ghost use Rattle.analyzer.specs.AllUsed.{AllUsed, OthersUsed, OtherUsed, LeavesUsed};
+ghost use Rattle.analyzer.specs.AllUsed.{AllUsed, WithoutComprs, OthersUsed, OtherUsed, LeavesUsed};
 
 // Beside the names that it uses by itself. Its comprehensions are those at a row, with the rest of its chain if `rest`.
 pub fn all_used(
@@ -34,6 +37,30 @@ pub fn all_used(
     let by = names.union(context.names);
     let own = comprs_used(tables, scope, work, row, rest, by);
     comprs_used(tables, scope, work, mods, true, own)
+}
+
+// Are there no comprehensions, neither of an expression nor of the modifiers?
+pub fn none_left(comprs: usize, mods: usize) -> bool
+    ensures { λ r. ⌜ (r ≡ true → (comprs ≡ 0) × (mods ≡ 0)) ⌝ }
+{
+    if comprs != 0 {
+        return false;
+    }
+    mods == 0
+}
+
+// All names, where there are none: its own and those of the modifiers.
+pub fn without_comprs(u: Using, context: Context) -> Using
+    ensures { λ r. ⌜ WithoutComprs u context r ⌝ }
+{
+    let progress = u.progress;
+    let own = u.names;
+    let names = own.union(context.names);
+    Using {
+        progress,
+        names,
+        comprs: u.comprs,
+    }
 }
 
 // A part of a some-in pattern that is no variable, or none.

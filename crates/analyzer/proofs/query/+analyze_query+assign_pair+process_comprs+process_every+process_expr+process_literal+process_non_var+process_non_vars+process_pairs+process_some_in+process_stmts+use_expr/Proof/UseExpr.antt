@@ -1,12 +1,15 @@
 -- `use_expr`: the uses, then the comprehensions of the expression and of the modifiers, which are one list.
 use Prim.Native.Nat.{ℕ}
 use native.Mathlib.Omega.{arith}
+use borrow.Author.Needs.{needs}
 use Rattle.gather.specs.Walking.{few-remain}
 use Rattle.analyzer.specs.ComprRows.{at-low}
-use Rattle.analyzer.specs.UseExprs.{use-ready, use-room, own-asks, mods-asks, does-use}
+use Rattle.analyzer.specs.UseExprs.{use-ready, use-room, own-asks, mods-asks, does-use, does-without}
 use Rattle.analyzer.proofs.query.process_comprs.Reads as process-comprs
 use Rattle.analyzer.proofs.query.use_expr.Reads as use-expr
 use Rattle.analyzer.proofs.used_by.all_used.Reads as all-used-reads
+use Rattle.analyzer.proofs.used_by.none_left.Reads as none-left-reads
+use Rattle.analyzer.proofs.used_by.without_comprs.Reads as without-comprs-reads
 use Rattle.using.proofs.vars.use_vars.Reads as use-vars-reads
 use Rattle.analyzer.proofs.query.+analyze_query+assign_pair+process_comprs+process_every+process_expr+process_literal+process_non_var+process_non_vars+process_pairs+process_some_in+process_stmts+use_expr.Lts-use_expr as use-expr-lts
 use Rattle.analyzer.proofs.query.+analyze_query+assign_pair+process_comprs+process_every+process_expr+process_literal+process_non_var+process_non_vars+process_pairs+process_some_in+process_stmts+use_expr.Proof.Measures.{process-comprs-below, use-expr-at}
@@ -15,6 +18,10 @@ abbrev pub known : ℕ → use-expr-lts.Claims
 known m = (
   use-vars-reads.Asked,
   use-vars-reads.Learnt,
+  none-left-reads.Asked,
+  none-left-reads.Learnt,
+  without-comprs-reads.Asked,
+  without-comprs-reads.Learnt,
   process-comprs-below m,
   process-comprs.Post,
   all-used-reads.Asked,
@@ -27,9 +34,28 @@ use-vars-requires m c κs =
     let pre = start .pre .1 in
     (pre .0, pre .3, pre .2, use-ready _ _ _ _ (start .args .rest) _ _ _ _ (pre .5) (pre .4), pre .4)
 
+pub none-left-requires : (m : ℕ) → use-expr-lts.Need-none-left-requires (known m) (use-expr-at m) use-expr.Post
+none-left-requires m c κs = search needs
+
+pub without-comprs-requires : (m : ℕ) → use-expr-lts.Need-without-comprs-requires (known m) (use-expr-at m) use-expr.Post
+without-comprs-requires m c κs = search needs
+
+pub same-length : (m : ℕ) → use-expr-lts.Need-same-length (known m) (use-expr-at m) use-expr.Post
+same-length m c = c .before .before .before .before .before .before .before .use-vars .kept .1 .1 .1 .1 .1 .1 .0
+
+pub same-length-2 : (m : ℕ) → use-expr-lts.Need-same-length-2 (known m) (use-expr-at m) use-expr.Post
+same-length-2 m c = c .before .before .before .before .before .before .before .use-vars .kept .1 .1 .1 .1 .1 .1 .1 .0
+
+pub returns : (m : ℕ) → use-expr-lts.Need-returns (known m) (use-expr-at m) use-expr.Post
+returns m c =
+    let u = c .before .before .before .before .before .before .before in
+    let start = u .before .before .before .before .before .before .before in
+    let none = c .before .before .none-left .ensures (c .before .if1 .taken) in
+    does-without _ _ _ _ (start .args .rest) _ _ _ _ (start .pre .1 .0) _ _ _ (u .use-vars .ensures) (none .0) (none .1) _ (c .without-comprs .ensures)
+
 pub process-comprs-requires : (m : ℕ) → use-expr-lts.Need-process-comprs-requires (known m) (use-expr-at m) use-expr.Post
 process-comprs-requires m c κs =
-    let u = c .before .before .before .before .before .before .before .before in
+    let u = c .before .before .before .before .before .before .before .before .before .before in
     let start = u .before .before .before .before .before .before .before in
     let pre = start .pre .1 in (
       omega (arith, start .pre .0, few-remain _ (pre .0) (u .use-vars .result .comprs)),
@@ -45,7 +71,7 @@ process-comprs-requires m c κs =
 pub process-comprs-requires-2 : (m : ℕ) → use-expr-lts.Need-process-comprs-requires-2 (known m) (use-expr-at m) use-expr.Post
 process-comprs-requires-2 m c κs =
     let d = c .before .before .before .before .before .before in
-    let u = d .before .before .before .before .before .before .before .before .before in
+    let u = d .before .before .before .before .before .before .before .before .before .before .before in
     let start = u .before .before .before .before .before .before .before in
     let pre = start .pre .1 in (
       omega (arith, start .pre .0, few-remain _ (pre .0) (start .args .context .mods)),
@@ -62,7 +88,7 @@ pub all-used-requires : (m : ℕ) → use-expr-lts.Need-all-used-requires (known
 all-used-requires m c κs =
     let e = c .before .before .before .before .before in
     let d = e .before .before .before .before .before .before .before in
-    let u = d .before .before .before .before .before .before .before .before .before in
+    let u = d .before .before .before .before .before .before .before .before .before .before .before in
     let start = u .before .before .before .before .before .before .before in
     let pre = start .pre .1 in (
       pre .0,
@@ -77,24 +103,24 @@ all-used-requires m c κs =
       ),
     )
 
-pub same-length : (m : ℕ) → use-expr-lts.Need-same-length (known m) (use-expr-at m) use-expr.Post
-same-length m c =
+pub same-length-3 : (m : ℕ) → use-expr-lts.Need-same-length-3 (known m) (use-expr-at m) use-expr.Post
+same-length-3 m c =
     let e = c .before .before .before .before .before .before in
     let d = e .before .before .before .before .before .before .before in
-    let u = d .before .before .before .before .before .before .before .before .before in
+    let u = d .before .before .before .before .before .before .before .before .before .before .before in
     omega (arith, u .use-vars .kept .1 .1 .1 .1 .1 .1 .0, d .process-comprs .kept .1 .1 .1 .1 .1 .1 .0, e .process-comprs2 .kept .1 .1 .1 .1 .1 .1 .0)
 
-pub same-length-2 : (m : ℕ) → use-expr-lts.Need-same-length-2 (known m) (use-expr-at m) use-expr.Post
-same-length-2 m c =
+pub same-length-4 : (m : ℕ) → use-expr-lts.Need-same-length-4 (known m) (use-expr-at m) use-expr.Post
+same-length-4 m c =
     let e = c .before .before .before .before .before .before in
     let d = e .before .before .before .before .before .before .before in
-    let u = d .before .before .before .before .before .before .before .before .before in
+    let u = d .before .before .before .before .before .before .before .before .before .before .before in
     omega (arith, u .use-vars .kept .1 .1 .1 .1 .1 .1 .1 .0, d .process-comprs .kept .1 .1 .1 .1 .1 .1 .1 .0, e .process-comprs2 .kept .1 .1 .1 .1 .1 .1 .1 .0)
 
-pub returns : (m : ℕ) → use-expr-lts.Need-returns (known m) (use-expr-at m) use-expr.Post
-returns m c =
+pub returns-2 : (m : ℕ) → use-expr-lts.Need-returns-2 (known m) (use-expr-at m) use-expr.Post
+returns-2 m c =
     let e = c .before .before .before .before .before .before in
     let d = e .before .before .before .before .before .before .before in
-    let u = d .before .before .before .before .before .before .before .before .before in
+    let u = d .before .before .before .before .before .before .before .before .before .before .before in
     let start = u .before .before .before .before .before .before .before in
     does-use _ _ _ _ (start .args .rest) _ _ _ _ _ _ _ (u .use-vars .ensures) _ _ _ (d .process-comprs .ensures) _ _ _ (e .process-comprs2 .ensures) _ (c .all-used .ensures)
