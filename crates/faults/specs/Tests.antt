@@ -9,7 +9,7 @@ use native.Mathlib.Omega.{arith}
 use lib.Dec.{eqb, leb, ltb}
 use lib.ListN.{length, getD}
 use borrow.Author.Tests.{eqb-true, eq-eqb, ne-eqb, lt-ltb, le-ltb}
-use Rattle.basics.specs.Truth.{bool-cases}
+use Rattle.basics.specs.Truth.{bool-cases, eq-cases}
 use Rattle.records.specs.declared.Counts.{Counts}
 use Rattle.records.specs.declared.Builtin.{Builtin}
 use Rattle.records.specs.declared.Expr.{Expr}
@@ -26,6 +26,11 @@ use Rattle.levels.specs.Laws.{level-is}
 use Rattle.faults.specs.Known.{Known, so-is, member-is, query-is}
 
 -- ---- a field
+
+regroup : (a b c d : Bool) → (a || (b || (c || d))) ≡ ((a || (b || c)) || d)
+regroup true b c d = refl
+regroup false true c d = refl
+regroup false false c d = refl
 
 unfoldable pub misnestedBy : Counts → List ℕ → Field → ℕ → ℕ → Bool
 misnestedBy c w f v q = eqb (f .section) 4 && (leb v q || (eqb v 1 || ltb 8 (levelBy (exprRow (c .exprs)) w (c .queries) v)))
@@ -45,6 +50,10 @@ module _ (c : Counts) (within : Within c) where
 
   pub queries-small : (s v : ℕ) → s ≡ 4 → v ≤ limitOf c s → v ≤ 32
   queries-small s v e h = let l : v ≤ c .queries = subst (λ (k : ℕ). v ≤ limitOf c k) e h in omega arith
+
+-- Has a row a part?
+abbrev pub partsIn : Expr → Bool
+partsIn x = not (eqb (x .first) 0) || (not (eqb (x .second) 0) || not (eqb (x .third) 0))
 
 module _ (c : Counts) (t : List ℕ) where
   pub misnested-is : (w : List ℕ) → Known c t w → (f : Field) (v q : ℕ) → v ≤ limitOf c (f .section)
@@ -90,6 +99,26 @@ module _ (c : Counts) (t : List ℕ) where
   fieldsBy q fs x =
       faultOf q fs (x .query) || (faultOf q (fs / first) (x .first) || (faultOf q (fs / second) (x .second)
       || (faultOf q (fs / third) (x .third) || (faultOf q chainOrNone (x .with) || (faultOf q statementOrNone (x .next) || false)))))
+
+  -- A field that is not listed is at fault if it is not 0.
+  unlisted : (q v : ℕ) → faultOf q 0 v ≡ not (eqb v 0)
+  unfolding fieldFault fieldFrom
+  unlisted q v = go (eq-cases v 0)
+    where
+      go : (v ≡ 0) ⊎ (v ≡ 0 → ⊥) → faultOf q 0 v ≡ not (eqb v 0)
+      go (inl e) = rw (eq-eqb v 0 e)
+      go (inr e) = rw (ne-eqb v 0 e, lt-ltb 0 v (omega arith))
+
+  -- No parts are listed.
+  pub leaf-parts : (q fs next : ℕ) (x : Expr) → fs < first
+      → partsBy q fs next x ≡ (faultOf q fs (x .name) || (partsIn x || (faultOf q next (x .next) || false)))
+  unfolding partsBy
+  leaf-parts q fs next x h =
+      let a : fs / first ≡ 0 = omega arith in
+      let b : fs / second ≡ 0 = omega arith in
+      let d : fs / third ≡ 0 = omega arith in
+      rw (a, b, d, unlisted q (x .first), unlisted q (x .second), unlisted q (x .third))
+      (ap (λ (z : Bool). faultOf q fs (x .name) || z) (regroup (not (eqb (x .first) 0)) (not (eqb (x .second) 0)) _ _))
 
   parts-are : (q : ℕ) (member : Bool) (r : ℕ)
       → partsBy q (kindFields (exprAt t r .kind)) (cond member chainOrNone 0) (exprAt t r) ≡ fieldsFault c t q (exprEntries c t member r)

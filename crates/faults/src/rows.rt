@@ -23,10 +23,24 @@ ghost use mathlib.Core.Path.{_≡_};
 ghost use Prim.Native.Nat.{_≤_};
 ghost use Rattle.naming.specs.Faults.{exprFault, statementFault, queryFault};
 ghost use Rattle.faults.specs.Known.{Known};
-ghost use Rattle.faults.specs.Tests.{partsBy, fieldsBy, exprBy, statementBy, queryBy};
+ghost use Rattle.faults.specs.Tests.{partsIn, partsBy, fieldsBy, exprBy, statementBy, queryBy};
 
 // ---- expressions
 
+// Does the row have a part at all?
+fn has_parts(x: Expr) -> bool
+    ensures { λ r. ⌜ r ≡ partsIn x ⌝ }
+{
+    if x.first != 0 {
+        return true;
+    }
+    if x.second != 0 {
+        return true;
+    }
+    x.third != 0
+}
+
+// Most rows are leaves, for whose kind no parts are listed: any that they have are at fault.
 fn parts_fault(
     work: &[u64],
     tables: &[u16],
@@ -41,6 +55,12 @@ fn parts_fault(
 {
     if field_fault(work, tables, counts, q, fs, x.name) {
         return true;
+    }
+    if fs < FIRST {
+        if has_parts(x) {
+            return true;
+        }
+        return field_fault(work, tables, counts, q, next, x.next);
     }
     if field_fault(work, tables, counts, q, fs / FIRST, x.first) {
         return true;
