@@ -3,8 +3,7 @@
 use crate::query::analyze_query;
 use conclude::bases::set_bases;
 use frame::Fault;
-ghost use mathlib.Core.Path.{_≡_};
-ghost use Prim.Native.Nat.{ℕ, _≤_};
+ghost use Prim.Native.Nat.{_≤_};
 ghost use lib.ListN.{length, getD};
 ghost use Rattle.gather.specs.Sheets.{Accepted};
 ghost use Rattle.analyzer.specs.Analysed.{Analysed};
@@ -17,7 +16,7 @@ const DEEPEST: usize = 8;
 
 // The answers are left in the last 4,736 words of work.
 pub fn analyze_sheet(tables: &[u16], work: &mut [u64]) -> Fault
-    requires { ⌜ Accepted (now tables) × (1 ≤ getD (now tables) 4 0) × (8192 ≤ length (now work)) × ((i : ℕ) → getD (now work) i 0 ≡ 0) ⌝ }
+    requires { ⌜ Accepted (now tables) × (1 ≤ getD (now tables) 4 0) × (8192 ≤ length (now work)) ⌝ }
     ensures { λ r. ⌜ Analysed (now (tables .entry)) (now (work .exit)) r ⌝ }
 {
     set_bases(tables, work);

@@ -35,6 +35,43 @@ module _ (g : ℕ → ℕ) where
   sum-on n zero = let e : n + 0 ≡ n = omega arith in omega (arith, ap (sumTo g) e)
   sum-on n (suc k) = let e : n + suc k ≡ suc (n + k) = omega arith in omega (arith, ap (sumTo g) e, sum-on n k)
 
+-- ---- words written among the answers
+
+-- At k of them, which is at p of all words.
+module _ (w : List ℕ) (enough : 4736 ≤ length w) (p k : ℕ) (is : p ≡ length w - 4736 + k) (x : ℕ) where
+  put-at : (i : ℕ) → getD (answersOf (set w p x)) i 0 ≡ getD (set w p x) (length w - 4736 + i) 0
+  put-at i =
+      let v = set w p x in
+      getD-drop (length v - 4736) v i 0 ∙ ap (λ (n : ℕ). getD v (n - 4736 + i) 0) (length-set w p x)
+
+  put-same : k < 4736 → getD (answersOf (set w p x)) k 0 ≡ x
+  put-same l =
+      put-at k ∙ ap (λ (i : ℕ). getD (set w p x) i 0) (sym is) ∙ getD-set-same w p x 0 (omega (arith, is))
+
+  put-other : (i : ℕ) → (i ≡ k → ⊥) → getD (answersOf (set w p x)) i 0 ≡ getD (answersOf w) i 0
+  put-other i ne =
+      put-at i ∙ getD-set-other w p (length w - 4736 + i) x 0 (λ e. ne (omega (arith, e)))
+      ∙ sym (getD-drop (length w - 4736) w i 0)
+
+-- ---- states
+
+-- The first n queries are not analysed.
+abbrev pub FreshTo : List ℕ → ℕ → Type 0
+FreshTo w n = (q : ℕ) → 1 ≤ q → q ≤ n → wordAt (answersOf w) q 0 ≡ 0
+
+pub fresh-none : (w : List ℕ) → FreshTo w 0
+fresh-none w q l u = absurd (omega arith)
+
+pub fresh-next : (w : List ℕ) (n : ℕ) → FreshTo w n → 4736 ≤ length w → n < 32 → (p : ℕ) → p ≡ length w - 4736 + 144 * n
+    → FreshTo (set w p 0) (n + 1)
+fresh-next w n h enough few p is q l u = go (eq-cases q (n + 1))
+  where
+    go : (q ≡ n + 1) ⊎ (q ≡ n + 1 → ⊥) → wordAt (answersOf (set w p 0)) q 0 ≡ 0
+    go (inl e) = put-same w enough p (144 * (q - 1) + 0) (omega (arith, e, is)) 0 (omega (arith, e))
+    go (inr ne) = put-other w enough p (144 * n) is 0 (144 * (q - 1) + 0) (λ e. omega (arith, e, ne, l)) ∙ h q l (omega (arith, u, ne))
+
+-- ---- bases
+
 module _ (t : List ℕ) where
   -- Later queries begin behind earlier ones.
   pub base-apart : (p q : ℕ) → 1 ≤ p → p < q → baseAt t p + countAt t p ≤ baseAt t q
@@ -58,47 +95,34 @@ module _ (t : List ℕ) where
 
   -- The bases of the first n queries are written, and no query is analysed.
   pub record BasedTo (w : List ℕ) (n : ℕ) : Type 0 where
-    pub fresh : (q : ℕ) → wordAt (answersOf w) q 0 ≡ 0
+    pub fresh : FreshTo w 32
     pub based : (q : ℕ) → 1 ≤ q → q ≤ n → wordAt (answersOf w) q 9 ≡ baseAt t q
 
-  pub based-none : (w : List ℕ) → ((i : ℕ) → getD w i 0 ≡ 0) → BasedTo w 0
-  based-none w zeros = record {
-    fresh = λ q. getD-drop (length w - 4736) w _ 0 ∙ zeros _;
-    based = λ q l h. absurd (omega arith);
-  }
+  pub based-none : (w : List ℕ) → FreshTo w 32 → BasedTo w 0
+  based-none w fresh = record { fresh = fresh; based = λ q l h. absurd (omega arith) }
 
-  module _ (w : List ℕ) (n : ℕ) (h : BasedTo w n) where
-    pub based-next : 4736 ≤ length w → n < 32 → (first : ℕ) → first ≡ length w - 4736 → (x : ℕ) → x ≡ sumTo (countAt t) n
-        → BasedTo (set w (first + 144 * n + 9) x) (n + 1)
-    based-next enough few first is x sum = record {
-      fresh = λ q. other (144 * (q - 1) + 0) (λ e. omega (arith, e)) ∙ h .fresh q;
+  module _ (w : List ℕ) (n : ℕ) (h : BasedTo w n) (enough : 4736 ≤ length w) where
+    pub based-next : n < 32 → (p : ℕ) → p ≡ length w - 4736 + (144 * n + 9) → (x : ℕ) → x ≡ sumTo (countAt t) n
+        → BasedTo (set w p x) (n + 1)
+    based-next few p is x sum = record {
+      fresh = λ q l u. other (144 * (q - 1) + 0) (λ e. omega (arith, e)) ∙ h .fresh q l u;
       based = λ q l u. go q l u (eq-cases q (n + 1));
     }
       where
-        at : (i : ℕ) → getD (answersOf (set w (first + 144 * n + 9) x)) i 0 ≡ getD (set w (first + 144 * n + 9) x) (first + i) 0
-        at i =
-            let v = set w (first + 144 * n + 9) x in
-            getD-drop (length v - 4736) v i 0 ∙ ap (λ (k : ℕ). getD v (k - 4736 + i) 0) (length-set w (first + 144 * n + 9) x)
-            ∙ ap (λ (k : ℕ). getD v (k + i) 0) (sym is)
+        other : (i : ℕ) → (i ≡ 144 * n + 9 → ⊥) → getD (answersOf (set w p x)) i 0 ≡ getD (answersOf w) i 0
+        other = put-other w enough p (144 * n + 9) is x
 
-        other : (i : ℕ) → (i ≡ 144 * n + 9 → ⊥) → getD (answersOf (set w (first + 144 * n + 9) x)) i 0 ≡ getD (answersOf w) i 0
-        other i ne =
-            at i ∙ getD-set-other w (first + 144 * n + 9) (first + i) x 0 (λ e. ne (omega (arith, e)))
-            ∙ ap (λ (k : ℕ). getD w (k + i) 0) is ∙ sym (getD-drop (length w - 4736) w i 0)
-
-        go : (q : ℕ) → 1 ≤ q → q ≤ n + 1 → (q ≡ n + 1) ⊎ (q ≡ n + 1 → ⊥) → wordAt (answersOf (set w (first + 144 * n + 9) x)) q 9 ≡ baseAt t q
+        go : (q : ℕ) → 1 ≤ q → q ≤ n + 1 → (q ≡ n + 1) ⊎ (q ≡ n + 1 → ⊥) → wordAt (answersOf (set w p x)) q 9 ≡ baseAt t q
         go q l u (inl e) =
-            let k : first + (144 * (q - 1) + 9) ≡ first + 144 * n + 9 = omega (arith, e) in
             let m : n ≡ q - 1 = omega (arith, e) in
-            at (144 * (q - 1) + 9) ∙ ap (λ (i : ℕ). getD (set w (first + 144 * n + 9) x) i 0) k
-            ∙ getD-set-same w (first + 144 * n + 9) x 0 (omega (arith, is)) ∙ sum ∙ ap (sumTo (countAt t)) m
+            put-same w enough p (144 * (q - 1) + 9) (omega (arith, e, is)) x (omega (arith, e)) ∙ sum ∙ ap (sumTo (countAt t)) m
         go q l u (inr ne) = other (144 * (q - 1) + 9) (λ e. omega (arith, e, ne, l)) ∙ h .based q l (omega (arith, u, ne))
 
     -- The table of no schedule.
-    pub no-schedule : 4736 ≤ length w → getD t 4 0 ≤ n → Table t w []
-    no-schedule enough all = record {
+    pub no-schedule : getD t 4 0 ≤ n → Table t w []
+    no-schedule all = record {
       enough = enough;
-      stored = λ q l u. h .fresh q;
+      stored = h .fresh;
       based = λ q l u. h .based q l (omega arith);
       fits = λ a m. absurd (List·Memᴰ·not-nil m);
       low = λ a m. absurd (List·Memᴰ·not-nil m);

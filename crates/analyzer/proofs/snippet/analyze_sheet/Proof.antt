@@ -4,31 +4,22 @@ use borrow.Author.Needs.{needs}
 use Rattle.analyzer.specs.Snippet.{nothing-around, outer-asks, analysed}
 use Rattle.analyzer.proofs.snippet.analyze_sheet.Statement.{statement}
 use Rattle.analyzer.proofs.snippet.analyze_sheet.Tie as tie
-use Rattle.analyzer.proofs.snippet.analyze_sheet.Reads as reads
-use Rattle.analyzer.proofs.snippet.analyze_sheet.Lts as lts
-use Rattle.analyzer.proofs.query.analyze_query.Reads as analyze-query-reads
-use Rattle.conclude.proofs.bases.set_bases.Reads as set-bases-reads
 
--- src/snippet.rt:23:5
 set-bases-requires : tie.Need-set-bases-requires
 set-bases-requires c κs = search needs
 
--- src/snippet.rt:25:27
 slice-aggregate-analyze-query : tie.Need-slice-aggregate-analyze-query
 slice-aggregate-analyze-query c = search needs
 
--- src/snippet.rt:25:5
 analyze-query-requires : tie.Need-analyze-query-requires
 analyze-query-requires c κs =
     let pre = c .before .before .before .before .before .before .before .before .pre in
     let bases = c .before .before .before .before .set-bases in
     (pre .0, omega arith, outer-asks _ (pre .0) _ nothing-around _ (bases .ensures) (pre .1) (omega (arith, pre .2, bases .kept .1 .0)))
 
--- src/snippet.rt:19:1
 same-length : tie.Need-same-length
 same-length c = search needs
 
--- src/snippet.rt:19:1
 returns : tie.Need-returns
 returns c =
     let pre = c .before .before .before .before .before .before .before .before .before .before .before .pre in
