@@ -26,7 +26,7 @@ use Rattle.spelling.specs.Names.{SpecialRead}
 use Rattle.naming.specs.Lines.{firstLine}
 use Rattle.sheet.specs.declared.Outcome.{Outcome}
 use Rattle.sheet.specs.declared.Outcome.the-variants.{Read, NoRoom, TooLong, BadForm, BadName, BadCount, BadField}
-use Rattle.sheet.specs.Verdict.{blank, countsOf, fieldsFault, asked, headOf, specialOf, readTables}
+use Rattle.sheet.specs.Verdict.{blank, countsOf, fieldsFault, asked, verdict, headOf, specialOf, readTables, leftTables}
 
 abbrev pub isRead : Outcome → Bool
 isRead Read = true
@@ -41,6 +41,11 @@ isRead (BadField l) = false
 pub record Asked (s : List ℕ) (r : Outcome) (tableAfter : List ℕ) : Type 0 where
   pub came-to : r ≡ asked s
   pub tabled : isRead r ≡ true → tableAfter ≡ readTables s
+
+-- What all questions leave, of tables and work that are so long. Nothing is said of the tables of a refused sheet.
+pub record SheetTaken (s : List ℕ) (room long : ℕ) (r : Outcome) (tablesAfter : List ℕ) : Type 0 where
+  pub came-to : r ≡ verdict s room long
+  pub tabled : isRead r ≡ true → tablesAfter ≡ leftTables s room r
 
 -- The special names' rows fit an entry of the tables.
 pub record Small (x : Special) : Type 0 where

@@ -1,17 +1,17 @@
--- What the call leaves, by each way out.
+-- What the questions and the reader leave, by each way out.
 use mathlib.Core.Path.{_≡_, refl, sym, ap, _∙_}
 use mathlib.Core.Bool.{true, false, _&&_}
 use mathlib.Core.List.{List, _++_}
 use Prim.Native.Nat.{ℕ, _+_, _-_, _≤_}
 use native.Mathlib.Omega.{arith}
 use lib.Dec.{leb}
-use lib.ListN.{length, take, drop, replicate, length-append, length-replicate, take-append-drop, replicate-append-replicate}
+use lib.ListN.{take, drop, replicate, length-replicate, replicate-append-replicate}
 use lib.Seq.{take-at, drop-at}
 use Rattle.basics.specs.Truth.{not-both}
 use Rattle.sheet.specs.declared.Outcome.{Outcome}
 use Rattle.sheet.specs.declared.Outcome.the-variants.{Read, NoRoom, TooLong, BadForm, BadName, BadCount, BadField}
-use Rattle.sheet.specs.Verdict.{blank, asked, verdict, readTables, leftTables, SheetLeft}
-use Rattle.sheet.specs.Asked.{isRead, Asked}
+use Rattle.sheet.specs.Verdict.{blank, verdict, readTables, leftTables, SheetLeft}
+use Rattle.sheet.specs.Asked.{isRead, Asked, SheetTaken}
 
 -- ---- zeros, the first n of which are lent
 
@@ -36,12 +36,6 @@ module _ (t : List ℕ) (room : ℕ) (zeroed : t ≡ replicate room 0) (enough :
   pub rest-zeros : drop 8192 t ≡ replicate (room - 8192) 0
   rest-zeros = ap (drop 8192) zeroed ∙ zeros-rest 8192 room enough
 
--- The tables keep their length when the lent part is back.
-pub lent-back : (n : ℕ) (t e : List ℕ) → length e ≡ length (take n t) → length (e ++ drop n t) ≡ length t
-lent-back n t e h =
-    length-append e (drop n t) ∙ ap (λ (k : ℕ). k + length (drop n t)) h ∙ sym (length-append (take n t) (drop n t))
-    ∙ ap length (take-append-drop n t)
-
 -- ---- what the tables hold
 
 rows-left : (s : List ℕ) (room : ℕ) (r : Outcome) → isRead r ≡ true → readTables s ++ replicate (room - 8192) 0 ≡ leftTables s room r
@@ -64,22 +58,24 @@ zeros-left s room (BadField l) p = refl
 
 -- ---- the ways out
 
-module _ (s : List ℕ) (room long : ℕ) (t w : List ℕ) (worked : w ≡ replicate long 0) where
-  pub no-room : (leb 8192 room && leb 8192 long) ≡ false → t ≡ replicate room 0 → SheetLeft s room long NoRoom t w
+-- Of the questions.
+module _ (s : List ℕ) (room long : ℕ) (t : List ℕ) where
+  pub no-room : (leb 8192 room && leb 8192 long) ≡ false → SheetTaken s room long NoRoom t
   unfolding verdict
-  no-room few is = record { came-to = sym (rw few); tabled = is; worked = worked }
+  no-room few = record { came-to = sym (rw few); tabled = λ p. absurd (not-both p refl) }
 
-  module _ (enough : (leb 8192 room && leb 8192 long) ≡ true) (r : Outcome) (e : List ℕ) (k : Asked s r e) where
-    comes-to : r ≡ verdict s room long
-    unfolding verdict
-    comes-to = k .came-to ∙ sym (rw enough)
+  pub takes : (leb 8192 room && leb 8192 long) ≡ true → (r : Outcome) (e : List ℕ) → Asked s r e → t ≡ e ++ replicate (room - 8192) 0
+      → SheetTaken s room long r t
+  unfolding verdict
+  takes enough r e k is = record {
+    came-to = k .came-to ∙ sym (rw enough);
+    tabled = λ p. is ∙ ap (λ (l : List ℕ). l ++ replicate (room - 8192) 0) (k .tabled p) ∙ rows-left s room r p;
+  }
 
-    pub leaves-rows : isRead r ≡ true → t ≡ e ++ replicate (room - 8192) 0 → SheetLeft s room long r t w
-    leaves-rows p is = record {
-      came-to = comes-to;
-      tabled = is ∙ ap (λ (l : List ℕ). l ++ replicate (room - 8192) 0) (k .tabled p) ∙ rows-left s room r p;
-      worked = worked;
-    }
+-- Of the reader.
+module _ (s : List ℕ) (room long : ℕ) (r : Outcome) (t : List ℕ) (k : SheetTaken s room long r t) (w : List ℕ) (worked : w ≡ replicate long 0) where
+  pub leaves-rows : isRead r ≡ true → SheetLeft s room long r t w
+  leaves-rows p = record { came-to = k .came-to; tabled = k .tabled p; worked = worked }
 
-    pub leaves-zeros : isRead r ≡ false → t ≡ replicate room 0 → SheetLeft s room long r t w
-    leaves-zeros p is = record { came-to = comes-to; tabled = is ∙ zeros-left s room r p; worked = worked }
+  pub leaves-zeros : isRead r ≡ false → (u : List ℕ) → u ≡ replicate room 0 → SheetLeft s room long r u w
+  leaves-zeros p u is = record { came-to = k .came-to; tabled = is ∙ zeros-left s room r p; worked = worked }

@@ -10,7 +10,7 @@ ghost use lib.ListN.{length};
 ghost use lib.Seq.{sets};
 ghost use Rattle.records.specs.Layout.{Within};
 ghost use Rattle.sheet.specs.Verdict.{number, line, blank, headOf, SheetLeft};
-ghost use Rattle.sheet.specs.Asked.{isRead, Small, Asked};
+ghost use Rattle.sheet.specs.Asked.{isRead, Small, Asked, SheetTaken};
 
 // What a sheet comes to: read, or the first question that it fails, with the first line at fault.
 pub enum Outcome {
@@ -90,6 +90,17 @@ fn ask(s: &[u8], table: &mut [u16], work: &mut [u64]) -> Outcome
     Outcome::Read
 }
 
+// All questions. Where the sheet is read, its rows are left in the tables; work, and the tables of a refused sheet, are left as they come.
+pub fn take(s: &[u8], tables: &mut [u16], work: &mut [u64]) -> Outcome
+    ensures { λ r. ⌜ SheetTaken (now (s .entry)) (length (now (tables .entry))) (length (now (work .entry))) r (now (tables .exit)) ⌝ }
+{
+    buffers::clear(tables);
+    if !has_room(tables.len(), work.len()) {
+        return Outcome::NoRoom;
+    }
+    ask(s, &mut tables[0..tables::LENGTH], work)
+}
+
 fn is_read(outcome: Outcome) -> bool
     ensures { λ r. ⌜ r ≡ isRead outcome ⌝ }
 {
@@ -108,12 +119,7 @@ fn is_read(outcome: Outcome) -> bool
 pub fn read(s: &[u8], tables: &mut [u16], work: &mut [u64]) -> Outcome
     ensures { λ r. ⌜ SheetLeft (now (s .entry)) (length (now (tables .entry))) (length (now (work .entry))) r (now (tables .exit)) (now (work .exit)) ⌝ }
 {
-    buffers::clear(tables);
-    if !has_room(tables.len(), work.len()) {
-        buffers::clear_words(work);
-        return Outcome::NoRoom;
-    }
-    let outcome = ask(s, &mut tables[0..tables::LENGTH], work);
+    let outcome = take(s, tables, work);
     buffers::clear_words(work);
     if !is_read(outcome) {
         buffers::clear(tables);
