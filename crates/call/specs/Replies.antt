@@ -39,16 +39,15 @@ Replies room result r answer =
 -- ---- each way out
 
 -- The sheet is not read.
-pub outcome-replies : (s : List ℕ) (tables work room : ℕ) (r : Outcome) → (questions.number r ≡ 0 → ⊥)
-    → asLeft (outcomeReply r) (questions.leftTables s tables r) (replicate work 0) (replicate room 0)
-    ≡ leftBy tables work room (afterReading s room r)
-outcome-replies s tables work room Read h = absurd (h refl)
-outcome-replies s tables work room NoRoom h = refl
-outcome-replies s tables work room TooLong h = refl
-outcome-replies s tables work room (BadForm l) h = refl
-outcome-replies s tables work room (BadName l) h = refl
-outcome-replies s tables work room (BadCount l) h = refl
-outcome-replies s tables work room (BadField l) h = refl
+pub outcome-replies : (s : List ℕ) (room : ℕ) (r : Outcome) → (questions.number r ≡ 0 → ⊥)
+    → Replies room (afterReading s room r) (outcomeReply r) (replicate room 0)
+outcome-replies s room Read h = absurd (h refl)
+outcome-replies s room NoRoom h = λ tables work. refl
+outcome-replies s room TooLong h = λ tables work. refl
+outcome-replies s room (BadForm l) h = λ tables work. refl
+outcome-replies s room (BadName l) h = λ tables work. refl
+outcome-replies s room (BadCount l) h = λ tables work. refl
+outcome-replies s room (BadField l) h = λ tables work. refl
 
 -- The analysis ends with a fault.
 pub fault-replies : (n room : ℕ) (run : Run) (f : Fault) → isSound f ≡ false

@@ -7,8 +7,8 @@ use answer::layout::PLACES;
 use tables::STATEMENTS;
 ghost use mathlib.Core.Path.{_≡_};
 ghost use mathlib.Core.List.{List};
-ghost use Prim.Native.Nat.{ℕ, _≤_};
-ghost use lib.ListN.{length, getD, replicate};
+ghost use Prim.Native.Nat.{_≤_};
+ghost use lib.ListN.{length, replicate};
 ghost use Rattle.analysis.specs.States.{QuerySchedule};
 ghost use Rattle.answers.specs.Text.{answerText};
 ghost use Rattle.answers.specs.Call.{fitting, analysed};
@@ -43,9 +43,9 @@ fn write_answer(work: &[u64], queries: usize, answer: &mut [u8]) -> Reply
     }
 }
 
-// Work and the lent bytes are zeros.
+// The lent bytes are zeros.
 pub fn answer_sheet(tables: &[u16], work: &mut [u64], answer: &mut [u8]) -> Reply
-    requires { ⌜ Accepted (now tables) × (8192 ≤ length (now work)) × ((i : ℕ) → getD (now work) i 0 ≡ 0) × (now answer ≡ replicate (length (now answer)) 0) ⌝ }
+    requires { ⌜ Accepted (now tables) × (8192 ≤ length (now work)) × (now answer ≡ replicate (length (now answer)) 0) ⌝ }
     ensures { λ r. ⌜ Replies (length (now (answer .entry))) (analysed (sheetAt (now (tables .entry))) (length (now (answer .entry)))) r (now (answer .exit)) ⌝ }
 {
     let fault = analyze_sheet(tables, work);

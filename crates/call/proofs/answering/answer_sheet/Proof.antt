@@ -23,7 +23,7 @@ returns : tie.Need-returns
 returns c =
     let start = c .before .before .before .before .before .before .before .before .before .before in
     faulty _ _ _ (c .before .before .before .before .before .analyze-sheet .ensures) (sym (c .before .before .is-sound .ensures) ∙ not-true _ (c .before .if1 .taken)) _ _
-    (c .of-fault .ensures) _ (start .pre .3)
+    (c .of-fault .ensures) _ (start .pre .2)
 
 shared-slice-read-write-answer : tie.Need-shared-slice-read-write-answer
 shared-slice-read-write-answer c = search needs
@@ -38,7 +38,7 @@ write-answer-requires c κs =
       omega (arith, start .pre .1, fault .analyze-sheet .kept .1 .0),
       start .pre .0 .within .few-queries,
       answers-sound _ _ _ (fault .analyze-sheet .ensures) (sym (c .before .before .before .before .is-sound .ensures) ∙ not-false _ (c .before .before .before .if1 .left)),
-      start .pre .3,
+      start .pre .2,
     )
 
 same-length-2 : tie.Need-same-length-2
