@@ -4,7 +4,9 @@
 //! Each sheet is timed by itself, over many calls, the better of several runs counting; a class has
 //! the geometric mean of the sheets' ratios. *In turn* is the ratio of the times for all sheets one
 //! after the other, so that no branch is foreseen from the call before. Only sheets with an answer
-//! count. The proved call zeroes its buffers, reads, checks and writes within its time.
+//! count. The proved call zeroes its buffers, reads, checks and writes within its time; two more
+//! columns say what of that is spared the original: *reading*, the reader's own call on the sheet, and
+//! *zeroing*, as much zeroing as the whole call does.
 //!
 //! Then the growth of both where the original's work multiplies: chains of brackets, and
 //! comprehensions under `with` of an array assignment, nested.
@@ -31,7 +33,9 @@ fn main() -> ExitCode {
 }
 
 fn bench() -> Result<(), NotAtHand> {
-    println!("class                      sheets    bytes     proved    original  ratio  in turn");
+    println!(
+        "class                      sheets    bytes     proved    original  ratio  in turn  reading  zeroing"
+    );
     let typical = |sheet: &Sheet| (3..=12).contains(&sheet.statements.len());
     let large = |sheet: &Sheet| sheet.exprs.len() >= 300;
     let long = |sheet: &Sheet| sheet.text().len() > 1_024;
@@ -152,6 +156,20 @@ impl Buffers {
         let _ = black_box(nokchbem::analyze(text, tables, work, answer));
         black_box(&self.answer);
     }
+
+    fn reading(&mut self, sheet: &Timed) {
+        let text = black_box(&sheet.text);
+        let _ = black_box(nokchbem::read(text, &mut self.tables, &mut self.work));
+    }
+
+    /// The answer and work once, the tables before and after.
+    fn zeroing(&mut self) {
+        black_box(&mut self.answer).fill(0);
+        black_box(&mut self.tables).fill(0);
+        black_box(&mut self.tables).fill(0);
+        black_box(&mut self.work).fill(0);
+        black_box(&self.work);
+    }
 }
 
 fn original(sheet: &Timed) {
@@ -192,14 +210,20 @@ fn report(label: &str, sheets: &[Timed]) {
     let mut buffers = Buffers::new();
     let times: Vec<_> = sheets.iter().map(|s| times(&mut buffers, s)).collect();
     let bytes = sheets.iter().map(|s| s.text.len()).sum::<usize>();
+    let readings: Vec<_> = sheets
+        .iter()
+        .map(|sheet| best(&mut || buffers.reading(sheet)))
+        .collect();
+    let zeroing = best(&mut || buffers.zeroing());
     println!(
-        "{label:26} {:6} {:8} {:8.0}ns {:9.0}ns {:6.3} {:8.3}",
+        "{label:26} {:6} {:8} {:8.0}ns {:9.0}ns {:6.3} {:8.3} {:6.0}ns {zeroing:6.0}ns",
         sheets.len(),
         bytes / sheets.len(),
         geometric_mean(times.iter().map(|t| t.0)),
         geometric_mean(times.iter().map(|t| t.1)),
         geometric_mean(times.iter().map(|t| t.0 / t.1)),
-        in_turn(&mut buffers, sheets)
+        in_turn(&mut buffers, sheets),
+        geometric_mean(readings.iter().copied())
     );
 }
 
