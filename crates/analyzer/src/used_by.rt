@@ -11,8 +11,9 @@ use trees::row_at;
 use used::assigned::pattern_of;
 use using::Using;
 ghost use mathlib.Core.Path.{_≡_};
-ghost use mathlib.Core.Bool.{true};
+ghost use mathlib.Core.Bool.{_&&_};
 ghost use Prim.Native.Nat.{_≤_};
+ghost use lib.Dec.{eqb};
 ghost use lib.ListN.{length, getD};
 ghost use Rattle.trees.specs.Traverse.{comprs};
 ghost use Rattle.gather.specs.Sheets.{Accepted};
@@ -41,7 +42,7 @@ pub fn all_used(
 
 // Are there no comprehensions, neither of an expression nor of the modifiers?
 pub fn none_left(comprs: usize, mods: usize) -> bool
-    ensures { λ r. ⌜ (r ≡ true → (comprs ≡ 0) × (mods ≡ 0)) ⌝ }
+    ensures { λ r. ⌜ r ≡ (eqb comprs 0 && eqb mods 0) ⌝ }
 {
     if comprs != 0 {
         return false;

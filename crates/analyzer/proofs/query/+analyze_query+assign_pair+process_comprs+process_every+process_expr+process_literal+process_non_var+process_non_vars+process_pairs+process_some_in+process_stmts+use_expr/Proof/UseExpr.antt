@@ -1,7 +1,11 @@
 -- `use_expr`: the uses, then the comprehensions of the expression and of the modifiers, which are one list.
+use mathlib.Core.Path.{sym, _∙_}
 use Prim.Native.Nat.{ℕ}
 use native.Mathlib.Omega.{arith}
+use lib.Dec.{eqb}
 use borrow.Author.Needs.{needs}
+use borrow.Author.Tests.{eqb-true}
+use Rattle.basics.specs.Truth.{and-left, and-right}
 use Rattle.gather.specs.Walking.{few-remain}
 use Rattle.analyzer.specs.ComprRows.{at-low}
 use Rattle.analyzer.specs.UseExprs.{use-ready, use-room, own-asks, mods-asks, does-use, does-without}
@@ -50,8 +54,11 @@ pub returns : (m : ℕ) → use-expr-lts.Need-returns (known m) (use-expr-at m) 
 returns m c =
     let u = c .before .before .before .before .before .before .before in
     let start = u .before .before .before .before .before .before .before in
-    let none = c .before .before .none-left .ensures (c .before .if1 .taken) in
-    does-without _ _ _ _ (start .args .rest) _ _ _ _ (start .pre .1 .0) _ _ _ (u .use-vars .ensures) (none .0) (none .1) _ (c .without-comprs .ensures)
+    let cs = u .use-vars .result .comprs in
+    let ms = start .args .context .mods in
+    let none = sym (c .before .before .none-left .ensures) ∙ c .before .if1 .taken in
+    does-without _ _ _ _ (start .args .rest) _ _ _ _ (start .pre .1 .0) _ _ _ (u .use-vars .ensures)
+    (eqb-true cs 0 (and-left (eqb cs 0) (eqb ms 0) none)) (eqb-true ms 0 (and-right (eqb cs 0) (eqb ms 0) none)) _ (c .without-comprs .ensures)
 
 pub process-comprs-requires : (m : ℕ) → use-expr-lts.Need-process-comprs-requires (known m) (use-expr-at m) use-expr.Post
 process-comprs-requires m c κs =
