@@ -9,10 +9,11 @@ use lib.Dec.{eqb}
 use borrow.Author.Tests.{eqb-true, eqb-false}
 use Rattle.basics.specs.Truth.{bool-cases, eq-cases}
 use Rattle.records.specs.declared.Counts.{Counts}
+use Rattle.records.specs.Rows.{Rows}
 use Rattle.naming.specs.Faults.{builtinFault, exprFault, statementFault, queryFault}
 use Rattle.naming.specs.Lines.{Block, builtins, exprs, statements, queries, firstOf, heading, lineOf, orElse, firstLine}
 
-pub record Accepted (c : Counts) (t : List ℕ) : Type 0 where
+pub record Accepted (c : Counts) (t : Rows) : Type 0 where
   pub fine-builtin : (r : ℕ) → 1 ≤ r → r ≤ c .builtins → builtinFault c t r ≡ false
   pub fine-expr : (r : ℕ) → 1 ≤ r → r ≤ c .exprs → exprFault c t r ≡ false
   pub fine-statement : (s : ℕ) → 1 ≤ s → s ≤ c .statements → statementFault c t s ≡ false
@@ -42,7 +43,7 @@ module _ (c : Counts) where
       go (inl q) = (eqb-true r 0 q, rw q at h)
       go (inr q) = let ne = eqb-false r 0 q in let z : heading c b + r ≡ 0 = rw q at h in absurd (omega arith)
 
-  pub accepted : (t : List ℕ) → firstLine c t ≡ 0 → Accepted c t
+  pub accepted : (t : Rows) → firstLine c t ≡ 0 → Accepted c t
   unfolding firstLine
   accepted t h =
       let a = no-line builtins _ _ h in

@@ -12,6 +12,7 @@ use Rattle.basics.specs.Truth.{lt-cases, bool-cases, not-both}
 use Rattle.basics.specs.Members.{filter-mem, mem-filter}
 use Rattle.records.specs.declared.Counts.{Counts}
 use Rattle.records.specs.Layout.{Within}
+use Rattle.records.specs.Rows.{Rows}
 use Rattle.naming.specs.Entries.{Entry, queryRow, statementRow, exprRow}
 use Rattle.naming.specs.Namings.{Naming, namers, upwards, namedSo, namings}
 use Rattle.naming.specs.Nesting.{grown, enclosingOf, enclosing}
@@ -52,7 +53,7 @@ named-row ns k h = go (namers k ns) refl h
 pub up-below : (by k : ℕ) → 32 < k → upwards by k ≡ true → by < k
 up-below by k h p = ltb-true by k (rw (lt-leb k 32 h) at p)
 
-module _ (c : Counts) (t : List ℕ) (few : Within c) (ok : Accepted c t) where
+module _ (c : Counts) (t : Rows) (few : Within c) (ok : Accepted c t) where
   -- ---- what `enclosing` says of a row
 
   pub encloses-at-place : (k : ℕ) (n : Named (namings c t) k) → 32 < k → k ≤ exprRow (c .exprs) → n .naming .place < k

@@ -7,7 +7,8 @@ use Prim.Native.Nat.{ℕ, zero, suc, _+_, _/_, _≤_, _<_}
 use native.Mathlib.Omega.{arith}
 use Rattle.basics.specs.Truth.{eq-cases}
 use Rattle.records.specs.declared.Counts.{Counts}
-use Rattle.records.specs.Layout.{Within, deepest, exprAt, statementAt, firstAt}
+use Rattle.records.specs.Layout.{Within, deepest}
+use Rattle.records.specs.Rows.{Rows}
 use Rattle.fields.specs.declared.Field.{Field}
 use Rattle.fields.specs.Fields.{expressions, fieldFrom, first, second, third, chainOrNone, statementOrNone, kindFields, formFields, limitOf}
 use Rattle.naming.specs.Entries.{Entry, queryRow, statementRow, exprRow, nextField, exprEntry, statementEntry, exprEntries, statementEntries, queryEntries}
@@ -22,7 +23,7 @@ use Rattle.accepted.specs.Enclosed.{enclosed}
 use Rattle.accepted.specs.Levels.{Nested, query-nested, first-level, next-level}
 use Rattle.accepted.specs.Later.{expr-later, statement-later}
 
-module _ (c : Counts) (t : List ℕ) where
+module _ (c : Counts) (t : Rows) where
   -- The row lies in a query of the sheet.
   abbrev pub Lying : ℕ → Type 0
   Lying k = (1 ≤ queryOf c t k) × (queryOf c t k ≤ c .queries)
@@ -38,32 +39,32 @@ module _ (c : Counts) (t : List ℕ) where
 
   -- `Fine` says of each field that it is set where it must be, in range, and, of a query, larger than the one that the row lies in.
   pub record ExprFacts (r : ℕ) : Type 0 where
-    pub kind-low : 1 ≤ exprAt t r .kind
-    pub kind-high : exprAt t r .kind ≤ 22
+    pub kind-low : 1 ≤ t .expr r .kind
+    pub kind-high : t .expr r .kind ≤ 22
     pub lying : Lying (exprRow r)
-    pub name : Part r (fieldFrom (kindFields (exprAt t r .kind))) (exprAt t r .name)
-    pub in-first : Part r (fieldFrom (kindFields (exprAt t r .kind) / first)) (exprAt t r .first)
-    pub in-second : Part r (fieldFrom (kindFields (exprAt t r .kind) / second)) (exprAt t r .second)
-    pub in-third : Part r (fieldFrom (kindFields (exprAt t r .kind) / third)) (exprAt t r .third)
-    pub next : Onward (c .exprs) r (exprAt t r .next)
+    pub name : Part r (fieldFrom (kindFields (t .expr r .kind))) (t .expr r .name)
+    pub in-first : Part r (fieldFrom (kindFields (t .expr r .kind) / first)) (t .expr r .first)
+    pub in-second : Part r (fieldFrom (kindFields (t .expr r .kind) / second)) (t .expr r .second)
+    pub in-third : Part r (fieldFrom (kindFields (t .expr r .kind) / third)) (t .expr r .third)
+    pub next : Onward (c .exprs) r (t .expr r .next)
 
   -- A field of statement s.
   abbrev pub Whole : ℕ → Field → ℕ → Type 0
   Whole s f v = Fine c t (queryOf c t (statementRow s)) (statementEntry c t s f v)
 
   pub record StatementFacts (s : ℕ) : Type 0 where
-    pub form-low : 1 ≤ statementAt t s .form
-    pub form-high : statementAt t s .form ≤ 5
+    pub form-low : 1 ≤ t .statement s .form
+    pub form-high : t .statement s .form ≤ 5
     pub lying : Lying (statementRow s)
-    pub in-query : Whole s (fieldFrom (formFields (statementAt t s .form))) (statementAt t s .query)
-    pub in-first : Whole s (fieldFrom (formFields (statementAt t s .form) / first)) (statementAt t s .first)
-    pub in-second : Whole s (fieldFrom (formFields (statementAt t s .form) / second)) (statementAt t s .second)
-    pub in-third : Whole s (fieldFrom (formFields (statementAt t s .form) / third)) (statementAt t s .third)
-    pub in-with : statementAt t s .with ≤ c .exprs
-    pub next : Onward (c .statements) s (statementAt t s .next)
+    pub in-query : Whole s (fieldFrom (formFields (t .statement s .form))) (t .statement s .query)
+    pub in-first : Whole s (fieldFrom (formFields (t .statement s .form) / first)) (t .statement s .first)
+    pub in-second : Whole s (fieldFrom (formFields (t .statement s .form) / second)) (t .statement s .second)
+    pub in-third : Whole s (fieldFrom (formFields (t .statement s .form) / third)) (t .statement s .third)
+    pub in-with : t .statement s .with ≤ c .exprs
+    pub next : Onward (c .statements) s (t .statement s .next)
 
   pub record QueryFacts (q : ℕ) : Type 0 where
-    pub in-first : firstAt t q ≤ c .statements
+    pub in-first : t .query q ≤ c .statements
     pub nested : 1 < q → Nested c t q
     pub next-deeper : 1 < q → level c t q ≡ level c t (parent c t q) + 1
 
@@ -95,7 +96,7 @@ module _ (c : Counts) (t : List ℕ) where
     expr-facts r a b =
         let row = fine-expr-row c t r (ok .fine-expr r a b) in
         let fourth = List·Memᴰ·tail (List·Memᴰ·tail (List·Memᴰ·tail (List·Memᴰ·tail (List·Memᴰ·head refl)))) in
-        let last = part-facts r a b (nextField (isMember c t r)) (exprAt t r .next) fourth in
+        let last = part-facts r a b (nextField (isMember c t r)) (t .expr r .next) fourth in
         record {
           kind-low = row .kind-low;
           kind-high = row .kind-high;
@@ -104,7 +105,7 @@ module _ (c : Counts) (t : List ℕ) where
           in-first = part-facts r a b _ _ (List·Memᴰ·tail (List·Memᴰ·head refl));
           in-second = part-facts r a b _ _ (List·Memᴰ·tail (List·Memᴰ·tail (List·Memᴰ·head refl)));
           in-third = part-facts r a b _ _ (List·Memᴰ·tail (List·Memᴰ·tail (List·Memᴰ·tail (List·Memᴰ·head refl))));
-          next = expr-onward (isMember c t r) r (exprAt t r .next) (last .fine .in-range) (last .later);
+          next = expr-onward (isMember c t r) r (t .expr r .next) (last .fine .in-range) (last .later);
         }
 
     statement-facts : (s : ℕ) → 1 ≤ s → s ≤ c .statements → StatementFacts s
@@ -120,11 +121,11 @@ module _ (c : Counts) (t : List ℕ) where
           in-first = row .fields (List·Memᴰ·tail (List·Memᴰ·head refl));
           in-second = row .fields (List·Memᴰ·tail (List·Memᴰ·tail (List·Memᴰ·head refl)));
           in-third = row .fields (List·Memᴰ·tail (List·Memᴰ·tail (List·Memᴰ·tail (List·Memᴰ·head refl))));
-          in-with = row .fields {e = statementEntry c t s (fieldFrom chainOrNone) (statementAt t s .with)}
+          in-with = row .fields {e = statementEntry c t s (fieldFrom chainOrNone) (t .statement s .with)}
               (List·Memᴰ·tail (List·Memᴰ·tail (List·Memᴰ·tail (List·Memᴰ·tail (List·Memᴰ·head refl))))) .in-range;
-          next = onward (c .statements) s (statementAt t s .next)
-              (row .fields {e = statementEntry c t s (fieldFrom statementOrNone) (statementAt t s .next)} last .in-range)
-              (statement-later c t few ok s a b {e = statementEntry c t s (fieldFrom statementOrNone) (statementAt t s .next)} last refl);
+          next = onward (c .statements) s (t .statement s .next)
+              (row .fields {e = statementEntry c t s (fieldFrom statementOrNone) (t .statement s .next)} last .in-range)
+              (statement-later c t few ok s a b {e = statementEntry c t s (fieldFrom statementOrNone) (t .statement s .next)} last refl);
         }
 
     query-facts : (q : ℕ) → 1 ≤ q → q ≤ c .queries → QueryFacts q
@@ -136,7 +137,7 @@ module _ (c : Counts) (t : List ℕ) where
     }
       where
         queryEntry : ℕ → Entry
-        queryEntry q = record { field = fieldFrom statementOrNone; value = firstAt t q; place = queryRow q }
+        queryEntry q = record { field = fieldFrom statementOrNone; value = t .query q; place = queryRow q }
 
   -- No line at fault, no row at fault.
   pub sheet-facts : Within c → firstLine c t ≡ 0 → SheetFacts

@@ -9,6 +9,7 @@ use borrow.Author.Tests.{eq-eqb, ne-eqb, le-leb, lt-ltb}
 use Rattle.basics.specs.Members.{mem-filter}
 use Rattle.records.specs.declared.Counts.{Counts}
 use Rattle.records.specs.Layout.{Within}
+use Rattle.records.specs.Rows.{Rows}
 use Rattle.fields.specs.Fields.{expressions, statements, limitOf}
 use Rattle.naming.specs.Entries.{Entry, statementRow, exprRow, rowIn, target, exprEntries, statementEntries}
 use Rattle.naming.specs.Namings.{Naming, namers, upwards, namings}
@@ -26,7 +27,7 @@ target-in : (c : Counts) (e : Entry) → 1 ≤ e .value → e .value ≤ limitOf
 unfolding target
 target-in c e a b = rw (lt-ltb 0 (e .value) a, le-leb (e .value) (limitOf c (e .field .section)) b)
 
-module _ (c : Counts) (t : List ℕ) (few : Within c) (ok : Accepted c t) where
+module _ (c : Counts) (t : Rows) (few : Within c) (ok : Accepted c t) where
   -- A row that is named so is named by a smaller one.
   larger : (k to : ℕ) (x : Naming) → x .by ≡ k → x .to ≡ to → 32 < to → List·Memᴰ x (namings c t) → isNamedSo c t to ≡ true → k < to
   unfolding isNamedSo namers

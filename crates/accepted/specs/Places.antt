@@ -9,9 +9,8 @@ use lib.Dec.{eqb, leb, ltb}
 use borrow.Author.Tests.{le-leb, lt-ltb}
 use Rattle.basics.specs.Truth.{bool-cases, not-both}
 use Rattle.records.specs.declared.Counts.{Counts}
-use Rattle.records.specs.declared.Expr.{Expr}
 use Rattle.records.specs.declared.Statement.{Statement}
-use Rattle.records.specs.Layout.{exprAt, statementAt}
+use Rattle.records.specs.Rows.{Rows}
 use Rattle.fields.specs.declared.Field.{Field}
 use Rattle.fields.specs.Fields.{queries, fieldFrom, query, first, second, third, kindFields, limitOf}
 use Rattle.naming.specs.Entries.{Entry, queryRow, statementRow, exprRow, target, placeOf, nextField, exprEntry, exprEntries, statementEntries, queryEntries}
@@ -22,7 +21,7 @@ use Rattle.naming.specs.EnclosingLaws.{queryOf}
 use Rattle.accepted.specs.Rows.{FineExpr}
 use Rattle.accepted.specs.Kinds.{Termed, termed-name, termed-first, termed-second, termed-third}
 
-module _ (c : Counts) (t : List ℕ) where
+module _ (c : Counts) (t : Rows) where
   -- A comprehension's query, if it is set.
   target-query : (v : ℕ) → 1 ≤ v → v ≤ c .queries → target c (fieldFrom query) v ≡ v
   unfolding target fieldFrom
@@ -36,22 +35,22 @@ module _ (c : Counts) (t : List ℕ) where
 
   module _ (r : ℕ) (x : FineExpr c t r) where
     kind : ℕ
-    kind = exprAt t r .kind
+    kind = t .expr r .kind
 
     -- Where the third is a query, it is set.
-    third-set : fieldFrom (kindFields kind / third) ≡ fieldFrom query → (1 ≤ exprAt t r .third) × (exprAt t r .third ≤ c .queries)
+    third-set : fieldFrom (kindFields kind / third) ≡ fieldFrom query → (1 ≤ t .expr r .third) × (t .expr r .third ≤ c .queries)
     unfolding kind exprEntries fieldFrom
     third-set e =
-        let f = x .fields {e = exprEntry c t r (fieldFrom (kindFields kind / third)) (exprAt t r .third)}
+        let f = x .fields {e = exprEntry c t r (fieldFrom (kindFields kind / third)) (t .expr r .third)}
         (List·Memᴰ·tail (List·Memᴰ·tail (List·Memᴰ·tail (List·Memᴰ·head refl)))) in
         let s : fieldFrom (kindFields kind / third) .set ≡ true = ap (λ (g : Field). g .set) e in
-        (f .is-set s, subst (λ (g : Field). exprAt t r .third ≤ limitOf c (g .section)) e (f .in-range))
+        (f .is-set s, subst (λ (g : Field). t .expr r .third ≤ limitOf c (g .section)) e (f .in-range))
 
     lies : (n v : ℕ) → Termed kind n → Lies r (exprEntry c t r (fieldFrom n) v)
     unfolding placeOf
     lies n v h = record {
       part = λ p. rw p;
-      term = λ p. let s = third-set (h .third-is-query p) in rw (p, target-query (exprAt t r .third) (s .0) (s .1)) s;
+      term = λ p. let s = third-set (h .third-is-query p) in rw (p, target-query (t .expr r .third) (s .0) (s .1)) s;
       no-query = h .query-is-no-term;
     }
 
@@ -67,6 +66,6 @@ module _ (c : Counts) (t : List ℕ) where
           lies _ _ (termed-name kind),
           (
             lies _ _ (termed-first kind),
-            (lies _ _ (termed-second kind), (lies _ _ (termed-third kind), (next-lies (isMember c t r) (exprAt t r .next), tt))),
+            (lies _ _ (termed-second kind), (lies _ _ (termed-third kind), (next-lies (isMember c t r) (t .expr r .next), tt))),
           ),
         ) m

@@ -7,24 +7,24 @@ use native.Mathlib.Omega.{arith}
 use lib.Dec.{eqb, ltb}
 use borrow.Author.Tests.{eqb-false, ne-eqb, ltb-false, not-false}
 use Rattle.records.specs.declared.Counts.{Counts}
-use Rattle.records.specs.Layout.{exprAt, statementAt}
+use Rattle.records.specs.Rows.{Rows}
 use Rattle.naming.specs.Entries.{Entry, queryRow, statementRow, exprRow, exprEntries, statementEntries, queryEntries}
 use Rattle.naming.specs.EnclosingLaws.{queryOf}
 use Rattle.naming.specs.Faults.{fieldsFault, isNamedSo, isMember, exprFault, statementFault, queryFault}
 use Rattle.accepted.specs.Neither.{neither-left, neither-right, not-second}
 use Rattle.accepted.specs.FineFields.{Fine, fine-fields}
 
-module _ (c : Counts) (t : List ℕ) where
+module _ (c : Counts) (t : Rows) where
   pub record FineExpr (r : ℕ) : Type 0 where
     pub named : isNamedSo c t (exprRow r) ≡ true
-    pub kind-low : 1 ≤ exprAt t r .kind
-    pub kind-high : exprAt t r .kind ≤ 22
+    pub kind-low : 1 ≤ t .expr r .kind
+    pub kind-high : t .expr r .kind ≤ 22
     pub fields : {e : Entry} → List·Memᴰ e (exprEntries c t (isMember c t r) r) → Fine c t (queryOf c t (exprRow r)) e
 
   pub record FineStatement (s : ℕ) : Type 0 where
     pub named : isNamedSo c t (statementRow s) ≡ true
-    pub form-low : 1 ≤ statementAt t s .form
-    pub form-high : statementAt t s .form ≤ 5
+    pub form-low : 1 ≤ t .statement s .form
+    pub form-high : t .statement s .form ≤ 5
     pub fields : {e : Entry} → List·Memᴰ e (statementEntries c t s) → Fine c t (queryOf c t (statementRow s)) e
 
   pub record FineQuery (q : ℕ) : Type 0 where
@@ -34,7 +34,7 @@ module _ (c : Counts) (t : List ℕ) where
   pub fine-expr-row : (r : ℕ) → exprFault c t r ≡ false → FineExpr r
   unfolding exprFault
   fine-expr-row r h =
-      let kind = exprAt t r .kind in
+      let kind = t .expr r .kind in
       let rest = neither-right (not (isNamedSo c t (exprRow r))) _ h in
       let known = neither-left (eqb kind 0 || ltb 22 kind) _ rest in
       let some = eqb-false kind 0 (neither-left (eqb kind 0) _ known) in
@@ -48,7 +48,7 @@ module _ (c : Counts) (t : List ℕ) where
   pub fine-statement-row : (s : ℕ) → statementFault c t s ≡ false → FineStatement s
   unfolding statementFault
   fine-statement-row s h =
-      let form = statementAt t s .form in
+      let form = t .statement s .form in
       let rest = neither-right (not (isNamedSo c t (statementRow s))) _ h in
       let known = neither-left (eqb form 0 || ltb 5 form) _ rest in
       let some = eqb-false form 0 (neither-left (eqb form 0) _ known) in

@@ -12,7 +12,7 @@ use Rattle.basics.specs.Lists.{all, filter}
 use Rattle.basics.specs.Ranges.{range}
 use Rattle.turns.specs.Definitions.{Definition}
 use Rattle.trees.specs.ListLaws.{all-append, all-weaken, all-filter}
-use Rattle.trees.specs.declared.Row.{Row}
+use Rattle.records.specs.declared.Row.{Row}
 use Rattle.trees.specs.Sheet.{Sheet, nameBound}
 use Rattle.trees.specs.Kinds.{isArray, isAssign, isColEq}
 use Rattle.trees.specs.Trees.{Tree, nil, node, rowOf, firstOf, secondOf, chain, outputsOf}

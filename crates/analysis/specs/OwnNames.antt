@@ -5,7 +5,7 @@ use mathlib.Core.List.{List}
 use Rattle.basics.specs.Lists.{all}
 use Rattle.turns.specs.Definitions.{Definition}
 use Rattle.trees.specs.ListLaws.{all-append, all-weaken, all-always}
-use Rattle.trees.specs.declared.Row.{Row}
+use Rattle.records.specs.declared.Row.{Row}
 use Rattle.trees.specs.Sheet.{Sheet}
 use Rattle.scopes.specs.Scopes.{Scope, addUnscoped, addInput, useInput}
 use Rattle.analysis.specs.Queries.{analyzeQuerySnippet}

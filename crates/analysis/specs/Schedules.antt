@@ -9,9 +9,9 @@ use lib.ListN.{length}
 use Rattle.basics.specs.Lists.{all}
 use Rattle.turns.specs.Definitions.{Definition}
 use Rattle.records.specs.Layout.{deepest}
-use Rattle.trees.specs.declared.Row.{Row}
-use Rattle.trees.specs.Sheet.{Sheet}
-use Rattle.trees.specs.Trees.{Tree, noRow}
+use Rattle.records.specs.declared.Row.{Row}
+use Rattle.trees.specs.Sheet.{Sheet, noRow}
+use Rattle.trees.specs.Trees.{Tree}
 use Rattle.trees.specs.Statements.{stmtsOf}
 use Rattle.trees.specs.TreeRows.{allRows}
 use Rattle.trees.specs.StatementRows.{stmts-rows}

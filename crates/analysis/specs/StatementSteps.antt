@@ -9,7 +9,7 @@ use Rattle.basics.specs.Lists.{all}
 use Rattle.turns.specs.Definitions.{Definition}
 use Rattle.trees.specs.Lists.{concatMap}
 use Rattle.trees.specs.ListLaws.{all-append, all-weaken, all-kept, all-filter, all-map, all-concatMap, concatMap-always}
-use Rattle.trees.specs.declared.Row.{Row}
+use Rattle.records.specs.declared.Row.{Row}
 use Rattle.trees.specs.Sheet.{Sheet, isInput}
 use Rattle.trees.specs.Kinds.{isVar}
 use Rattle.trees.specs.Trees.{Tree, rowOf, chain}

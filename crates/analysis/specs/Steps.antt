@@ -10,7 +10,7 @@ use Rattle.basics.specs.Truth.{and-intro, and-left, and-right, or-right}
 use Rattle.basics.specs.Lists.{all, filter}
 use Rattle.turns.specs.Definitions.{Definition, ofStatement}
 use Rattle.trees.specs.ListLaws.{all-weaken, all-map}
-use Rattle.trees.specs.declared.Row.{Row}
+use Rattle.records.specs.declared.Row.{Row}
 use Rattle.trees.specs.Sheet.{Sheet, nameBound}
 use Rattle.trees.specs.Trees.{Tree, rowOf}
 use Rattle.trees.specs.Traverse.{leaves, vars}

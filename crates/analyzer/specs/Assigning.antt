@@ -10,7 +10,7 @@ use lib.Dec.{eqb}
 use Rattle.basics.specs.Lists.{filter}
 use Rattle.names.specs.declared.Names.{Names}
 use Rattle.names.specs.Sets.{members, Empty}
-use Rattle.trees.specs.declared.Row.{Row}
+use Rattle.records.specs.declared.Row.{Row}
 use Rattle.trees.specs.Trees.{Tree}
 use Rattle.trees.specs.Traverse.{leaves, vars}
 use Rattle.scopes.specs.Scopes as spec

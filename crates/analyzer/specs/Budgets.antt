@@ -11,6 +11,7 @@ use Rattle.sizes.specs.Sums.{sumTo, sum-mono, sum-add, sum-longer, sum-last}
 use Rattle.sizes.specs.Bound.{weights-fit}
 use Rattle.homes.specs.Bases.{counts-fit}
 use Rattle.gather.specs.Sheets.{countsAt, specialAt, sheetAt, Accepted}
+use Rattle.records.specs.Rows.{inTables}
 
 -- A statement records at most what it weighs; one row more, so that there is always room for the row that a statement without any gets.
 abbrev pub budget : Stmt → ℕ
@@ -41,7 +42,7 @@ module _ (t : List ℕ) where
         sum-mono (budgetAt t) (λ q. total weight (stmtsOf (sheetAt t) q) + length (stmtsOf (sheetAt t) q)) (getD t 4 0)
             (λ q a b. omega (arith, budget-sum (stmtsOf (sheetAt t) q))),
         sum-add (λ q. total weight (stmtsOf (sheetAt t) q)) (λ q. length (stmtsOf (sheetAt t) q)) (getD t 4 0),
-        weights-fit c x t (accepted c t (ok .fine)),
+        weights-fit c x t (accepted c (inTables t) (ok .fine)),
         counts-fit c x t (ok .fine),
         ok .within .few-exprs,
         ok .within .few-statements,

@@ -10,7 +10,7 @@ use native.Mathlib.Omega.{arith}
 use lib.ListN.{length, getD, take}
 use borrow.Rule.Slice.PartMut.{postOf, put-same}
 use Rattle.basics.specs.Truth.{bool-cases, eq-cases}
-use Rattle.trees.specs.declared.Row.{Row}
+use Rattle.records.specs.declared.Row.{Row}
 use Rattle.trees.specs.Sheet.{rowAt}
 use Rattle.trees.specs.Kinds.{isCompr}
 use Rattle.trees.specs.Trees.{Tree, rowOf, outputsOf}

@@ -7,7 +7,7 @@ use Prim.Native.Nat.{ℕ, _+_, _*_, _≤_}
 use native.Mathlib.Omega.{arith}
 use lib.ListN.{length, getD}
 use Rattle.basics.specs.Truth.{bool-cases, eq-cases}
-use Rattle.trees.specs.declared.Row.{Row}
+use Rattle.records.specs.declared.Row.{Row}
 use Rattle.trees.specs.Sheet.{rowAt}
 use Rattle.trees.specs.Kinds.{isCompr}
 use Rattle.trees.specs.Trees.{Tree, rowOf}
@@ -44,6 +44,7 @@ use Rattle.analyzer.specs.Queries.{DoesQuery}
 use Rattle.analyzer.specs.ComprSteps.{compr-turn}
 use Rattle.analyzer.specs.Asks.{AsksComprs, Begun, AsksQuery}
 use Rattle.analyzer.specs.Does.{DoesComprs}
+use Rattle.records.specs.Rows.{inTables}
 
 -- ---- lists of comprehensions
 
@@ -114,7 +115,7 @@ module _ (t : List ℕ) (ok : Accepted t) (inner : List ℕ) (row : ℕ) (there 
     abbrev at : At t (h .inside .spans) p firsts work 0
     at = h .inside .at
 
-    here : queryOf (countsAt t) t (exprRow row) ≡ at .query
+    here : queryOf (countsAt t) (inTables t) (exprRow row) ≡ at .query
     here = lies-there (countsAt t) t (at .query) row (omega arith) (h .lies)
 
     pub room-at : 4 * p .count + 4736 ≤ length work

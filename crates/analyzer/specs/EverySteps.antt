@@ -64,6 +64,7 @@ use Rattle.analyzer.specs.Queries.{DoesQuery}
 use Rattle.analyzer.specs.Asks.{tree, AsksExpr, AsksLiteral, Begun, AsksQuery}
 use Rattle.analyzer.specs.Does.{DoesUse, DoesStep, everyStep}
 use Rattle.analyzer.specs.Witnesses.{members-held, someMods, some-stand}
+use Rattle.records.specs.Rows.{inTables}
 
 module _ (t : List ℕ) (ok : Accepted t) (outer spans : List ℕ) (st : Statement) (x : Context) (p : Progress) (firsts work : List ℕ)
     (five : st .form ≡ 5) (asks : AsksLiteral t outer spans st x p firsts work) where
@@ -88,7 +89,7 @@ module _ (t : List ℕ) (ok : Accepted t) (outer spans : List ℕ) (st : Stateme
   pub named : Named t st
   named = subst (Named t) (sym (asks .is)) (named-at t ok (asks .row) (λ z. omega (arith, asks .there)) (asks .low))
 
-  here : queryOf (countsAt t) t (statementRow (asks .row)) ≡ asks .under .at .query
+  here : queryOf (countsAt t) (inTables t) (statementRow (asks .row)) ≡ asks .under .at .query
   here = statement-there (countsAt t) t (asks .under .at .query) (asks .row) (asks .there) (asks .lies)
 
   lie : StatementInside (countsAt t) t (asks .under .at .query) st
@@ -96,9 +97,9 @@ module _ (t : List ℕ) (ok : Accepted t) (outer spans : List ℕ) (st : Stateme
       subst (StatementInside (countsAt t) t (asks .under .at .query)) (sym (asks .is))
       (statement-lies (countsAt t) t (ok .within) (ok .fine) (asks .under .at .query) (asks .row) (asks .there) (asks .low) here)
 
-  opens : Nests (countsAt t) t (asks .under .at .query) (st .query) × (st .query ≤ getD t 4 0)
+  opens : Nests (countsAt t) (inTables t) (asks .under .at .query) (st .query) × (st .query ≤ getD t 4 0)
   opens =
-      subst (λ (v : Statement). Nests (countsAt t) t (asks .under .at .query) (v .query) × (v .query ≤ getD t 4 0)) (sym (asks .is))
+      subst (λ (v : Statement). Nests (countsAt t) (inTables t) (asks .under .at .query) (v .query) × (v .query ≤ getD t 4 0)) (sym (asks .is))
       (every-opens (countsAt t) t (ok .within) (ok .fine) (asks .under .at .query) (asks .row) (asks .there) (asks .low) here
       (ap (λ (v : Statement). v .form) (sym (asks .is)) ∙ five))
 

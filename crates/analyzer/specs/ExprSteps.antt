@@ -12,7 +12,7 @@ use borrow.Author.Tests.{eq-eqb, ne-eqb, eqb-true}
 use Rattle.basics.specs.Truth.{bool-cases, eq-cases, not-both}
 use Rattle.names.specs.Sets.{members}
 use Rattle.names.specs.declared.Names.{Names}
-use Rattle.trees.specs.declared.Row.{Row}
+use Rattle.records.specs.declared.Row.{Row}
 use Rattle.trees.specs.Sheet.{rowAt}
 use Rattle.trees.specs.Kinds.{isCall, isAssign, isColEq}
 use Rattle.trees.specs.Trees.{Tree, rowOf}

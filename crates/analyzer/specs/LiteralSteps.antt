@@ -12,7 +12,7 @@ use Rattle.basics.specs.Truth.{lt-cases}
 use Rattle.records.specs.declared.Statement.{Statement}
 use Rattle.records.specs.Layout.{statementAt}
 use Rattle.fields.specs.Fields.{fieldFrom, first, forms, formFields}
-use Rattle.trees.specs.declared.Row.{Row}
+use Rattle.records.specs.declared.Row.{Row}
 use Rattle.trees.specs.Lists.{concatMap}
 use Rattle.trees.specs.Sheet.{Sheet}
 use Rattle.trees.specs.Trees.{Tree, chain}

@@ -7,7 +7,7 @@ use Prim.Native.Nat.{ℕ, suc, _+_, _≤_}
 use native.Mathlib.Omega.{arith}
 use lib.ListN.{getD}
 use Rattle.basics.specs.Truth.{bool-cases}
-use Rattle.trees.specs.declared.Row.{Row}
+use Rattle.records.specs.declared.Row.{Row}
 use Rattle.trees.specs.Sheet.{rowAt}
 use Rattle.trees.specs.Kinds.{isPattern}
 use Rattle.trees.specs.Trees.{Tree}
@@ -42,6 +42,7 @@ use Rattle.analyzer.specs.Moves.{Steady, inside-less, inside-next, aroun
 use Rattle.analyzer.specs.Steadies.{fits, steady-others}
 use Rattle.analyzer.specs.Witnesses.{someMods, some-stand}
 use Rattle.analyzer.specs.Patterns.{other-is, non-vars-none, non-vars-row, non-var-either, non-var-pattern}
+use Rattle.records.specs.Rows.{inTables}
 
 module _ (t : List ℕ) where
   -- ---- the steps
@@ -157,7 +158,7 @@ module _ (t : List ℕ) where
           go (inr z) = rw z l
 
       module _ (q : ℕ) (l : LiesIn t q row) where
-        lies : queryOf (countsAt t) t (exprRow row) ≡ q
+        lies : queryOf (countsAt t) (inTables t) (exprRow row) ≡ q
         lies = lies-there (countsAt t) t q row (omega arith) l
 
         items-lie : LiesIn t q items

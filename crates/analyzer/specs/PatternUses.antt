@@ -6,7 +6,7 @@ use Prim.Native.Nat.{ℕ, _≤_}
 use lib.ListN.{getD}
 use Rattle.names.specs.Sets.{Empty}
 use Rattle.names.specs.declared.Names.{Names}
-use Rattle.trees.specs.declared.Row.{Row}
+use Rattle.records.specs.declared.Row.{Row}
 use Rattle.trees.specs.Sheet.{rowAt}
 use Rattle.trees.specs.Kinds.{isPattern}
 use Rattle.trees.specs.Trees.{Tree, treeAt}

@@ -10,7 +10,7 @@ use Rattle.names.specs.Sets.{members, Empty}
 use Rattle.names.specs.declared.Names.{Names}
 use Rattle.records.specs.declared.Statement.{Statement}
 use Rattle.turns.specs.Definitions.{Definition}
-use Rattle.trees.specs.declared.Row.{Row}
+use Rattle.records.specs.declared.Row.{Row}
 use Rattle.trees.specs.Trees.{Tree, treeAt}
 use Rattle.trees.specs.Traverse.{vars}
 use Rattle.trees.specs.Statements.{literalOf}

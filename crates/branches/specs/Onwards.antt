@@ -11,7 +11,7 @@ use Rattle.records.specs.Layout.{Within, exprAt}
 use Rattle.fields.specs.Fields.{names, limitOf}
 use Rattle.fields.specs.Tables.{name-in-kind}
 use Rattle.accepted.specs.Facts.{Part, SheetFacts}
-use Rattle.trees.specs.declared.Row.{Row}
+use Rattle.records.specs.declared.Row.{Row}
 use Rattle.trees.specs.Sheet.{rowAt}
 use Rattle.trees.specs.Kinds.{isCompr}
 use Rattle.trees.specs.Trees.{thirdOf}
@@ -20,6 +20,7 @@ use Rattle.branches.specs.declared.Kids.{Kids}
 use Rattle.branches.specs.Descent.{Onward, Descends}
 use Rattle.branches.specs.RowTrees.{row-descends}
 use Rattle.branches.specs.Kids.{entersOf, kidsBy, kidsOf, compr-enters-nothing}
+use Rattle.records.specs.Rows.{inTables}
 
 -- What is left of n rows from a row on: least for none, then for the last row.
 unfoldable pub left : ℕ → ℕ → ℕ
@@ -69,7 +70,7 @@ module _ (n r : ℕ) (w : Row) (d : Descends n r w) where
 
 -- ---- names
 
-module _ (c : Counts) (t : List ℕ) (within : Within c) (facts : SheetFacts c t) where
+module _ (c : Counts) (t : List ℕ) (within : Within c) (facts : SheetFacts c (inTables t)) where
   low-by : (section v : ℕ) → v ≤ limitOf c section → (section ≡ names) ⊎ (section ≡ 0) → v < 128
   low-by section v h (inl e) = let l : v ≤ limitOf c names = subst (λ (k : ℕ). v ≤ limitOf c k) e h in omega (arith, within .few-names)
   low-by section v h (inr e) = let l : v ≤ limitOf c 0 = subst (λ (k : ℕ). v ≤ limitOf c k) e h in omega arith

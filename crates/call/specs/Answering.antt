@@ -15,7 +15,8 @@ use Rattle.analysis.specs.States.{sound, Run, QuerySchedule}
 use Rattle.analysis.specs.States as spec
 use Rattle.analysis.specs.Queries.{analyzeQuerySnippet}
 use Rattle.answers.specs.Text.{answerText}
-use Rattle.answers.specs.Call.{fitting, finished, analysed}
+use Rattle.answers.specs.Call.{fitting, finished}
+use Rattle.answers.specs.Once.{analysedOnce}
 use Rattle.answer.specs.Stored.{Stored}
 use Rattle.answer.specs.Sound.{Sound, stored-sound}
 use Rattle.answer.specs.Sections.{PutsAnswer}
@@ -78,8 +79,8 @@ module _ (t w : List ℕ) (f : Fault) (a : Analysed t w f) where
   run = analyzeQuerySnippet (sheetAt t)
 
   pub faulty : isSound f ≡ false → (room : ℕ) (r : Reply) → r ≡ faultReply f → (b : List ℕ) → b ≡ replicate room 0
-      → Replies room (analysed (sheetAt t) room) r b
-  unfolding analysed
+      → Replies room (analysedOnce (sheetAt t) room) r b
+  unfolding analysedOnce
   faulty h room r e b z =
       let n = length (sheetAt t .queries) in
       subst (λ (x : Reply). Replies room (finished n room run (run .fault)) x b) (sym e)
@@ -100,8 +101,8 @@ module _ (t w : List ℕ) (f : Fault) (a : Analysed t w f) where
     -- The writer says what it does for any schedules that are stored.
     pub answering : (room : ℕ) (r : Reply) (b : List ℕ)
         → ((schedules : List QuerySchedule) → Stored (answersOf w) schedules → Replies room (fitting room (answerText (getD t 4 0) schedules)) r b)
-        → Replies room (analysed (sheetAt t) room) r b
-    unfolding analysed
+        → Replies room (analysedOnce (sheetAt t) room) r b
+    unfolding analysedOnce
     answering room r b k =
         subst (λ (x : spec.Fault). Replies room (finished (length (sheetAt t .queries)) room run x) r b) (sym ends)
         (subst (λ (n : ℕ). Replies room (fitting room (answerText n (run .schedules))) r b) (sym queries-count) (k (run .schedules) (a .stored ends)))

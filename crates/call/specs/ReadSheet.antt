@@ -14,12 +14,13 @@ use Rattle.tables.specs.Tables.{tables}
 use Rattle.tables.specs.TableLaws.{length-putSections}
 use Rattle.records.specs.declared.Counts.{Counts}
 use Rattle.records.specs.Layout.{Within}
+use Rattle.records.specs.Rows.{inTables}
 use Rattle.naming.specs.Lines.{firstLine}
 use Rattle.accepted.specs.Facts.{sheet-facts}
 use Rattle.sheet.specs.declared.Outcome.the-variants.{Read, NoRoom}
 use Rattle.sheet.specs.Verdict.{blank, headOf, countsOf, specialOf, readTables, verdict}
 use Rattle.sheet.specs.Passed.{verdict-read}
-use Rattle.answers.specs.Call.{sheetIn}
+use Rattle.trees.specs.Sheet.{sheetIn, sheetOf}
 use Rattle.gather.specs.Sheets.{countsAt, sheetAt, Accepted}
 
 module _ (s : List ℕ) where
@@ -38,10 +39,10 @@ module _ (s : List ℕ) where
   counts-same : countsAt (readTables s) ≡ countsOf s
   counts-same = ap countsAt headed
 
-  -- The head says what the sheet is: it is the one that the bytes give.
-  pub sheet-same : sheetAt (readTables s) ≡ sheetIn s
-  unfolding sheetAt sheetIn
-  sheet-same = rw headed
+  -- The head says how many rows there are, and the special names.
+  at-head : sheetAt (readTables s) ≡ sheetOf (countsOf s) (specialOf s) (readTables s)
+  unfolding sheetAt
+  at-head = rw headed
 
   module _ (room work : ℕ) (h : verdict s room work ≡ Read) where
     -- Question 1.
@@ -53,9 +54,13 @@ module _ (s : List ℕ) where
         go (inl e) = (leb-true 8192 room (and-left _ _ e), leb-true 8192 work (and-right (leb 8192 room) _ e))
         go (inr e) = let f : NoRoom ≡ Read = rw e at h in let z : _≡_ {A = ℕ} 0 1 = cc in absurd (omega arith)
 
+    -- The sheet in the tables is the one that the bytes give.
+    pub sheet-same : sheetAt (readTables s) ≡ sheetIn s
+    sheet-same = at-head ∙ verdict-read s room work h .sheet-is
+
     pub accepted : Accepted (readTables s)
     accepted =
         let p = verdict-read s room work h in
         let few : Within (countsAt (readTables s)) = subst Within (sym counts-same) (p .few) in
-        let fine : firstLine (countsAt (readTables s)) (readTables s) ≡ 0 = ap (λ (c : Counts). firstLine c (readTables s)) counts-same ∙ p .fine in
+        let fine : firstLine (countsAt (readTables s)) (inTables (readTables s)) ≡ 0 = ap (λ (c : Counts). firstLine c (inTables (readTables s))) counts-same ∙ p .fine in
         record { room = omega (arith, tables-long); within = few; facts = sheet-facts _ _ few fine; fine = fine }

@@ -12,7 +12,9 @@ use Rattle.sheet.specs.Verdict.{readTables, leftTables, verdict}
 use Rattle.sheet.specs.Asked.{isRead, SheetTaken}
 use Rattle.sheet.specs.LineBounds.{line-fits}
 use Rattle.trees.specs.Sheet.{Sheet}
-use Rattle.answers.specs.Call.{analysed, sheetIn, afterReading, result, leftBy, left}
+use Rattle.trees.specs.Sheet.{sheetIn}
+use Rattle.answers.specs.Once.{analysedOnce, analysed-once}
+use Rattle.answers.specs.Call.{analysed, afterReading, result, leftBy, left}
 use Rattle.gather.specs.Sheets.{sheetAt, Accepted}
 use Rattle.call.specs.declared.replies.Reply.{Reply}
 use Rattle.call.specs.Replies.{outcomeReply, asLeft, Replies, outcome-replies}
@@ -72,14 +74,19 @@ module _ (s : List ℕ) (room long : ℕ) (o : Outcome) (t : List ℕ) (k : Shee
     lent-accepted = subst Accepted (sym lent-tables) (accepted s room long is-read)
 
     lent-sheet : sheetAt (take 8192 t) ≡ sheetIn s
-    lent-sheet = ap sheetAt lent-tables ∙ sheet-same s
+    lent-sheet = ap sheetAt lent-tables ∙ sheet-same s room long is-read
+
+    once : (most : ℕ) → analysedOnce (sheetAt (take 8192 t)) most ≡ analysed (sheetAt (take 8192 t)) most
+    unfolding sheetAt
+    once most = sym (analysed-once _ _ (take 8192 t) (lent-accepted .within) (lent-accepted .fine) most)
 
     -- The other questions are put.
-    pub answers : (most : ℕ) (r : Reply) (a : List ℕ) → Replies most (analysed (sheetAt (take 8192 t)) most) r a
+    pub answers : (most : ℕ) (r : Reply) (a : List ℕ) → Replies most (analysedOnce (sheetAt (take 8192 t)) most) r a
         → Replies most (result s room long most) r a
     unfolding result
     answers most r a replied tables work =
         replied tables work
+        ∙ ap (leftBy tables work most) (once most)
         ∙ ap (λ (g : Sheet). leftBy tables work most (analysed g most)) lent-sheet
         ∙ ap (λ (g : Outcome). leftBy tables work most (afterReading s most g)) (sym is-read)
 

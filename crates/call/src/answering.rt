@@ -11,7 +11,8 @@ ghost use Prim.Native.Nat.{_≤_};
 ghost use lib.ListN.{length, replicate};
 ghost use Rattle.analysis.specs.States.{QuerySchedule};
 ghost use Rattle.answers.specs.Text.{answerText};
-ghost use Rattle.answers.specs.Call.{fitting, analysed};
+ghost use Rattle.answers.specs.Call.{fitting};
+ghost use Rattle.answers.specs.Once.{analysedOnce};
 ghost use Rattle.answer.specs.Stored.{Stored};
 ghost use Rattle.answer.specs.Sound.{Sound};
 ghost use Rattle.gather.specs.Sheets.{sheetAt, Accepted};
@@ -46,7 +47,7 @@ fn write_answer(work: &[u64], queries: usize, answer: &mut [u8]) -> Reply
 // The lent bytes are zeros.
 pub fn answer_sheet(tables: &[u16], work: &mut [u64], answer: &mut [u8]) -> Reply
     requires { ⌜ Accepted (now tables) × (8192 ≤ length (now work)) × (now answer ≡ replicate (length (now answer)) 0) ⌝ }
-    ensures { λ r. ⌜ Replies (length (now (answer .entry))) (analysed (sheetAt (now (tables .entry))) (length (now (answer .entry)))) r (now (answer .exit)) ⌝ }
+    ensures { λ r. ⌜ Replies (length (now (answer .entry))) (analysedOnce (sheetAt (now (tables .entry))) (length (now (answer .entry)))) r (now (answer .exit)) ⌝ }
 {
     let fault = analyze_sheet(tables, work);
     if !fault.is_sound() {

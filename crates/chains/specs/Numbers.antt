@@ -15,13 +15,14 @@ use Rattle.records.specs.declared.Counts.{Counts}
 use Rattle.records.specs.Layout.{exprAt}
 use Rattle.naming.specs.Chains.{isVar, goesOn, allVars, endsOdd}
 use Rattle.chains.specs.Members.{endsSo, odd-is, restVars, restEnds, later, inside, vars-first, ends-first}
+use Rattle.records.specs.Rows.{inTables}
 
 abbrev pub chainCode : Bool → Bool → Bool → ℕ
 chainCode vars odd even = cond vars 1 0 + (cond odd 2 0 + cond even 4 0)
 
 -- What the chain from row r on comes to.
 unfoldable pub chainNumber : Counts → List ℕ → ℕ → ℕ
-chainNumber c t r = chainCode (allVars c t r) (endsSo c t true r) (endsSo c t false r)
+chainNumber c t r = chainCode (allVars c (inTables t) r) (endsSo c t true r) (endsSo c t false r)
 
 -- ---- what a number says
 
@@ -76,7 +77,7 @@ unfoldable pub restBy : Counts → List ℕ → ℕ → ℕ → ℕ
 restBy c w r next = cond (eqb next 0) 5 (cond (ltb r next && leb next (c .exprs)) (getD w (673 + next) 0) 1)
 
 unfoldable pub numberBy : Counts → List ℕ → List ℕ → ℕ → ℕ
-numberBy c t w r = oneMore (isVar c t r) (restBy c w r (exprAt t r .next))
+numberBy c t w r = oneMore (isVar c (inTables t) r) (restBy c w r (exprAt t r .next))
 
 -- The rows after row k have their numbers.
 pub record Chained (c : Counts) (t : List ℕ) (k : ℕ) (w : List ℕ) : Type 0 where
@@ -91,9 +92,9 @@ pub record Followed (c : Counts) (t before after : List ℕ) : Type 0 where
 module _ (c : Counts) (t : List ℕ) (k : ℕ) (w : List ℕ) (h : Chained c t k w) where
   rest-is : (r : ℕ) → k ≤ r → restBy c w r (exprAt t r .next) ≡ chainCode (restVars c t r) (restEnds c t false r) (restEnds c t true r)
   unfolding restBy chainNumber
-  rest-is r l = go (bool-cases (eqb (exprAt t r .next) 0)) (bool-cases (goesOn c t r))
+  rest-is r l = go (bool-cases (eqb (exprAt t r .next) 0)) (bool-cases (goesOn c (inTables t) r))
     where
-      go : (eqb (exprAt t r .next) 0 ≡ true) ⊎ (eqb (exprAt t r .next) 0 ≡ false) → (goesOn c t r ≡ true) ⊎ (goesOn c t r ≡ false)
+      go : (eqb (exprAt t r .next) 0 ≡ true) ⊎ (eqb (exprAt t r .next) 0 ≡ false) → (goesOn c (inTables t) r ≡ true) ⊎ (goesOn c (inTables t) r ≡ false)
           → restBy c w r (exprAt t r .next) ≡ chainCode (restVars c t r) (restEnds c t false r) (restEnds c t true r)
       go (inl p) (inl q) = absurd (omega (arith, eqb-true (exprAt t r .next) 0 p, later c t r q))
       go (inl p) (inr q) = rw (p, q)
@@ -106,7 +107,7 @@ module _ (c : Counts) (t : List ℕ) (k : ℕ) (w : List ℕ) (h : Chained c t k
   unfolding numberBy chainNumber
   number-is r l =
       rw (vars-first c t r, ends-first c t true r, ends-first c t false r)
-      (ap (oneMore (isVar c t r)) (rest-is r l) ∙ code-more (isVar c t r) (restVars c t r) (restEnds c t false r) (restEnds c t true r))
+      (ap (oneMore (isVar c (inTables t) r)) (rest-is r l) ∙ code-more (isVar c (inTables t) r) (restVars c t r) (restEnds c t false r) (restEnds c t true r))
 
   -- One row more.
   pub number-more : (v : ℕ) → 1 ≤ k → k ≤ 512 → v ≡ numberBy c t w k → Chained c t (k - 1) (set w (673 + k) v)
@@ -127,13 +128,13 @@ module _ (c : Counts) (t : List ℕ) (k : ℕ) (w : List ℕ) (h : Chained c t k
 -- ---- what a number that is made by those of all rows says
 
 module _ (c : Counts) (t w : List ℕ) (h : Chained c t 0 w) (r v : ℕ) (e : v ≡ numberBy c t w r) where
-  made : v ≡ chainCode (allVars c t r) (endsSo c t true r) (endsSo c t false r)
+  made : v ≡ chainCode (allVars c (inTables t) r) (endsSo c t true r) (endsSo c t false r)
   unfolding chainNumber
   made = e ∙ number-is c t 0 w h r (omega arith)
 
-  pub number-vars : eqb (v % 2) 1 ≡ allVars c t r
-  number-vars = ap (λ (n : ℕ). eqb (n % 2) 1) made ∙ code-vars (allVars c t r) (endsSo c t true r) (endsSo c t false r)
+  pub number-vars : eqb (v % 2) 1 ≡ allVars c (inTables t) r
+  number-vars = ap (λ (n : ℕ). eqb (n % 2) 1) made ∙ code-vars (allVars c (inTables t) r) (endsSo c t true r) (endsSo c t false r)
 
-  pub number-odd : eqb (v / 2 % 2) 1 ≡ endsOdd c t r
+  pub number-odd : eqb (v / 2 % 2) 1 ≡ endsOdd c (inTables t) r
   number-odd =
-      ap (λ (n : ℕ). eqb (n / 2 % 2) 1) made ∙ code-odd (allVars c t r) (endsSo c t true r) (endsSo c t false r) ∙ odd-is c t r
+      ap (λ (n : ℕ). eqb (n / 2 % 2) 1) made ∙ code-odd (allVars c (inTables t) r) (endsSo c t true r) (endsSo c t false r) ∙ odd-is c t r

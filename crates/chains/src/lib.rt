@@ -10,6 +10,7 @@ ghost use lib.ListN.{length};
 ghost use Rattle.records.specs.Layout.{Within};
 ghost use Rattle.naming.specs.Chains.{isVar, allVars, endsOdd};
 ghost use Rattle.chains.specs.Numbers.{oneMore, restBy, numberBy, Chained, Followed};
+ghost use Rattle.records.specs.Rows.{inTables};
 
 // The kind of a variable.
 const VAR: u16 = 6;
@@ -25,7 +26,7 @@ const NO_END: u64 = 1;
 // Is expression `row` a Var?
 pub fn is_var(tables: &[u16], counts: Counts, row: usize) -> bool
     requires { ⌜ (8192 ≤ length (now tables)) × (row ≤ 512) ⌝ }
-    ensures { λ r. ⌜ r ≡ isVar counts (now (tables .entry)) row ⌝ }
+    ensures { λ r. ⌜ r ≡ isVar counts (inTables (now (tables .entry))) row ⌝ }
 {
     let x = expr_at(tables, row);
     x.kind == VAR
@@ -88,7 +89,7 @@ pub fn follow_all(work: &mut [u64], tables: &[u16], counts: Counts)
 // Is each member of the chain from `row` on a Var?
 pub fn all_vars(work: &[u64], tables: &[u16], counts: Counts, row: usize) -> bool
     requires { ⌜ Chained counts (now tables) 0 (now work) × (8192 ≤ length (now tables)) × (row ≤ 512) × Within counts ⌝ }
-    ensures { λ r. ⌜ r ≡ allVars counts (now (tables .entry)) row ⌝ }
+    ensures { λ r. ⌜ r ≡ allVars counts (inTables (now (tables .entry))) row ⌝ }
 {
     number_of(work, tables, counts, row) % 2 == 1
 }
@@ -96,7 +97,7 @@ pub fn all_vars(work: &[u64], tables: &[u16], counts: Counts, row: usize) -> boo
 // Does the chain from `row` on end, after an odd number of members?
 pub fn ends_odd(work: &[u64], tables: &[u16], counts: Counts, row: usize) -> bool
     requires { ⌜ Chained counts (now tables) 0 (now work) × (8192 ≤ length (now tables)) × (row ≤ 512) × Within counts ⌝ }
-    ensures { λ r. ⌜ r ≡ endsOdd counts (now (tables .entry)) row ⌝ }
+    ensures { λ r. ⌜ r ≡ endsOdd counts (inTables (now (tables .entry))) row ⌝ }
 {
     number_of(work, tables, counts, row) / 2 % 2 == 1
 }

@@ -7,7 +7,7 @@ use Prim.Native.Nat.{ℕ, _≤_}
 use native.Mathlib.Omega.{arith}
 use lib.Dec.{eqb}
 use borrow.Author.Tests.{ne-eqb}
-use Rattle.trees.specs.declared.Row.{Row}
+use Rattle.records.specs.declared.Row.{Row}
 use Rattle.trees.specs.Kinds.{isCompr}
 use Rattle.analysis.specs.States.{QuerySchedule, scheduleOf}
 use Rattle.answer.specs.Stored.{wordAt, StoredAt, Stored}

@@ -11,7 +11,7 @@ use borrow.Author.Tests.{leb-true}
 use Rattle.basics.specs.Truth.{eq-cases, and-left, and-right}
 use Rattle.records.specs.Layout.{exprAt}
 use Rattle.fields.specs.Fields.{queries, fieldFrom, third, kinds, kindFields}
-use Rattle.trees.specs.declared.Row.{Row}
+use Rattle.records.specs.declared.Row.{Row}
 use Rattle.trees.specs.Sheet.{rowAt}
 use Rattle.trees.specs.Kinds.{isCompr}
 use Rattle.gather.specs.Sheets.{Accepted}

@@ -8,7 +8,7 @@ use Rattle.basics.specs.Lists.{filter, elem-filter}
 use Rattle.basics.specs.Ranges.{range}
 use Rattle.names.specs.Sets.{member, Difference}
 use Rattle.names.specs.declared.Names.{Names}
-use Rattle.trees.specs.declared.Row.{Row}
+use Rattle.records.specs.declared.Row.{Row}
 use Rattle.trees.specs.Trees.{Tree, rowOf}
 use Rattle.scopes.specs.NameSets.{contains, elements}
 use Rattle.scopes.specs.Scopes as spec

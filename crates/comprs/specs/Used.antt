@@ -7,7 +7,7 @@ use lib.ListN.{getD}
 use Rattle.basics.specs.Lists.{filter, elem, elem-filter}
 use Rattle.names.specs.Sets.{member, Union}
 use Rattle.names.specs.declared.Names.{Names}
-use Rattle.trees.specs.declared.Row.{Row}
+use Rattle.records.specs.declared.Row.{Row}
 use Rattle.trees.specs.Sheet.{rowAt}
 use Rattle.trees.specs.Kinds.{isCompr}
 use Rattle.trees.specs.Lists.{concatMap}

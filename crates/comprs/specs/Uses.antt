@@ -8,7 +8,7 @@ use Rattle.basics.specs.Ranges.{range}
 use Rattle.names.specs.Sets.{member, members, Next}
 use Rattle.names.specs.Listing.{Listing, listing-first, listing-next, listing-end}
 use Rattle.names.specs.declared.Names.{Names}
-use Rattle.trees.specs.declared.Row.{Row}
+use Rattle.records.specs.declared.Row.{Row}
 use Rattle.scopes.specs.Scopes.{Span}
 use Rattle.uses.specs.FirstUses.{addFirstUse}
 use Rattle.used.specs.Firsts.{Firsts, FirstUse}

@@ -7,7 +7,7 @@ use frame::Progress;
 use gather::scope::Scope;
 use names::CAPACITY;
 use names::Names;
-use trees::Row;
+use records::Row;
 use used::first::add_first_use;
 use used::row::is_compr;
 ghost use mathlib.Core.Path.{_≡_};

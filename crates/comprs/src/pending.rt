@@ -3,7 +3,7 @@
 use crate::taken::block_word;
 use answer::layout::STATE;
 use frame::Progress;
-use trees::Row;
+use records::Row;
 use used::row::is_compr;
 ghost use mathlib.Core.Path.{_≡_};
 ghost use Prim.Native.Nat.{_≤_};

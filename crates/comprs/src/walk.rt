@@ -6,7 +6,7 @@ use branches::kids_of;
 use branches::next_of;
 use gather::scope::Scope;
 use names::Names;
-use trees::Row;
+use records::Row;
 use trees::row_at;
 use used::row::is_compr;
 ghost use Prim.Native.Nat.{_≤_};

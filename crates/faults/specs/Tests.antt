@@ -8,7 +8,7 @@ use native.Mathlib.Numerals.{add-one}
 use native.Mathlib.Omega.{arith}
 use lib.Dec.{eqb, leb, ltb}
 use lib.ListN.{length, getD}
-use borrow.Author.Tests.{eqb-true, eq-eqb, ne-eqb, lt-ltb, le-ltb}
+use borrow.Author.Tests.{eqb-true, leb-false, eq-eqb, ne-eqb, lt-ltb, le-ltb}
 use Rattle.basics.specs.Truth.{bool-cases, eq-cases}
 use Rattle.records.specs.declared.Counts.{Counts}
 use Rattle.records.specs.declared.Builtin.{Builtin}
@@ -24,6 +24,7 @@ use Rattle.naming.specs.Faults.{notVar, unpaired, misnested, fieldFault, fields
 use Rattle.levels.specs.Levels.{levelBy}
 use Rattle.levels.specs.Laws.{level-is}
 use Rattle.faults.specs.Known.{Known, so-is, member-is, query-is}
+use Rattle.records.specs.Rows.{inTables}
 
 -- ---- a field
 
@@ -33,7 +34,7 @@ regroup false true c d = refl
 regroup false false c d = refl
 
 unfoldable pub misnestedBy : Counts → List ℕ → Field → ℕ → ℕ → Bool
-misnestedBy c w f v q = eqb (f .section) 4 && (leb v q || (eqb v 1 || ltb 8 (levelBy (exprRow (c .exprs)) w (c .queries) v)))
+misnestedBy c w f v q = eqb (f .section) 4 && (leb v q || (eqb v 1 || leb 8 (levelBy (exprRow (c .exprs)) w (c .queries) q)))
 
 module _ (c : Counts) (within : Within c) where
   -- No section has more than 512 rows.
@@ -57,19 +58,23 @@ partsIn x = not (eqb (x .first) 0) || (not (eqb (x .second) 0) || not (eqb (x .t
 
 module _ (c : Counts) (t : List ℕ) where
   pub misnested-is : (w : List ℕ) → Known c t w → (f : Field) (v q : ℕ) → v ≤ limitOf c (f .section)
-      → misnestedBy c w f v q ≡ misnested c t f v q
+      → misnestedBy c w f v q ≡ misnested c (inTables t) f v q
   unfolding misnestedBy
-  misnested-is w known f v q h = go (bool-cases (eqb (f .section) 4))
+  misnested-is w known f v q h = go (bool-cases (eqb (f .section) 4)) (bool-cases (leb v q))
     where
-      go : (eqb (f .section) 4 ≡ true) ⊎ (eqb (f .section) 4 ≡ false) → misnestedBy c w f v q ≡ misnested c t f v q
-      go (inl p) =
-          ap (λ (l : ℕ). eqb (f .section) 4 && (leb v q || (eqb v 1 || ltb 8 l)))
-          (level-is c t w (known .marks) v (queries-small c (known .within) (f .section) v (eqb-true (f .section) 4 p) h))
-      go (inr p) = rw p
+      go : (eqb (f .section) 4 ≡ true) ⊎ (eqb (f .section) 4 ≡ false) → (leb v q ≡ true) ⊎ (leb v q ≡ false)
+          → misnestedBy c w f v q ≡ misnested c (inTables t) f v q
+      go (inl p) (inl l) = rw l
+      -- Query q is smaller than one of the sheet's.
+      go (inl p) (inr l) =
+          let small = queries-small c (known .within) (f .section) v (eqb-true (f .section) 4 p) h in
+          let larger = leb-false v q l in
+          ap (λ (n : ℕ). eqb (f .section) 4 && (leb v q || (eqb v 1 || leb 8 n))) (level-is c t w (known .marks) q (omega arith))
+      go (inr p) l = rw p
 
   -- A field and its number. Where the row that it names lies is not asked.
   abbrev pub faultIn : ℕ → Field → ℕ → Bool
-  faultIn q f v = fieldFault c t q (record { field = f; value = v; place = 0 })
+  faultIn q f v = fieldFault c (inTables t) q (record { field = f; value = v; place = 0 })
 
   abbrev pub faultOf : ℕ → ℕ → ℕ → Bool
   faultOf q holds v = faultIn q (fieldFrom holds) v
@@ -84,7 +89,7 @@ module _ (c : Counts) (t : List ℕ) where
       unfolding fieldFault
       fault-over h = sym (rw (ne-eqb v 0 some, lt-ltb (limitOf c (f .section)) v (subst (λ (k : ℕ). k < v) is h)))
 
-      pub fault-else : v ≤ l → (notVar c t f v || (unpaired c t f v || misnested c t f v q)) ≡ faultIn q f v
+      pub fault-else : v ≤ l → (notVar c (inTables t) f v || (unpaired c (inTables t) f v || misnested c (inTables t) f v q)) ≡ faultIn q f v
       unfolding fieldFault
       fault-else h = sym (rw (ne-eqb v 0 some, le-ltb (limitOf c (f .section)) v (subst (λ (k : ℕ). v ≤ k) is h)))
 
@@ -121,15 +126,15 @@ module _ (c : Counts) (t : List ℕ) where
       (ap (λ (z : Bool). faultOf q fs (x .name) || z) (regroup (not (eqb (x .first) 0)) (not (eqb (x .second) 0)) _ _))
 
   parts-are : (q : ℕ) (member : Bool) (r : ℕ)
-      → partsBy q (kindFields (exprAt t r .kind)) (cond member chainOrNone 0) (exprAt t r) ≡ fieldsFault c t q (exprEntries c t member r)
+      → partsBy q (kindFields (exprAt t r .kind)) (cond member chainOrNone 0) (exprAt t r) ≡ fieldsFault c (inTables t) q (exprEntries c (inTables t) member r)
   unfolding partsBy exprEntries fieldsFault fieldFault
   parts-are q member r = refl
 
-  fields-are : (q r : ℕ) → fieldsBy q (formFields (statementAt t r .form)) (statementAt t r) ≡ fieldsFault c t q (statementEntries c t r)
+  fields-are : (q r : ℕ) → fieldsBy q (formFields (statementAt t r .form)) (statementAt t r) ≡ fieldsFault c (inTables t) q (statementEntries c (inTables t) r)
   unfolding fieldsBy statementEntries fieldsFault fieldFault
   fields-are q r = refl
 
-  first-is : (q : ℕ) → (faultOf q statementOrNone (firstAt t q) || false) ≡ fieldsFault c t q (queryEntries c t q)
+  first-is : (q : ℕ) → (faultOf q statementOrNone (firstAt t q) || false) ≡ fieldsFault c (inTables t) q (queryEntries c (inTables t) q)
   unfolding queryEntries fieldsFault fieldFault
   first-is q = refl
 
@@ -148,7 +153,7 @@ module _ (c : Counts) (t : List ℕ) where
   queryBy v q s = (not (eqb q 1) && not (eqb (v % 4) 1)) || (faultOf q statementOrNone s || false)
 
   module _ (w : List ℕ) (known : Known c t w) where
-    pub expr-is : (r : ℕ) → 1 ≤ r → r ≤ c .exprs → exprBy (getD w (160 + r) 0) (exprAt t r) ≡ exprFault c t r
+    pub expr-is : (r : ℕ) → 1 ≤ r → r ≤ c .exprs → exprBy (getD w (160 + r) 0) (exprAt t r) ≡ exprFault c (inTables t) r
     unfolding exprBy exprFault isNamedSo isMember
     expr-is r l h =
         let b = known .within .few-exprs in
@@ -156,20 +161,20 @@ module _ (c : Counts) (t : List ℕ) where
           so-is c t w known (160 + r) (omega arith),
           member-is c t w known (160 + r) (omega arith),
           query-is c t w known (160 + r) (omega arith) (omega arith),
-          parts-are (getD (enclosing c t) (160 + r) 0) (inChain (160 + r) (namers (160 + r) (namings c t))) r,
+          parts-are (getD (enclosing c (inTables t)) (160 + r) 0) (inChain (160 + r) (namers (160 + r) (namings c (inTables t)))) r,
         )
 
-    pub statement-is : (r : ℕ) → 1 ≤ r → r ≤ c .statements → statementBy (getD w (32 + r) 0) (statementAt t r) ≡ statementFault c t r
+    pub statement-is : (r : ℕ) → 1 ≤ r → r ≤ c .statements → statementBy (getD w (32 + r) 0) (statementAt t r) ≡ statementFault c (inTables t) r
     unfolding statementBy statementFault isNamedSo
     statement-is r l h =
         let b = known .within .few-statements in
         rw (
           so-is c t w known (32 + r) (omega arith),
           query-is c t w known (32 + r) (omega arith) (omega arith),
-          fields-are (getD (enclosing c t) (32 + r) 0) r,
+          fields-are (getD (enclosing c (inTables t)) (32 + r) 0) r,
         )
 
-    pub query-fault-is : (q : ℕ) → q ≤ 32 → queryBy (getD w q 0) q (firstAt t q) ≡ queryFault c t q
+    pub query-fault-is : (q : ℕ) → q ≤ 32 → queryBy (getD w q 0) q (firstAt t q) ≡ queryFault c (inTables t) q
     unfolding queryBy queryFault isNamedSo
     query-fault-is q h = rw (so-is c t w known q (omega arith), first-is q)
 
@@ -188,7 +193,7 @@ unfoldable pub pathBy : List ℕ → ℕ → Builtin → Bool
 pathBy t zero b = false
 pathBy t (suc n) b = samePathBy (builtinAt t (suc n)) b || pathBy t n b
 
-path-is : (c : Counts) (t : List ℕ) (n : ℕ) (b : Builtin) → pathBy t n b ≡ pathBefore c t n b
+path-is : (c : Counts) (t : List ℕ) (n : ℕ) (b : Builtin) → pathBy t n b ≡ pathBefore c (inTables t) n b
 unfolding pathBy pathBefore
 path-is c t zero b = refl
 path-is c t (suc n) b = ap (λ (z : Bool). samePathBy (builtinAt t (suc n)) b || z) (path-is c t n b)
@@ -196,13 +201,13 @@ path-is c t (suc n) b = ap (λ (z : Bool). samePathBy (builtinAt t (suc n)) b ||
 unfoldable pub builtinBy : Counts → List ℕ → ℕ → Builtin → Bool
 builtinBy c t n b = ltb 255 (b .arity) || (gapBy b || (beyondBy c b || pathBy t n b))
 
-pub builtin-is : (c : Counts) (t : List ℕ) (r : ℕ) → 1 ≤ r → builtinBy c t (r - 1) (builtinAt t r) ≡ builtinFault c t r
+pub builtin-is : (c : Counts) (t : List ℕ) (r : ℕ) → 1 ≤ r → builtinBy c t (r - 1) (builtinAt t r) ≡ builtinFault c (inTables t) r
 unfolding builtinBy builtinFault
 builtin-is c t r h =
     let e : r ≡ suc (r - 1) = omega arith in
     ap (λ (z : Bool). ltb 255 (builtinAt t r .arity) || (gapBy (builtinAt t r) || (beyondBy c (builtinAt t r) || z))) (path-is c t (r - 1) (builtinAt t r))
-    ∙ ap (λ (k : ℕ). ltb 255 (builtinAt t k .arity) || (gapBy (builtinAt t k) || (beyondBy c (builtinAt t k) || pathBefore c t (r - 1) (builtinAt t k)))) e
-    ∙ sym (ap (builtinFault c t) e)
+    ∙ ap (λ (k : ℕ). ltb 255 (builtinAt t k .arity) || (gapBy (builtinAt t k) || (beyondBy c (builtinAt t k) || pathBefore c (inTables t) (r - 1) (builtinAt t k)))) e
+    ∙ sym (ap (builtinFault c (inTables t)) e)
 
 module _ (t : List ℕ) (b : Builtin) (n : ℕ) where
   path-at : 0 < n → (samePathBy (builtinAt t n) b || pathBy t (n - 1) b) ≡ pathBy t n b

@@ -8,6 +8,7 @@ ghost use Prim.Native.Nat.{_≤_};
 ghost use lib.ListN.{length};
 ghost use Rattle.naming.specs.Faults.{builtinFault};
 ghost use Rattle.faults.specs.Tests.{samePathBy, gapBy, beyondBy, pathBy, builtinBy};
+ghost use Rattle.records.specs.Rows.{inTables};
 
 fn same_path(a: Builtin, b: Builtin) -> bool
     ensures { λ r. ⌜ r ≡ samePathBy a b ⌝ }
@@ -81,7 +82,7 @@ fn judge_builtin(tables: &[u16], counts: Counts, n: usize, b: Builtin) -> bool
 
 pub(crate) fn builtin_fault(tables: &[u16], counts: Counts, row: usize) -> bool
     requires { ⌜ (8192 ≤ length (now tables)) × (1 ≤ row) × (row ≤ 64) ⌝ }
-    ensures { λ r. ⌜ r ≡ builtinFault counts (now (tables .entry)) row ⌝ }
+    ensures { λ r. ⌜ r ≡ builtinFault counts (inTables (now (tables .entry))) row ⌝ }
 {
     let b = builtin_at(tables, row);
     judge_builtin(tables, counts, row - 1, b)

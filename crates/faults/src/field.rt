@@ -16,11 +16,12 @@ ghost use Rattle.records.specs.Layout.{Within};
 ghost use Rattle.naming.specs.Faults.{notVar, unpaired};
 ghost use Rattle.faults.specs.Known.{Known};
 ghost use Rattle.faults.specs.Tests.{misnestedBy, faultOf};
+ghost use Rattle.records.specs.Rows.{inTables};
 
 // Is the row, or a member of the chain, no Var though it should be one?
 fn not_var(work: &[u64], tables: &[u16], counts: Counts, field: Field, v: usize) -> bool
     requires { ⌜ Known counts (now tables) (now work) × (v ≤ 512) ⌝ }
-    ensures { λ r. ⌜ r ≡ notVar counts (now (tables .entry)) field v ⌝ }
+    ensures { λ r. ⌜ r ≡ notVar counts (inTables (now (tables .entry))) field v ⌝ }
 {
     if field.var {
         if field.chain {
@@ -34,7 +35,7 @@ fn not_var(work: &[u64], tables: &[u16], counts: Counts, field: Field, v: usize)
 // Does a chain of keys and values lack the last value?
 fn lacks_value(work: &[u64], tables: &[u16], counts: Counts, field: Field, v: usize) -> bool
     requires { ⌜ Known counts (now tables) (now work) × (v ≤ 512) ⌝ }
-    ensures { λ r. ⌜ r ≡ unpaired counts (now (tables .entry)) field v ⌝ }
+    ensures { λ r. ⌜ r ≡ unpaired counts (inTables (now (tables .entry))) field v ⌝ }
 {
     if field.pairs {
         return ends_odd(work, tables, counts, v);
@@ -42,7 +43,7 @@ fn lacks_value(work: &[u64], tables: &[u16], counts: Counts, field: Field, v: us
     false
 }
 
-// Is a query that is nested in query q not larger, or too deep?
+// Is query v, which the field nests in query q, not larger, or is query q as deep as a query may be?
 fn is_misnested(work: &[u64], counts: Counts, field: Field, v: usize, q: usize) -> bool
     requires { ⌜ (673 ≤ length (now work)) × Within counts ⌝ }
     ensures { λ r. ⌜ r ≡ misnestedBy counts (now (work .entry)) field v q ⌝ }
@@ -56,7 +57,7 @@ fn is_misnested(work: &[u64], counts: Counts, field: Field, v: usize, q: usize) 
     if v == 1 {
         return true;
     }
-    records::NESTING < level(work, EXPR_ROW + counts.exprs, counts.queries, v)
+    records::NESTING <= level(work, EXPR_ROW + counts.exprs, counts.queries, q)
 }
 
 // Is a field at fault, in a row that lies in query q?

@@ -18,12 +18,13 @@ ghost use Rattle.records.specs.Layout.{Within};
 ghost use Rattle.naming.specs.Faults.{exprFault, statementFault, queryFault, builtinFault};
 ghost use Rattle.naming.specs.Lines.{firstOf, firstLine};
 ghost use Rattle.faults.specs.Known.{Known};
+ghost use Rattle.records.specs.Rows.{inTables};
 
 // ---- the first row at fault of each section, or 0
 
 fn first_builtin(tables: &[u16], counts: Counts) -> usize
     requires { ⌜ (8192 ≤ length (now tables)) × Within counts ⌝ }
-    ensures { λ r. ⌜ (r ≡ firstOf (builtinFault counts (now (tables .entry))) 1 (counts .builtins)) × (r ≤ 64) ⌝ }
+    ensures { λ r. ⌜ (r ≡ firstOf (builtinFault counts (inTables (now (tables .entry)))) 1 (counts .builtins)) × (r ≤ 64) ⌝ }
 {
     let mut row = 1;
     while row <= counts.builtins {
@@ -37,7 +38,7 @@ fn first_builtin(tables: &[u16], counts: Counts) -> usize
 
 fn first_expr(work: &[u64], tables: &[u16], counts: Counts) -> usize
     requires { ⌜ Known counts (now tables) (now work) ⌝ }
-    ensures { λ r. ⌜ (r ≡ firstOf (exprFault counts (now (tables .entry))) 1 (counts .exprs)) × (r ≤ 512) ⌝ }
+    ensures { λ r. ⌜ (r ≡ firstOf (exprFault counts (inTables (now (tables .entry)))) 1 (counts .exprs)) × (r ≤ 512) ⌝ }
 {
     let mut row = 1;
     while row <= counts.exprs {
@@ -51,7 +52,7 @@ fn first_expr(work: &[u64], tables: &[u16], counts: Counts) -> usize
 
 fn first_statement(work: &[u64], tables: &[u16], counts: Counts) -> usize
     requires { ⌜ Known counts (now tables) (now work) ⌝ }
-    ensures { λ r. ⌜ (r ≡ firstOf (statementFault counts (now (tables .entry))) 1 (counts .statements)) × (r ≤ 128) ⌝ }
+    ensures { λ r. ⌜ (r ≡ firstOf (statementFault counts (inTables (now (tables .entry)))) 1 (counts .statements)) × (r ≤ 128) ⌝ }
 {
     let mut row = 1;
     while row <= counts.statements {
@@ -65,7 +66,7 @@ fn first_statement(work: &[u64], tables: &[u16], counts: Counts) -> usize
 
 fn first_query(work: &[u64], tables: &[u16], counts: Counts) -> usize
     requires { ⌜ Known counts (now tables) (now work) ⌝ }
-    ensures { λ r. ⌜ (r ≡ firstOf (queryFault counts (now (tables .entry))) 1 (counts .queries)) × (r ≤ 32) ⌝ }
+    ensures { λ r. ⌜ (r ≡ firstOf (queryFault counts (inTables (now (tables .entry)))) 1 (counts .queries)) × (r ≤ 32) ⌝ }
 {
     let mut row = 1;
     while row <= counts.queries {
@@ -91,7 +92,7 @@ fn note_rows(work: &mut [u64], tables: &[u16], counts: Counts)
 // The first line at fault, in the order of the sheet, or 0.
 pub fn first_line(tables: &[u16], counts: Counts, work: &mut [u64]) -> usize
     requires { ⌜ (8192 ≤ length (now tables)) × (8192 ≤ length (now work)) × Within counts ⌝ }
-    ensures { λ r. ⌜ r ≡ firstLine counts (now (tables .entry)) ⌝ }
+    ensures { λ r. ⌜ r ≡ firstLine counts (inTables (now (tables .entry))) ⌝ }
 {
     let b = first_builtin(tables, counts);
     if b != 0 {

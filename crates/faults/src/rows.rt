@@ -24,6 +24,7 @@ ghost use Prim.Native.Nat.{_≤_};
 ghost use Rattle.naming.specs.Faults.{exprFault, statementFault, queryFault};
 ghost use Rattle.faults.specs.Known.{Known};
 ghost use Rattle.faults.specs.Tests.{partsIn, partsBy, fieldsBy, exprBy, statementBy, queryBy};
+ghost use Rattle.records.specs.Rows.{inTables};
 
 // ---- expressions
 
@@ -96,7 +97,7 @@ fn judge_expr(work: &[u64], tables: &[u16], counts: Counts, mark: u64, x: Expr) 
 
 pub(crate) fn expr_fault(work: &[u64], tables: &[u16], counts: Counts, row: usize) -> bool
     requires { ⌜ Known counts (now tables) (now work) × (1 ≤ row) × (row ≤ counts .exprs) ⌝ }
-    ensures { λ r. ⌜ r ≡ exprFault counts (now (tables .entry)) row ⌝ }
+    ensures { λ r. ⌜ r ≡ exprFault counts (inTables (now (tables .entry))) row ⌝ }
 {
     let x = expr_at(tables, row);
     let mark = work[EXPR_ROW + row];
@@ -155,7 +156,7 @@ fn judge_statement(work: &[u64], tables: &[u16], counts: Counts, mark: u64, x: S
 
 pub(crate) fn statement_fault(work: &[u64], tables: &[u16], counts: Counts, row: usize) -> bool
     requires { ⌜ Known counts (now tables) (now work) × (1 ≤ row) × (row ≤ counts .statements) ⌝ }
-    ensures { λ r. ⌜ r ≡ statementFault counts (now (tables .entry)) row ⌝ }
+    ensures { λ r. ⌜ r ≡ statementFault counts (inTables (now (tables .entry))) row ⌝ }
 {
     let x = statement_at(tables, row);
     let mark = work[STATEMENT_ROW + row];
@@ -187,7 +188,7 @@ fn judge_query(
 
 pub(crate) fn query_fault(work: &[u64], tables: &[u16], counts: Counts, row: usize) -> bool
     requires { ⌜ Known counts (now tables) (now work) × (row ≤ counts .queries) ⌝ }
-    ensures { λ r. ⌜ r ≡ queryFault counts (now (tables .entry)) row ⌝ }
+    ensures { λ r. ⌜ r ≡ queryFault counts (inTables (now (tables .entry))) row ⌝ }
 {
     let first = first_at(tables, row);
     let mark = work[row];

@@ -10,7 +10,7 @@ use Rattle.names.specs.Sets.{member, Empty, Inserted, Union, Difference}
 use borrow.Author.Tests.{eqb-true, eq-eqb}
 use Rattle.basics.specs.Truth.{bool-cases, bool-ext}
 use Rattle.trees.specs.Lists.{isSome}
-use Rattle.trees.specs.declared.Row.{Row}
+use Rattle.records.specs.declared.Row.{Row}
 use Rattle.scopes.specs.NameSets.{NameSet, contains, insert, remove, empty}
 use Rattle.scopes.specs.Scopes as spec
 use Rattle.scopes.specs.Scopes.{noScope, addLocal, addUnscoped, addInput, useInput, removeAll, removeShadowed, isLocal}

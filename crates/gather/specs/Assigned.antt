@@ -9,7 +9,7 @@ use lib.ListN.{length, getD, set}
 use lib.Dec.{eqb}
 use borrow.Author.Tests.{eqb-true, eq-eqb, ne-eqb}
 use Rattle.basics.specs.Truth.{bool-cases, or-cases}
-use Rattle.trees.specs.declared.Row.{Row}
+use Rattle.records.specs.declared.Row.{Row}
 use Rattle.trees.specs.Sheet.{rowAt, isInput, isSpecial}
 use Rattle.trees.specs.Kinds.{isVar, isPattern}
 use Rattle.trees.specs.Trees.{Tree, rowOf, treeAt}

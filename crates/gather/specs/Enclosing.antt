@@ -12,7 +12,7 @@ use lib.Seq.{getD-set-same, getD-set-other}
 use borrow.Author.Tests.{le-leb, lt-leb}
 use Rattle.basics.specs.Truth.{lt-cases, eq-cases}
 use Rattle.names.specs.Sets.{member}
-use Rattle.trees.specs.declared.Row.{Row}
+use Rattle.records.specs.declared.Row.{Row}
 use Rattle.trees.specs.Lists.{isSome}
 use Rattle.scopes.specs.NameSets.{contains}
 use Rattle.scopes.specs.Scopes as spec

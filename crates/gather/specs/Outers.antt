@@ -5,7 +5,7 @@ use mathlib.Core.List.{List}
 use Prim.Native.Nat.{ℕ, _<_}
 use lib.Dec.{leb}
 use lib.ListN.{getD}
-use Rattle.trees.specs.declared.Row.{Row}
+use Rattle.records.specs.declared.Row.{Row}
 use Rattle.scopes.specs.Scopes.{Scope, varExists}
 
 -- Each name's number is the least line at which a variable of that name exists in the parents; it is past all lines where none does.

@@ -14,9 +14,9 @@ use Rattle.records.specs.declared.Statement.{Statement}
 use Rattle.records.specs.Layout.{statementAt, firstAt}
 use Rattle.fields.specs.Fields.{expressions, first, second, third, fieldFrom, forms, formFields, limitOf}
 use Rattle.fields.specs.Tables.{all-getD}
-use Rattle.trees.specs.Sheet.{sheetOf}
+use Rattle.trees.specs.Sheet.{sheetOf, noStatement}
 use Rattle.trees.specs.Trees.{treeAt, chain}
-use Rattle.trees.specs.Statements.{Stmt, noStatement, literalOf, stmtsFrom, stmtsOf}
+use Rattle.trees.specs.Statements.{Stmt, literalOf, stmtsFrom, stmtsOf}
 use Rattle.scopes.specs.Scopes as spec
 use Rattle.scopes.specs.Scopes.{noScope}
 use Rattle.scopes.specs.Gather.{gatherVars}

@@ -12,6 +12,7 @@ use Rattle.spelling.specs.declared.Special.{Special}
 use Rattle.naming.specs.Lines.{firstLine}
 use Rattle.accepted.specs.Facts.{SheetFacts}
 use Rattle.trees.specs.Sheet.{Sheet, sheetOf, isInput, isSpecial}
+use Rattle.records.specs.Rows.{inTables}
 
 module _ (t : List ℕ) where
   abbrev pub countsAt : Counts
@@ -33,8 +34,8 @@ module _ (t : List ℕ) where
   pub record Accepted : Type 0 where
     pub room : 8192 ≤ length t
     pub within : Within countsAt
-    pub facts : SheetFacts countsAt t
-    pub fine : firstLine countsAt t ≡ 0
+    pub facts : SheetFacts countsAt (inTables t)
+    pub fine : firstLine countsAt (inTables t) ≡ 0
 
   -- ---- the special names
 

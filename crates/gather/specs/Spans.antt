@@ -11,7 +11,7 @@ use lib.Seq.{getD-set-same, getD-set-other}
 use borrow.Author.Tests.{eqb-true, eqb-false}
 use Rattle.basics.specs.Truth.{bool-cases}
 use Rattle.trees.specs.Lists.{isSome}
-use Rattle.trees.specs.declared.Row.{Row}
+use Rattle.records.specs.declared.Row.{Row}
 use Rattle.scopes.specs.Scopes as spec
 use Rattle.scopes.specs.Scopes.{Span, spanOf, spanIn, noScope, addLocal, addUnscoped, addInput, useInput, removeShadowed}
 use Rattle.gather.specs.declared.scope.Scope.{Scope}

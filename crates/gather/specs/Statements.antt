@@ -8,7 +8,7 @@ use lib.ListN.{getD}
 use borrow.Author.Tests.{eq-eqb, ne-eqb}
 use Rattle.basics.specs.Truth.{eq-cases}
 use Rattle.records.specs.declared.Statement.{Statement}
-use Rattle.trees.specs.declared.Row.{Row}
+use Rattle.records.specs.declared.Row.{Row}
 use Rattle.trees.specs.Sheet.{rowAt}
 use Rattle.trees.specs.Kinds.{isAssign}
 use Rattle.trees.specs.Trees.{nil, treeAt, chain}

@@ -5,7 +5,7 @@ use mathlib.Core.List.{List, [], _∷_, foldl}
 use mathlib.Core.Option.{some}
 use Prim.Native.Nat.{ℕ, _+_, _*_, _≤_}
 use lib.ListN.{getD}
-use Rattle.trees.specs.declared.Row.{Row}
+use Rattle.records.specs.declared.Row.{Row}
 use Rattle.trees.specs.Sheet.{Sheet, rowAt, isInput}
 use Rattle.trees.specs.Kinds.{isAssign, isColEq}
 use Rattle.trees.specs.Trees.{Tree, rowOf, firstOf, secondOf}

@@ -6,7 +6,7 @@ use crate::spans::put_span;
 use crate::special::is_input;
 use crate::special::is_special;
 use branches::next_of;
-use trees::Row;
+use records::Row;
 use trees::row_at;
 ghost use mathlib.Core.Path.{_≡_};
 ghost use mathlib.Core.Bool.{cond};

@@ -3,7 +3,7 @@
 use crate::scope::Scope;
 use crate::spans::put_span;
 use branches::next_of;
-use trees::Row;
+use records::Row;
 use trees::row_at;
 ghost use mathlib.Core.Path.{_≡_};
 ghost use mathlib.Core.List.{List};

@@ -1,6 +1,6 @@
 // The scopes around a query, as its own gathering needs them: for each name the least line from which on a variable of that name exists there.
 
-use trees::Row;
+use records::Row;
 ghost use mathlib.Core.Path.{_≡_};
 ghost use mathlib.Core.List.{List};
 ghost use Prim.Native.Nat.{_≤_, _<_};

@@ -1,6 +1,6 @@
 // Where locals stand: a word for each name, its line above its column.
 
-use trees::Row;
+use records::Row;
 ghost use mathlib.Core.Path.{_≡_};
 ghost use Prim.Native.Nat.{_≤_, _<_};
 ghost use lib.ListN.{length, set};

@@ -4,7 +4,7 @@ use crate::assigned::gather_assigned_vars;
 use crate::input::gather_input_vars;
 use crate::loops::gather_loop_vars;
 use crate::scope::Scope;
-use trees::Row;
+use records::Row;
 use trees::row_at;
 ghost use mathlib.Core.Path.{_≡_};
 ghost use mathlib.Core.List.{List};

@@ -14,6 +14,7 @@ use Rattle.trees.specs.Statements.{Stmt, stmtsOf}
 use Rattle.sizes.specs.Sizes.{total}
 use Rattle.sizes.specs.Sums.{sumTo, sum-mono, sum-longer, sum-last}
 use Rattle.sizes.specs.Bound.{costs-fit}
+use Rattle.records.specs.Rows.{inTables}
 
 -- A list is as long as it costs, one an element.
 length-total : {A : Type 0} (l : List A) → length l ≡ total (λ e. 1) l
@@ -45,18 +46,18 @@ module _ (c : Counts) (x : Special) (t : List ℕ) where
   base-later p q l h = omega (arith, sum-last countOf p l, sum-longer countOf p (q - 1) (omega arith))
 
   -- All queries together have no more statements than the sheet.
-  pub counts-fit : firstLine c t ≡ 0 → sumTo countOf (c .queries) ≤ c .statements
+  pub counts-fit : firstLine c (inTables t) ≡ 0 → sumTo countOf (c .queries) ≤ c .statements
   counts-fit fine =
       omega (
         arith,
         sum-mono countOf (λ q. total (λ (s : Stmt). 1) (stmtsOf (sheetOf c x t) q)) (c .queries)
             (λ q a b. omega (arith, length-total (stmtsOf (sheetOf c x t) q))),
-        costs-fit c x t (accepted c t fine) (λ s. 1),
+        costs-fit c x t (accepted c (inTables t) fine) (λ s. 1),
         sum-ones (c .statements),
       )
 
   -- So 128 places are enough.
-  pub base-fits : Within c → firstLine c t ≡ 0 → (q : ℕ) → 1 ≤ q → q ≤ c .queries → base q + countOf q ≤ mostStatements
+  pub base-fits : Within c → firstLine c (inTables t) ≡ 0 → (q : ℕ) → 1 ≤ q → q ≤ c .queries → base q + countOf q ≤ mostStatements
   unfolding base
   base-fits few fine q l h =
       omega (arith, sum-last countOf q l, sum-longer countOf q (c .queries) h, counts-fit fine, few .few-statements)

@@ -20,7 +20,7 @@ use Rattle.accepted.specs.Accepted.{accepted}
 use Rattle.accepted.specs.FineFields.{Nests}
 use Rattle.accepted.specs.Rows.{FineExpr, fine-expr-row}
 use Rattle.accepted.specs.Places.{expr-place}
-use Rattle.trees.specs.declared.Row.{Row}
+use Rattle.records.specs.declared.Row.{Row}
 use Rattle.trees.specs.Sheet.{rowAt}
 use Rattle.trees.specs.Kinds.{isPattern, isCompr, isCall, isAssign}
 use Rattle.trees.specs.Traverse.{Enters, nothing, params, fields}
@@ -30,6 +30,7 @@ use Rattle.sizes.specs.Listed.{comprKind, kind-holds}
 use Rattle.sizes.specs.Named.{target-row, next-holds}
 use Rattle.homes.specs.Lying.{Holding, Lies, in-expr}
 use Rattle.homes.specs.Terms.{first-no-term, second-no-term, third-no-term, third-holds, compr-terms}
+use Rattle.records.specs.Rows.{inTables}
 
 -- ---- kinds that are no comprehension
 
@@ -56,23 +57,23 @@ module _ (c : Counts) (t : List ℕ) where
 
   -- The comprehension w, which lies in query q: its query is a later one, and in that lie its outputs.
   pub record Opens (q : ℕ) (w : Row) : Type 0 where
-    pub nests : Nests c t q (w .third)
+    pub nests : Nests c (inTables t) q (w .third)
     pub in-sheet : w .third ≤ c .queries
     pub first : Lies c t (w .third) (w .first)
     pub second : Lies c t (w .third) (w .second)
 
-module _ (c : Counts) (t : List ℕ) (few : Within c) (fine : firstLine c t ≡ 0) (q r : ℕ) (low : 1 ≤ r) (high : r ≤ c .exprs)
-    (here : queryOf c t (exprRow r) ≡ q) where
+module _ (c : Counts) (t : List ℕ) (few : Within c) (fine : firstLine c (inTables t) ≡ 0) (q r : ℕ) (low : 1 ≤ r) (high : r ≤ c .exprs)
+    (here : queryOf c (inTables t) (exprRow r) ≡ q) where
   abbrev fs : ℕ
   fs = kindFields (exprAt t r .kind)
 
-  row : FineExpr c t r
-  row = fine-expr-row c t r (accepted c t fine .fine-expr r low high)
+  row : FineExpr c (inTables t) r
+  row = fine-expr-row c (inTables t) r (accepted c (inTables t) fine .fine-expr r low high)
 
   -- ---- the fields among the entries of the row
 
   abbrev Among : Field → ℕ → Type 0
-  Among f v = List·Memᴰ (exprEntry c t r f v) (exprEntries c t (isMember c t r) r)
+  Among f v = List·Memᴰ (exprEntry c (inTables t) r f v) (exprEntries c (inTables t) (isMember c (inTables t) r) r)
 
   among-first : Among (fieldFrom (fs / first)) (exprAt t r .first)
   unfolding exprEntries
@@ -86,7 +87,7 @@ module _ (c : Counts) (t : List ℕ) (few : Within c) (fine : firstLine c t ≡ 
   unfolding exprEntries
   among-third = List·Memᴰ·tail (List·Memᴰ·tail (List·Memᴰ·tail (List·Memᴰ·head refl)))
 
-  among-next : Among (nextField (isMember c t r)) (exprAt t r .next)
+  among-next : Among (nextField (isMember c (inTables t) r)) (exprAt t r .next)
   unfolding exprEntries
   among-next = List·Memᴰ·tail (List·Memᴰ·tail (List·Memᴰ·tail (List·Memᴰ·tail (List·Memᴰ·head refl))))
 
@@ -94,13 +95,13 @@ module _ (c : Counts) (t : List ℕ) (few : Within c) (fine : firstLine c t ≡ 
 
   part-lies : (f : Field) (v : ℕ) → Among f v → Holding f → f .term ≡ false → Lies c t q v
   part-lies f v m h p =
-      subst (λ (i : ℕ). Lies c t i v) (ap (queryOf c t) (expr-place c t r row m .part p) ∙ here)
-      (in-expr c t few (accepted c t fine) r low high m h)
+      subst (λ (i : ℕ). Lies c t i v) (ap (queryOf c (inTables t)) (expr-place c (inTables t) r row m .part p) ∙ here)
+      (in-expr c t few (accepted c (inTables t) fine) r low high m h)
 
   -- The rest of the chain.
   pub next-lies : Lies c t q (rowAt t r .next)
   unfolding rowAt fieldFrom
-  next-lies = part-lies (nextField (isMember c t r)) (exprAt t r .next) among-next (next-holds (isMember c t r)) (go (isMember c t r))
+  next-lies = part-lies (nextField (isMember c (inTables t) r)) (exprAt t r .next) among-next (next-holds (isMember c (inTables t) r)) (go (isMember c (inTables t) r))
     where
       go : (b : Bool) → nextField b .term ≡ false
       go true = refl
@@ -152,9 +153,9 @@ module _ (c : Counts) (t : List ℕ) (few : Within c) (fine : firstLine c t ≡ 
       let s = third-set is in
       let v3 = exprAt t r .third in
       let to : target c (fieldFrom query) v3 ≡ v3 = target-row c 0 (record { field = fieldFrom query; value = v3; place = 0 }) (s .0) (s .1) in
-      let at : placeOf c f (exprAt t r) r ≡ v3 = rw p to in
-      subst (λ (i : ℕ). Lies c t i v) (ap (queryOf c t) at ∙ enclosing-query c t v3 (omega (arith, s .1, few .few-queries)))
-      (in-expr c t few (accepted c t fine) r low high m h)
+      let at : placeOf c f (exprAt t r .third) r ≡ v3 = rw p to in
+      subst (λ (i : ℕ). Lies c t i v) (ap (queryOf c (inTables t)) at ∙ enclosing-query c (inTables t) v3 (omega (arith, s .1, few .few-queries)))
+      (in-expr c t few (accepted c (inTables t) fine) r low high m h)
   term-lies is f v m h (inr z) =
       let none : v ≤ limitOf c 0 = subst (λ (i : ℕ). v ≤ limitOf c i) z (row .fields m .in-range) in
       inl (omega arith)
@@ -168,7 +169,7 @@ module _ (c : Counts) (t : List ℕ) (few : Within c) (fine : firstLine c t ≡ 
       let set = third-set (terms .third-query) in
       let section = ap (λ (f : Field). f .section) (terms .third-query) in
       record {
-        nests = subst (λ (i : ℕ). Nests c t i (exprAt t r .third)) here (row .fields among-third .nests (set .0) section);
+        nests = subst (λ (i : ℕ). Nests c (inTables t) i (exprAt t r .third)) here (row .fields among-third .nests (set .0) section);
         in-sheet = set .1;
         first = term-lies (terms .third-query) _ _ among-first (holds .in-first) (terms .first-term);
         second = term-lies (terms .third-query) _ _ among-second (holds .in-second) (terms .second-term);

@@ -24,6 +24,7 @@ use Rattle.accepted.specs.Accepted.{Accepted}
 use Rattle.accepted.specs.Rows.{fine-expr-row, fine-statement-row, fine-query-row}
 use Rattle.accepted.specs.Enclosed.{Named, up-below, encloses-at-place}
 use Rattle.sizes.specs.Named.{target-row}
+use Rattle.records.specs.Rows.{inTables}
 
 -- A field for an expression, or for nothing.
 abbrev pub Holding : Field → Type 0
@@ -32,86 +33,86 @@ Holding f = (f .section ≡ expressions) ⊎ (f .section ≡ 0)
 module _ (c : Counts) (t : List ℕ) where
   -- No expression, or one that lies in query q.
   abbrev pub Lies : ℕ → ℕ → Type 0
-  Lies q r = (r ≡ 0) ⊎ (queryOf c t (exprRow r) ≡ q)
+  Lies q r = (r ≡ 0) ⊎ (queryOf c (inTables t) (exprRow r) ≡ q)
 
   -- No statement, or one that lies in query q.
   abbrev pub StatementLies : ℕ → ℕ → Type 0
-  StatementLies q s = (s ≡ 0) ⊎ (queryOf c t (statementRow s) ≡ q)
+  StatementLies q s = (s ≡ 0) ⊎ (queryOf c (inTables t) (statementRow s) ≡ q)
 
   -- Where there is one, it lies there.
-  pub lies-there : (q r : ℕ) → 1 ≤ r → Lies q r → queryOf c t (exprRow r) ≡ q
+  pub lies-there : (q r : ℕ) → 1 ≤ r → Lies q r → queryOf c (inTables t) (exprRow r) ≡ q
   lies-there q r l (inl z) = absurd (omega arith)
   lies-there q r l (inr e) = e
 
-  pub statement-there : (q s : ℕ) → 1 ≤ s → StatementLies q s → queryOf c t (statementRow s) ≡ q
+  pub statement-there : (q s : ℕ) → 1 ≤ s → StatementLies q s → queryOf c (inTables t) (statementRow s) ≡ q
   statement-there q s l (inl z) = absurd (omega arith)
   statement-there q s l (inr e) = e
 
-  module _ (few : Within c) (ok : Accepted c t) where
+  module _ (few : Within c) (ok : Accepted c (inTables t)) where
     -- Nothing else names the row: so this naming says where it lies.
-    at-place : (x : Naming) (k : ℕ) → x .to ≡ k → 32 < k → k ≤ exprRow (c .exprs) → List·Memᴰ x (namings c t) → isNamedSo c t k ≡ true
-        → queryOf c t k ≡ queryOf c t (x .place)
+    at-place : (x : Naming) (k : ℕ) → x .to ≡ k → 32 < k → k ≤ exprRow (c .exprs) → List·Memᴰ x (namings c (inTables t)) → isNamedSo c (inTables t) k ≡ true
+        → queryOf c (inTables t) k ≡ queryOf c (inTables t) (x .place)
     unfolding isNamedSo namers
     at-place x k e h l m so =
-        let only = only-naming k (namers k (namings c t)) so (mem-filter (λ y. eqb (y .to) k) (namings c t) m (eq-eqb (x .to) k e)) in
-        let n : Named (namings c t) k = record { naming = x; among = m; to-row = e; only = only .0; up = only .1 } in
-        encloses-at-place c t few ok k n h l (omega (arith, placed c t few (origin c t m) .below, up-below (x .by) k h (only .1)))
+        let only = only-naming k (namers k (namings c (inTables t))) so (mem-filter (λ y. eqb (y .to) k) (namings c (inTables t)) m (eq-eqb (x .to) k e)) in
+        let n : Named (namings c (inTables t)) k = record { naming = x; among = m; to-row = e; only = only .0; up = only .1 } in
+        encloses-at-place c (inTables t) few ok k n h l (omega (arith, placed c (inTables t) few (origin c (inTables t) m) .below, up-below (x .by) k h (only .1)))
 
     -- ---- a field of row k, whose namings are among those of the sheet
 
-    module _ (k : ℕ) (e : Entry) (among : (targetOf c e ≡ 0 → ⊥) → List·Memᴰ (namingOf c k e) (namings c t))
+    module _ (k : ℕ) (e : Entry) (among : (targetOf c e ≡ 0 → ⊥) → List·Memᴰ (namingOf c k e) (namings c (inTables t)))
         (within : e .value ≤ limitOf c (e .field .section)) where
-      expr-at : Holding (e .field) → Lies (queryOf c t (e .place)) (e .value)
+      expr-at : Holding (e .field) → Lies (queryOf c (inTables t) (e .place)) (e .value)
       expr-at s = go s (lt-cases 0 (e .value))
         where
           go : Holding (e .field) → (0 < e .value) ⊎ (e .value ≤ 0)
-              → Lies (queryOf c t (e .place)) (e .value)
+              → Lies (queryOf c (inTables t) (e .place)) (e .value)
           go h (inr l) = inl (omega arith)
           go (inr h) (inl l) = let z : e .value ≤ 0 = subst (λ (i : ℕ). e .value ≤ limitOf c i) h within in absurd (omega arith)
           go (inl h) (inl l) =
               let high : e .value ≤ c .exprs = subst (λ (i : ℕ). e .value ≤ limitOf c i) h within in
               let to : targetOf c e ≡ exprRow (e .value) = target-row c k e l within ∙ ap (λ (i : ℕ). rowIn i (e .value)) h in
               inr (at-place (namingOf c k e) (exprRow (e .value)) to (omega arith) (omega arith) (among (λ z. omega arith))
-              (fine-expr-row c t (e .value) (ok .fine-expr (e .value) l high) .named))
+              (fine-expr-row c (inTables t) (e .value) (ok .fine-expr (e .value) l high) .named))
 
-      statement-at : e .field .section ≡ statements → StatementLies (queryOf c t (e .place)) (e .value)
+      statement-at : e .field .section ≡ statements → StatementLies (queryOf c (inTables t) (e .place)) (e .value)
       statement-at h = go (lt-cases 0 (e .value))
         where
-          go : (0 < e .value) ⊎ (e .value ≤ 0) → StatementLies (queryOf c t (e .place)) (e .value)
+          go : (0 < e .value) ⊎ (e .value ≤ 0) → StatementLies (queryOf c (inTables t) (e .place)) (e .value)
           go (inr l) = inl (omega arith)
           go (inl l) =
               let high : e .value ≤ c .statements = subst (λ (i : ℕ). e .value ≤ limitOf c i) h within in
               let to : targetOf c e ≡ statementRow (e .value) = target-row c k e l within ∙ ap (λ (i : ℕ). rowIn i (e .value)) h in
               inr (at-place (namingOf c k e) (statementRow (e .value)) to (omega arith) (omega (arith, few .few-statements))
-              (among (λ z. omega arith)) (fine-statement-row c t (e .value) (ok .fine-statement (e .value) l high) .named))
+              (among (λ z. omega arith)) (fine-statement-row c (inTables t) (e .value) (ok .fine-statement (e .value) l high) .named))
 
     -- ---- row by row
 
     -- An expression that expression r names lies where the field puts it.
-    pub in-expr : (r : ℕ) → 1 ≤ r → r ≤ c .exprs → {e : Entry} → List·Memᴰ e (exprEntries c t (isMember c t r) r)
-        → Holding (e .field) → Lies (queryOf c t (e .place)) (e .value)
+    pub in-expr : (r : ℕ) → 1 ≤ r → r ≤ c .exprs → {e : Entry} → List·Memᴰ e (exprEntries c (inTables t) (isMember c (inTables t) r) r)
+        → Holding (e .field) → Lies (queryOf c (inTables t) (e .place)) (e .value)
     in-expr zero a b m s = absurd (omega arith)
     in-expr (suc r) a b {e} m s =
-        expr-at (exprRow (suc r)) e (λ n. expr-names c t e n r b m)
-        (fine-expr-row c t (suc r) (ok .fine-expr (suc r) a b) .fields m .in-range) s
+        expr-at (exprRow (suc r)) e (λ n. expr-names c (inTables t) e n r b m)
+        (fine-expr-row c (inTables t) (suc r) (ok .fine-expr (suc r) a b) .fields m .in-range) s
 
     -- One that statement s names lies where s does.
-    pub in-statement : (s : ℕ) → 1 ≤ s → s ≤ c .statements → {e : Entry} → List·Memᴰ e (statementEntries c t s)
-        → Holding (e .field) → Lies (queryOf c t (statementRow s)) (e .value)
+    pub in-statement : (s : ℕ) → 1 ≤ s → s ≤ c .statements → {e : Entry} → List·Memᴰ e (statementEntries c (inTables t) s)
+        → Holding (e .field) → Lies (queryOf c (inTables t) (statementRow s)) (e .value)
     in-statement zero a b m h = absurd (omega arith)
     in-statement (suc s) a b {e} m h =
-        subst (λ (k : ℕ). Lies (queryOf c t k) (e .value)) (statement-place c t (suc s) m)
-        (expr-at (statementRow (suc s)) e (λ n. statement-names c t e n s b m)
-        (fine-statement-row c t (suc s) (ok .fine-statement (suc s) a b) .fields m .in-range) h)
+        subst (λ (k : ℕ). Lies (queryOf c (inTables t) k) (e .value)) (statement-place c (inTables t) (suc s) m)
+        (expr-at (statementRow (suc s)) e (λ n. statement-names c (inTables t) e n s b m)
+        (fine-statement-row c (inTables t) (suc s) (ok .fine-statement (suc s) a b) .fields m .in-range) h)
 
     -- So does the statement after it.
-    pub after-statement : (s : ℕ) → 1 ≤ s → s ≤ c .statements → {e : Entry} → List·Memᴰ e (statementEntries c t s)
-        → e .field .section ≡ statements → StatementLies (queryOf c t (statementRow s)) (e .value)
+    pub after-statement : (s : ℕ) → 1 ≤ s → s ≤ c .statements → {e : Entry} → List·Memᴰ e (statementEntries c (inTables t) s)
+        → e .field .section ≡ statements → StatementLies (queryOf c (inTables t) (statementRow s)) (e .value)
     after-statement zero a b m h = absurd (omega arith)
     after-statement (suc s) a b {e} m h =
-        subst (λ (k : ℕ). StatementLies (queryOf c t k) (e .value)) (statement-place c t (suc s) m)
-        (statement-at (statementRow (suc s)) e (λ n. statement-names c t e n s b m)
-        (fine-statement-row c t (suc s) (ok .fine-statement (suc s) a b) .fields m .in-range) h)
+        subst (λ (k : ℕ). StatementLies (queryOf c (inTables t) k) (e .value)) (statement-place c (inTables t) (suc s) m)
+        (statement-at (statementRow (suc s)) e (λ n. statement-names c (inTables t) e n s b m)
+        (fine-statement-row c (inTables t) (suc s) (ok .fine-statement (suc s) a b) .fields m .in-range) h)
 
     -- The first statement of a query lies in it.
     pub in-query : (q : ℕ) → 1 ≤ q → q ≤ c .queries → StatementLies q (firstAt t q)
@@ -119,7 +120,7 @@ module _ (c : Counts) (t : List ℕ) where
     in-query zero a b = absurd (omega arith)
     in-query (suc q) a b =
         let e : Entry = record { field = fieldFrom statementOrNone; value = firstAt t (suc q); place = queryRow (suc q) } in
-        let m : List·Memᴰ e (queryEntries c t (suc q)) = List·Memᴰ·head refl in
-        subst (λ (p : ℕ). StatementLies p (firstAt t (suc q))) (enclosing-query c t (suc q) (omega (arith, few .few-queries)))
-        (statement-at (queryRow (suc q)) e (λ n. query-names c t e n q b m)
-        (fine-query-row c t (suc q) (ok .fine-query (suc q) (omega arith) b) .fields m .in-range) refl)
+        let m : List·Memᴰ e (queryEntries c (inTables t) (suc q)) = List·Memᴰ·head refl in
+        subst (λ (p : ℕ). StatementLies p (firstAt t (suc q))) (enclosing-query c (inTables t) (suc q) (omega (arith, few .few-queries)))
+        (statement-at (queryRow (suc q)) e (λ n. query-names c (inTables t) e n q b m)
+        (fine-query-row c (inTables t) (suc q) (ok .fine-query (suc q) (omega arith) b) .fields m .in-range) refl)

@@ -13,6 +13,7 @@ use Rattle.trees.specs.Statements.{stmtsOf}
 use Rattle.sizes.specs.Sizes.{total, weight}
 use Rattle.sizes.specs.Sums.{sumTo, sum-at, sum-longer, sum-last}
 use Rattle.sizes.specs.Bound.{mostDefinitions, weights-fit}
+use Rattle.records.specs.Rows.{inTables}
 
 module _ (c : Counts) (x : Special) (t : List ℕ) where
   -- What query q weighs.
@@ -35,14 +36,14 @@ module _ (c : Counts) (x : Special) (t : List ℕ) where
       )
 
   -- A query and those after it have room for all that they record.
-  pub above-fits : Within c → firstLine c t ≡ 0 → (q : ℕ) → 1 ≤ q → q ≤ c .queries → weightOf q + above q ≤ mostDefinitions
+  pub above-fits : Within c → firstLine c (inTables t) ≡ 0 → (q : ℕ) → 1 ≤ q → q ≤ c .queries → weightOf q + above q ≤ mostDefinitions
   unfolding above
   above-fits few fine q l h =
       omega (
         arith,
         sum-at weightOf q q l (omega arith),
         sum-longer weightOf q (c .queries) h,
-        weights-fit c x t (accepted c t fine),
+        weights-fit c x t (accepted c (inTables t) fine),
         few .few-exprs,
         few .few-statements,
       )

@@ -13,8 +13,9 @@ use Rattle.analysis.specs.States.{sound, scopeIn}
 use Rattle.analysis.specs.Queries.{analyzeQuerySnippet, scheduleIn}
 use Rattle.repeats.specs.Accepted.{accepted-once}
 use Rattle.inputs.specs.EveryInput.{FoundAround, every-input-found, outer-has-none}
+use Rattle.records.specs.Rows.{inTables}
 
-module _ (c : Counts) (x : Special) (t : List ℕ) (few : Within c) (none : firstLine c t ≡ 0)
+module _ (c : Counts) (x : Special) (t : List ℕ) (few : Within c) (none : firstLine c (inTables t) ≡ 0)
     (s : analyzeQuerySnippet (sheetOf c x t) .fault ≡ sound)
   where
     -- Each input of each query is found in a scope around the query.

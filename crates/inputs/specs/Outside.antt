@@ -12,7 +12,7 @@ use Rattle.basics.specs.Lists.{all, filter}
 use Rattle.basics.specs.Ranges.{range}
 use Rattle.trees.specs.Lists.{isSome}
 use Rattle.trees.specs.ListLaws.{all-kept, all-filter}
-use Rattle.trees.specs.declared.Row.{Row}
+use Rattle.records.specs.declared.Row.{Row}
 use Rattle.trees.specs.Sheet.{nameBound}
 use Rattle.scopes.specs.NameSets.{contains, insert, elements}
 use Rattle.scopes.specs.Scopes.{Span, Scope, spanIn, isLocal, owns, notBelow, addUnscoped, addInput, useInput, varExists}

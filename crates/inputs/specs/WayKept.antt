@@ -9,7 +9,7 @@ use lib.Dec.{eqb}
 use Rattle.basics.specs.Lists.{filter}
 use Rattle.basics.specs.Members.{filter-mem}
 use Rattle.trees.specs.Lists.{concatMap}
-use Rattle.trees.specs.declared.Row.{Row}
+use Rattle.records.specs.declared.Row.{Row}
 use Rattle.trees.specs.Sheet.{Sheet}
 use Rattle.trees.specs.Kinds.{isAssign, isColEq}
 use Rattle.trees.specs.Trees.{Tree, rowOf, firstOf, secondOf, chain}

@@ -36,6 +36,7 @@ use Rattle.sizes.specs.InBounds.{InBounds}
 use Rattle.gather.specs.Sheets.{countsAt, specialAt, sheetAt, Accepted}
 use Rattle.gather.specs.Chains.{chainAt}
 use Rattle.frame.specs.Table.{Low}
+use Rattle.records.specs.Rows.{inTables}
 
 -- ---- each change keeps names low
 
@@ -87,7 +88,7 @@ module _ (t : List ℕ) (ok : Accepted t) where
 
 -- ---- what fits is in bounds
 
-module _ (c : Counts) (x : Special) (t : List ℕ) (few : Within c) (fine : firstLine c t ≡ 0) where
+module _ (c : Counts) (x : Special) (t : List ℕ) (few : Within c) (fine : firstLine c (inTables t) ≡ 0) where
   pub in-bounds : (a : QuerySchedule) → Fits (sheetOf c x t) a → Low (a .scope) (a .definitions) → InBounds a
   in-bounds a fits low = record {
     few-statements =

@@ -17,6 +17,7 @@ use Rattle.naming.specs.GrownLaws.{grown-length, grown-at, grown-before}
 use Rattle.marks.specs.Codes.{onceOf, codeOf, once-so}
 use Rattle.marks.specs.Homes.{homeOf, Settled, home-is}
 use Rattle.levels.specs.Levels.{parentBy, levelBy, after}
+use Rattle.records.specs.Rows.{inTables}
 
 -- ---- every row lies in one of 32 queries, or in none
 
@@ -79,29 +80,29 @@ code-above l k (x ∷ []) home e =
     go false = refl
 code-above l k (x ∷ y ∷ xs) home e = many (inChain k (x ∷ y ∷ xs)) (home (codeOf k (x ∷ y ∷ xs) / 8))
 
-module _ (c : Counts) (t w : List ℕ) (s : Settled (namings c t) (exprRow (c .exprs)) w) where
-  parent-is : (q : ℕ) → q ≤ 32 → parentBy (exprRow (c .exprs)) w q ≡ parent c t q
+module _ (c : Counts) (t w : List ℕ) (s : Settled (namings c (inTables t)) (exprRow (c .exprs)) w) where
+  parent-is : (q : ℕ) → q ≤ 32 → parentBy (exprRow (c .exprs)) w q ≡ parent c (inTables t) q
   unfolding parentBy parent enclosing
   parent-is q h =
       rw (le-leb q 32 h, s .queries q h)
-      (code-above (grown (enclosingOf (namings c t)) (exprRow (c .exprs))) q (namers q (namings c t)) (λ p. homeOf (exprRow (c .exprs)) p w)
-      (home-is (namings c t) (exprRow (c .exprs)) w s (omega arith)))
+      (code-above (grown (enclosingOf (namings c (inTables t))) (exprRow (c .exprs))) q (namers q (namings c (inTables t))) (λ p. homeOf (exprRow (c .exprs)) p w)
+      (home-is (namings c (inTables t)) (exprRow (c .exprs)) w s (omega arith)))
 
-  parent-small : (q : ℕ) → parent c t q ≤ 32
+  parent-small : (q : ℕ) → parent c (inTables t) q ≤ 32
   unfolding parent enclosing
   parent-small q =
-      lying-small (grown (enclosingOf (namings c t)) (exprRow (c .exprs))) q (namers q (namings c t))
-      (grown-small (namings c t) (exprRow (c .exprs)))
+      lying-small (grown (enclosingOf (namings c (inTables t))) (exprRow (c .exprs))) q (namers q (namings c (inTables t)))
+      (grown-small (namings c (inTables t)) (exprRow (c .exprs)))
 
-  level-in : (n q : ℕ) → q ≤ 32 → levelBy (exprRow (c .exprs)) w n q ≡ levelIn c t n q
+  level-in : (n q : ℕ) → q ≤ 32 → levelBy (exprRow (c .exprs)) w n q ≡ levelIn c (inTables t) n q
   unfolding levelBy levelIn
   level-in zero q h = refl
   level-in (suc n) q h =
       ap (λ (p : ℕ). cond (eqb q 1) 1 (deeper (levelBy (exprRow (c .exprs)) w n p))) (parent-is q h)
-      ∙ ap (λ (l : ℕ). cond (eqb q 1) 1 (deeper l)) (level-in n (parent c t q) (parent-small q))
+      ∙ ap (λ (l : ℕ). cond (eqb q 1) 1 (deeper l)) (level-in n (parent c (inTables t) q) (parent-small q))
 
   -- The level by the marks is the level.
-  pub level-is : (q : ℕ) → q ≤ 32 → levelBy (exprRow (c .exprs)) w (c .queries) q ≡ level c t q
+  pub level-is : (q : ℕ) → q ≤ 32 → levelBy (exprRow (c .exprs)) w (c .queries) q ≡ level c (inTables t) q
   unfolding level
   level-is q h = level-in (c .queries) q h
 

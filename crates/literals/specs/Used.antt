@@ -5,7 +5,7 @@ use mathlib.Core.List.{List}
 use Prim.Native.Nat.{ℕ, _≤_}
 use lib.ListN.{getD}
 use Rattle.names.specs.declared.Names.{Names}
-use Rattle.trees.specs.declared.Row.{Row}
+use Rattle.records.specs.declared.Row.{Row}
 use Rattle.trees.specs.Sheet.{rowAt}
 use Rattle.scopes.specs.Scopes as spec
 use Rattle.uses.specs.Uses.{usedVars}

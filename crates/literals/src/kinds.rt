@@ -1,6 +1,6 @@
 // Which expressions assign.
 
-use trees::Row;
+use records::Row;
 ghost use mathlib.Core.Path.{_≡_};
 ghost use Rattle.trees.specs.Kinds.{isAssign, isColEq};
 

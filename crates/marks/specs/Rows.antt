@@ -22,6 +22,7 @@ use Rattle.naming.specs.Namings.{namers, inChain, byQueries, byStatements, byEx
 use Rattle.marks.specs.Codes.{code-member}
 use Rattle.marks.specs.Marks.{Marks, nameWork, rowWork, marks-row, target-bound}
 use Rattle.marks.specs.Steps.{target-of-name, name-none}
+use Rattle.records.specs.Rows.{inTables}
 
 abbrev pub fieldOf : ℕ → Field → ℕ → Entry
 fieldOf r f v = record { field = f; value = v; place = statementRow r }
@@ -36,7 +37,7 @@ fieldsOf x r =
 
 module _ (c : Counts) where
   abbrev pub partOf : Expr → ℕ → Field → ℕ → Entry
-  partOf x r f v = record { field = f; value = v; place = placeOf c f x r }
+  partOf x r f v = record { field = f; value = v; place = placeOf c f (x .third) r }
 
   abbrev pub partsOf : Bool → Expr → ℕ → List Entry
   partsOf member x r =
@@ -47,45 +48,45 @@ module _ (c : Counts) where
       ∷ partOf x r (nextField member) (x .next) ∷ []
 
   module _ (t : List ℕ) where
-    pub parts-are : (member : Bool) (r : ℕ) → partsOf member (exprAt t r) r ≡ exprEntries c t member r
+    pub parts-are : (member : Bool) (r : ℕ) → partsOf member (exprAt t r) r ≡ exprEntries c (inTables t) member r
     unfolding exprEntries
     parts-are member r = refl
 
-    pub fields-are : (r : ℕ) → fieldsOf (statementAt t r) r ≡ statementEntries c t r
+    pub fields-are : (r : ℕ) → fieldsOf (statementAt t r) r ≡ statementEntries c (inTables t) r
     unfolding statementEntries
     fields-are r = refl
 
 -- ---- one row more
 
 module _ (c : Counts) (t : List ℕ) (within : Within c) where
-  pub next-query : (q : ℕ) (w : List ℕ) → Marks (byQueries c t q) w
-      → Marks (byQueries c t (q + 1)) (rowWork c (queryRow (q + 1)) (queryEntries c t (q + 1)) w)
+  pub next-query : (q : ℕ) (w : List ℕ) → Marks (byQueries c (inTables t) q) w
+      → Marks (byQueries c (inTables t) (q + 1)) (rowWork c (queryRow (q + 1)) (queryEntries c (inTables t) (q + 1)) w)
   unfolding byQueries
-  next-query q w m = rw (add-one q) (marks-row c within (queryRow (suc q)) (queryEntries c t (suc q)) (byQueries c t q) w m)
+  next-query q w m = rw (add-one q) (marks-row c within (queryRow (suc q)) (queryEntries c (inTables t) (suc q)) (byQueries c (inTables t) q) w m)
 
-  pub next-statement : (s : ℕ) (w : List ℕ) → Marks (byStatements c t s) w
-      → Marks (byStatements c t (s + 1)) (rowWork c (statementRow (s + 1)) (fieldsOf (statementAt t (s + 1)) (s + 1)) w)
+  pub next-statement : (s : ℕ) (w : List ℕ) → Marks (byStatements c (inTables t) s) w
+      → Marks (byStatements c (inTables t) (s + 1)) (rowWork c (statementRow (s + 1)) (fieldsOf (statementAt t (s + 1)) (s + 1)) w)
   unfolding byStatements
   next-statement s w m =
       rw (fields-are c t (s + 1), add-one s)
-      (marks-row c within (statementRow (suc s)) (statementEntries c t (suc s)) (byStatements c t s) w m)
+      (marks-row c within (statementRow (suc s)) (statementEntries c (inTables t) (suc s)) (byStatements c (inTables t) s) w m)
 
   -- The rows before have told whether the row is a member of a chain.
-  pub next-expr : (r : ℕ) (w : List ℕ) → r < 512 → Marks (byExprs c t r) w
-      → Marks (byExprs c t (r + 1))
+  pub next-expr : (r : ℕ) (w : List ℕ) → r < 512 → Marks (byExprs c (inTables t) r) w
+      → Marks (byExprs c (inTables t) (r + 1))
       (rowWork c (exprRow (r + 1)) (partsOf c (eqb (getD w (160 + (r + 1)) 0 / 4 % 2) 1) (exprAt t (r + 1)) (r + 1)) w)
   unfolding byExprs
   next-expr r w h m =
-      rw (m .code (160 + (r + 1)) (omega arith), code-member (160 + (r + 1)) (namers (160 + (r + 1)) (byExprs c t r)))
-      (rw (parts-are c t (inChain (160 + (r + 1)) (namers (160 + (r + 1)) (byExprs c t r))) (r + 1), add-one r)
-      (marks-row c within (exprRow (suc r)) (exprEntries c t (inChain (exprRow (suc r)) (namers (exprRow (suc r)) (byExprs c t r))) (suc r)) (byExprs c t r) w m))
+      rw (m .code (160 + (r + 1)) (omega arith), code-member (160 + (r + 1)) (namers (160 + (r + 1)) (byExprs c (inTables t) r)))
+      (rw (parts-are c t (inChain (160 + (r + 1)) (namers (160 + (r + 1)) (byExprs c (inTables t) r))) (r + 1), add-one r)
+      (marks-row c within (exprRow (suc r)) (exprEntries c (inTables t) (inChain (exprRow (suc r)) (namers (exprRow (suc r)) (byExprs c (inTables t) r))) (suc r)) (byExprs c (inTables t) r) w m))
 
 -- Where a part lies is one of the rows.
-pub place-bound : (c : Counts) → Within c → (f : Field) (x : Expr) (r : ℕ) → r ≤ 512 → placeOf c f x r ≤ 672
+pub place-bound : (c : Counts) → Within c → (f : Field) (x : Expr) (r : ℕ) → r ≤ 512 → placeOf c f (x .third) r ≤ 672
 unfolding placeOf
 place-bound c within f x r h = go (bool-cases (f .term))
   where
-    go : (f .term ≡ true) ⊎ (f .term ≡ false) → placeOf c f x r ≤ 672
+    go : (f .term ≡ true) ⊎ (f .term ≡ false) → placeOf c f (x .third) r ≤ 672
     go (inl p) = rw p (target-bound c within (fieldFrom query) (x .third))
     go (inr p) = rw p (omega arith)
 

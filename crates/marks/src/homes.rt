@@ -11,6 +11,7 @@ ghost use Rattle.naming.specs.Entries.{exprRow};
 ghost use Rattle.naming.specs.Namings.{namings};
 ghost use Rattle.marks.specs.Marks.{Marks};
 ghost use Rattle.marks.specs.Homes.{Settled, homeOf, settled, settleNext};
+ghost use Rattle.records.specs.Rows.{inTables};
 
 // The query of row `place`, as the marks up to row `last` have it.
 pub fn home(work: &[u64], last: usize, place: u64) -> u64
@@ -50,8 +51,8 @@ fn settle_next(work: &mut [u64], last: usize)
 
 // All rows. The queries keep their place.
 pub(crate) fn settle(work: &mut [u64], tables: &[u16], counts: Counts)
-    requires { ⌜ Marks (namings counts (now tables)) (now work) × Within counts ⌝ }
-    ensures { λ _. ⌜ Settled (namings counts (now (tables .entry))) (exprRow (counts .exprs)) (now (work .exit)) ⌝ }
+    requires { ⌜ Marks (namings counts (inTables (now tables))) (now work) × Within counts ⌝ }
+    ensures { λ _. ⌜ Settled (namings counts (inTables (now (tables .entry)))) (exprRow (counts .exprs)) (now (work .exit)) ⌝ }
 {
     let mut k = STATEMENT_ROW;
     while k < EXPR_ROW + counts.exprs {

@@ -18,6 +18,7 @@ ghost use Rattle.records.specs.Layout.{Within};
 ghost use Rattle.naming.specs.Entries.{exprRow};
 ghost use Rattle.naming.specs.Namings.{namings};
 ghost use Rattle.marks.specs.Homes.{Settled};
+ghost use Rattle.records.specs.Rows.{inTables};
 
 // One numbering for the rows that are named: the queries, then the statements, then the expressions.
 pub const STATEMENT_ROW: usize = 32;
@@ -29,7 +30,7 @@ pub const ROWS: usize = 673;
 // The marks of all rows.
 pub fn mark_all(work: &mut [u64], tables: &[u16], counts: Counts)
     requires { ⌜ (673 ≤ length (now work)) × (8192 ≤ length (now tables)) × Within counts ⌝ }
-    ensures { λ _. ⌜ Settled (namings counts (now (tables .entry))) (exprRow (counts .exprs)) (now (work .exit)) ⌝ }
+    ensures { λ _. ⌜ Settled (namings counts (inTables (now (tables .entry)))) (exprRow (counts .exprs)) (now (work .exit)) ⌝ }
 {
     clear(work);
     name_queries(work, tables, counts);

@@ -32,6 +32,7 @@ ghost use mathlib.Core.Bool.{cond};
 ghost use Rattle.naming.specs.Namings.{byQueries, byStatements, namings};
 ghost use Rattle.marks.specs.Marks.{Marks, nameWork, rowWork};
 ghost use Rattle.marks.specs.Rows.{partOf, partsOf, fieldsOf};
+ghost use Rattle.records.specs.Rows.{inTables};
 
 // ---- what a row names
 
@@ -49,7 +50,7 @@ fn name_from(work: &mut [u64], counts: Counts, by: usize, holds: u32, value: u16
 
 fn name_query(work: &mut [u64], tables: &[u16], counts: Counts, row: usize)
     requires { ⌜ (673 ≤ length (now work)) × (8192 ≤ length (now tables)) × (row ≤ 32) × Within counts ⌝ }
-    ensures { λ _. ⌜ now (work .exit) ≡ rowWork counts (queryRow row) (queryEntries counts (now (tables .entry)) row) (now (work .entry)) ⌝ }
+    ensures { λ _. ⌜ now (work .exit) ≡ rowWork counts (queryRow row) (queryEntries counts (inTables (now (tables .entry))) row) (now (work .entry)) ⌝ }
 {
     let first = first_at(tables, row);
     name_from(work, counts, row, STATEMENT_OR_NONE, first, row);
@@ -72,7 +73,7 @@ fn name_statement(work: &mut [u64], counts: Counts, row: usize, x: Statement)
 // Where a part of expression `row` lies: a comprehension's term in its query.
 fn place_of(counts: Counts, field: Field, x: Expr, row: usize) -> usize
     requires { ⌜ row ≤ 512 ⌝ }
-    ensures { λ r. ⌜ r ≡ placeOf counts field x row ⌝ }
+    ensures { λ r. ⌜ r ≡ placeOf counts field (x .third) row ⌝ }
 {
     if field.term {
         return named_by(counts, field_from(QUERY), x.third);
@@ -129,7 +130,7 @@ pub(crate) fn clear(work: &mut [u64])
 
 pub(crate) fn name_queries(work: &mut [u64], tables: &[u16], counts: Counts)
     requires { ⌜ Marks [] (now work) × (8192 ≤ length (now tables)) × Within counts ⌝ }
-    ensures { λ _. ⌜ Marks (byQueries counts (now (tables .entry)) (counts .queries)) (now (work .exit)) ⌝ }
+    ensures { λ _. ⌜ Marks (byQueries counts (inTables (now (tables .entry))) (counts .queries)) (now (work .exit)) ⌝ }
 {
     let mut row = 0;
     while row < counts.queries {
@@ -139,8 +140,8 @@ pub(crate) fn name_queries(work: &mut [u64], tables: &[u16], counts: Counts)
 }
 
 pub(crate) fn name_statements(work: &mut [u64], tables: &[u16], counts: Counts)
-    requires { ⌜ Marks (byQueries counts (now tables) (counts .queries)) (now work) × (8192 ≤ length (now tables)) × Within counts ⌝ }
-    ensures { λ _. ⌜ Marks (byStatements counts (now (tables .entry)) (counts .statements)) (now (work .exit)) ⌝ }
+    requires { ⌜ Marks (byQueries counts (inTables (now tables)) (counts .queries)) (now work) × (8192 ≤ length (now tables)) × Within counts ⌝ }
+    ensures { λ _. ⌜ Marks (byStatements counts (inTables (now (tables .entry))) (counts .statements)) (now (work .exit)) ⌝ }
 {
     let mut row = 0;
     while row < counts.statements {
@@ -151,8 +152,8 @@ pub(crate) fn name_statements(work: &mut [u64], tables: &[u16], counts: Counts)
 }
 
 pub(crate) fn name_exprs(work: &mut [u64], tables: &[u16], counts: Counts)
-    requires { ⌜ Marks (byStatements counts (now tables) (counts .statements)) (now work) × (8192 ≤ length (now tables)) × Within counts ⌝ }
-    ensures { λ _. ⌜ Marks (namings counts (now (tables .entry))) (now (work .exit)) ⌝ }
+    requires { ⌜ Marks (byStatements counts (inTables (now tables)) (counts .statements)) (now work) × (8192 ≤ length (now tables)) × Within counts ⌝ }
+    ensures { λ _. ⌜ Marks (namings counts (inTables (now (tables .entry)))) (now (work .exit)) ⌝ }
 {
     let mut row = 0;
     while row < counts.exprs {

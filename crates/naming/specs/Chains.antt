@@ -4,25 +4,25 @@ use mathlib.Core.List.{List}
 use Prim.Native.Nat.{ℕ, zero, suc}
 use lib.Dec.{eqb, leb, ltb}
 use Rattle.records.specs.declared.Counts.{Counts}
-use Rattle.records.specs.Layout.{exprAt}
+use Rattle.records.specs.Rows.{Rows}
 
-module _ (c : Counts) (t : List ℕ) where
+module _ (c : Counts) (t : Rows) where
   abbrev pub isVar : ℕ → Bool
-  isVar r = eqb (exprAt t r .kind) 6
+  isVar r = eqb (t .expr r .kind) 6
 
   -- Does the chain go on after row r?
   abbrev pub goesOn : ℕ → Bool
-  goesOn r = ltb r (exprAt t r .next) && leb (exprAt t r .next) (c .exprs)
+  goesOn r = ltb r (t .expr r .next) && leb (t .expr r .next) (c .exprs)
 
   -- Is each of the first n members from row r on a Var?
   unfoldable pub varsIn : ℕ → ℕ → Bool
   varsIn zero r = true
-  varsIn (suc n) r = isVar r && (not (goesOn r) || varsIn n (exprAt t r .next))
+  varsIn (suc n) r = isVar r && (not (goesOn r) || varsIn n (t .expr r .next))
 
   -- Do the members from row r on, at most n, come to an end, and are they odd in number? With `false` for `odd`: even.
   unfoldable pub endsIn : ℕ → Bool → ℕ → Bool
   endsIn zero odd r = false
-  endsIn (suc n) odd r = cond (eqb (exprAt t r .next) 0) odd (goesOn r && endsIn n (not odd) (exprAt t r .next))
+  endsIn (suc n) odd r = cond (eqb (t .expr r .next) 0) odd (goesOn r && endsIn n (not odd) (t .expr r .next))
 
   -- After row r a chain has no more members than there are expressions.
   unfoldable pub allVars : ℕ → Bool

@@ -10,12 +10,13 @@ use lib.ListN.{getD}
 use borrow.Author.Tests.{le-leb, lt-leb}
 use Rattle.basics.specs.Truth.{lt-cases}
 use Rattle.records.specs.declared.Counts.{Counts}
+use Rattle.records.specs.Rows.{Rows}
 use Rattle.naming.specs.Entries.{exprRow}
 use Rattle.naming.specs.Namings.{Naming, namers, upwards, namings}
 use Rattle.naming.specs.Nesting.{grown, lying, enclosingOf, enclosing}
 use Rattle.naming.specs.GrownLaws.{grown-at, grown-before}
 
-module _ (c : Counts) (t : List ℕ) where
+module _ (c : Counts) (t : Rows) where
   -- The query that encloses row k.
   abbrev pub queryOf : ℕ → ℕ
   queryOf k = getD (enclosing c t) k 0

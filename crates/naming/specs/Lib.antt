@@ -10,3 +10,4 @@ pub mod Stages
 pub mod Origins
 pub mod PlaceLaws
 pub mod EnclosingLaws
+pub mod SameRows

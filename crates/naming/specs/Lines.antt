@@ -4,6 +4,7 @@ use mathlib.Core.List.{List}
 use Prim.Native.Nat.{ℕ, zero, suc, _+_}
 use lib.Dec.{eqb}
 use Rattle.records.specs.declared.Counts.{Counts}
+use Rattle.records.specs.Rows.{Rows}
 use Rattle.naming.specs.Faults.{builtinFault, exprFault, statementFault, queryFault}
 
 -- The first of n rows from r on that is at fault, or 0.
@@ -35,7 +36,7 @@ module _ (c : Counts) where
   orElse b r other = cond (eqb r 0) other (lineOf b r)
 
   -- The first line at fault, in the order of the sheet, or 0.
-  unfoldable pub firstLine : List ℕ → ℕ
+  unfoldable pub firstLine : Rows → ℕ
   firstLine t =
       orElse builtins (firstOf (builtinFault c t) 1 (c .builtins))
       (orElse exprs (firstOf (exprFault c t) 1 (c .exprs))

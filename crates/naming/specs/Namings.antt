@@ -5,6 +5,7 @@ use Prim.Native.Nat.{ℕ, zero, suc}
 use lib.Dec.{eqb, ltb}
 use Rattle.basics.specs.Lists.{filter}
 use Rattle.records.specs.declared.Counts.{Counts}
+use Rattle.records.specs.Rows.{Rows}
 use Rattle.naming.specs.Entries.{Entry, queryRow, statementRow, exprRow, isQuery, target, exprEntries, statementEntries, queryEntries}
 
 -- Row `by` names row `to`, which by that lies at `place`; `chain`: as the member of a chain.
@@ -48,7 +49,7 @@ module _ (c : Counts) where
   rowNamings k [] = []
   rowNamings k (e ∷ es) = entryNaming k e ++ rowNamings k es
 
-  module _ (t : List ℕ) where
+  module _ (t : Rows) where
     -- Those by the first q queries.
     unfoldable pub byQueries : ℕ → List Naming
     byQueries zero = []

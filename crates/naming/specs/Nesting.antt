@@ -5,6 +5,7 @@ use Prim.Native.Nat.{ℕ, zero, suc}
 use lib.Dec.{eqb}
 use lib.ListN.{getD}
 use Rattle.records.specs.declared.Counts.{Counts}
+use Rattle.records.specs.Rows.{Rows}
 use Rattle.naming.specs.Entries.{queryRow, exprRow, isQuery}
 use Rattle.naming.specs.Namings.{Naming, namers, upwards, namings}
 
@@ -28,7 +29,7 @@ abbrev pub deeper : ℕ → ℕ
 deeper zero = zero
 deeper (suc l) = suc (suc l)
 
-module _ (c : Counts) (t : List ℕ) where
+module _ (c : Counts) (t : Rows) where
   -- The query that encloses each row.
   unfoldable pub enclosing : List ℕ
   enclosing = grown (enclosingOf (namings c t)) (exprRow (c .exprs))

@@ -10,6 +10,7 @@ use lib.Dec.{eqb}
 use borrow.Author.Tests.{ne-eqb, eqb-false}
 use Rattle.basics.specs.Truth.{bool-cases}
 use Rattle.records.specs.declared.Counts.{Counts}
+use Rattle.records.specs.Rows.{Rows}
 use Rattle.naming.specs.Entries.{Entry, queryRow, statementRow, exprRow, target, exprEntries, statementEntries, queryEntries}
 use Rattle.naming.specs.Namings.{Naming, namers, inChain, entryNaming, rowNamings, byQueries, byStatements, byExprs, namings}
 use Rattle.naming.specs.Faults.{isMember}
@@ -62,14 +63,14 @@ module _ (c : Counts) (k : ℕ) where
 -- ---- all rows
 
 -- The row whose field makes a naming, and the field.
-pub data Origin (c : Counts) (t : List ℕ) (x : Naming) : Type 0 where
+pub data Origin (c : Counts) (t : Rows) (x : Naming) : Type 0 where
   by-query : (q : ℕ) (e : Entry) → 1 ≤ q → q ≤ c .queries → List·Memᴰ e (queryEntries c t q) → Made c (queryRow q) e x → Origin c t x
   by-statement : (s : ℕ) (e : Entry) → 1 ≤ s → s ≤ c .statements → List·Memᴰ e (statementEntries c t s) → Made c (statementRow s) e x
       → Origin c t x
   by-expr : (r : ℕ) (e : Entry) → 1 ≤ r → r ≤ c .exprs → List·Memᴰ e (exprEntries c t (isMember c t r) r) → Made c (exprRow r) e x
       → Origin c t x
 
-module _ (c : Counts) (t : List ℕ) where
+module _ (c : Counts) (t : Rows) where
   -- What each row adds.
   ofQuery : ℕ → List Naming
   ofQuery q = rowNamings c (queryRow q) (queryEntries c t q)

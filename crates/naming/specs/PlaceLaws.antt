@@ -9,7 +9,8 @@ use lib.Dec.{eqb, leb, ltb}
 use borrow.Author.Tests.{leb-true}
 use Rattle.basics.specs.Truth.{bool-cases, and-right}
 use Rattle.records.specs.declared.Counts.{Counts}
-use Rattle.records.specs.Layout.{Within, exprAt}
+use Rattle.records.specs.Layout.{Within}
+use Rattle.records.specs.Rows.{Rows}
 use Rattle.fields.specs.declared.Field.{Field}
 use Rattle.fields.specs.Fields.{fieldFrom, query}
 use Rattle.naming.specs.Entries.{Entry, queryRow, statementRow, exprRow, inRange, target, placeOf, exprEntries, statementEntries, queryEntries}
@@ -26,7 +27,7 @@ each P [] a m = absurd (List·Memᴰ·not-nil m)
 each P (d ∷ es) a {e} m =
     ⊎-elim (λ (q : e ≡ d). subst P (sym q) (a .0)) (λ (q : List·Memᴰ e es). each P es (a .1) q) (List·Memᴰ·cases-cons m)
 
-module _ (c : Counts) (t : List ℕ) where
+module _ (c : Counts) (t : Rows) where
   pub query-place : (q : ℕ) {e : Entry} → List·Memᴰ e (queryEntries c t q) → e .place ≡ queryRow q
   unfolding queryEntries
   query-place q m = each (λ e. e .place ≡ queryRow q) _ (refl, tt) m
@@ -44,12 +45,12 @@ module _ (c : Counts) (t : List ℕ) where
       go (inl p) = rw p (leb-true v (c .queries) (and-right (ltb 0 v) _ p))
       go (inr p) = rw p (omega arith)
 
-  part-below : Within c → (r : ℕ) (f : Field) → placeOf c f (exprAt t r) r ≤ exprRow r
+  part-below : Within c → (r : ℕ) (f : Field) → placeOf c f (t .expr r .third) r ≤ exprRow r
   unfolding placeOf
   part-below few r f = go (f .term)
     where
-      go : (b : Bool) → cond b (target c (fieldFrom query) (exprAt t r .third)) (exprRow r) ≤ exprRow r
-      go true = let s = query-small (exprAt t r .third) in let q = few .few-queries in omega arith
+      go : (b : Bool) → cond b (target c (fieldFrom query) (t .expr r .third)) (exprRow r) ≤ exprRow r
+      go true = let s = query-small (t .expr r .third) in let q = few .few-queries in omega arith
       go false = omega arith
 
   expr-place-below : Within c → (b : Bool) (r : ℕ) {e : Entry} → List·Memᴰ e (exprEntries c t b r) → e .place ≤ exprRow r

@@ -10,7 +10,7 @@ use lib.Dec.{eqb, ltb}
 use lib.ListN.{length, getD}
 use borrow.Author.Tests.{eq-eqb, ne-eqb, lt-ltb, le-ltb}
 use Rattle.basics.specs.Truth.{lt-cases, and-intro, or-left, or-right}
-use Rattle.trees.specs.declared.Row.{Row}
+use Rattle.records.specs.declared.Row.{Row}
 use Rattle.scopes.specs.Scopes.{Span, spanIn}
 use Rattle.uses.specs.FirstUses.{isBefore}
 use Rattle.analysis.specs.States as spec

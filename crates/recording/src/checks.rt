@@ -3,7 +3,7 @@
 use crate::first::check_first_use;
 use branches::next_of;
 use frame::Progress;
-use trees::Row;
+use records::Row;
 use trees::row_at;
 use used::assigned::pattern_of;
 ghost use Prim.Native.Nat.{_≤_, _<_};

@@ -2,7 +2,7 @@
 
 use frame::Fault;
 use frame::Progress;
-use trees::Row;
+use records::Row;
 ghost use Prim.Native.Nat.{_≤_, _<_};
 ghost use lib.ListN.{length};
 ghost use Rattle.recording.specs.FirstUse.{UseChecked};

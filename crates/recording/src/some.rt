@@ -4,7 +4,7 @@ use branches::next_of;
 use gather::scope::Scope;
 use gather::special::is_input;
 use names::Names;
-use trees::Row;
+use records::Row;
 use trees::row_at;
 use used::assigned::pattern_of;
 use used::first::add_first_use;

@@ -45,6 +45,18 @@ pub struct Builtin {
     pub third: u16,
 }
 
+// An expression and its position.
+pub struct Row {
+    pub kind: u16,
+    pub name: u16,
+    pub line: u16,
+    pub col: u16,
+    pub first: u16,
+    pub second: u16,
+    pub third: u16,
+    pub next: u16,
+}
+
 // An expression without its position.
 pub struct Expr {
     pub kind: u16,

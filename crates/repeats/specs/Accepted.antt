@@ -20,8 +20,9 @@ use Rattle.repeats.specs.QueryRepeats.{queriesOnce, rust-fault, rust-sch
 use Rattle.repeats.specs.Counting.{once-distinct}
 use Rattle.repeats.specs.Times.{times, times-few, family-few}
 use Rattle.repeats.specs.RowSums.{first-at-most}
+use Rattle.records.specs.Rows.{inTables}
 
-module _ (c : Counts) (x : Special) (t : List ℕ) (few : Within c) (none : firstLine c t ≡ 0) where
+module _ (c : Counts) (x : Special) (t : List ℕ) (few : Within c) (none : firstLine c (inTables t) ≡ 0) where
   -- Each query stands at one place.
   pub accepted-once : queriesOnce (sheetOf c x t) ≡ true
   unfolding queriesOnce
@@ -31,7 +32,7 @@ module _ (c : Counts) (x : Special) (t : List ℕ) (few : Within c) (none : firs
       (λ k. omega (
         arith,
         family-few k sheet deepest 1 [],
-        first-at-most c x t (sheet-facts c t few none) (accepted c t none) (times k sheet deepest) (few .some-query) k (times-few k sheet deepest),
+        first-at-most c x t (sheet-facts c (inTables t) few none) (accepted c (inTables t) none) (times k sheet deepest) (few .some-query) k (times-few k sheet deepest),
       ))
 
   -- The Rust's fault is that of the definitions.

@@ -4,7 +4,7 @@ use mathlib.Core.List.{List, [], _∷_, _++_, map, foldl, List·Memᴰ, List·Me
 use Prim.Native.Nat.{ℕ}
 use Rattle.basics.specs.Members.{filter-mem}
 use Rattle.trees.specs.Lists.{concatMap}
-use Rattle.trees.specs.declared.Row.{Row}
+use Rattle.records.specs.declared.Row.{Row}
 use Rattle.trees.specs.Sheet.{Sheet}
 use Rattle.trees.specs.Trees.{Tree}
 use Rattle.trees.specs.Traverse.{comprs}

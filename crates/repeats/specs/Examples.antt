@@ -4,7 +4,7 @@ use mathlib.Core.Bool.{true, false}
 use mathlib.Core.List.{List, [], _∷_, map}
 use Prim.Native.Nat.{ℕ}
 use Rattle.basics.specs.Ranges.{range}
-use Rattle.trees.specs.declared.Row.{Row}
+use Rattle.records.specs.declared.Row.{Row}
 use Rattle.trees.specs.Sheet.{Sheet, isInput, isSpecial}
 use Rattle.trees.specs.Trees.{Tree, nil, node, decode, treeAt, chain}
 use Rattle.trees.specs.Traverse.{traverse, leaves, vars}
@@ -37,6 +37,7 @@ expression kind name first second third next =
 -- `[a, b] = [1, 2] with input as [x | x := 3]`, where a, b and x are the names 1, 2 and 3, and the comprehension's query is 2.
 abbrev sheet : Sheet
 sheet = record {
+  names = 0;
   special = record { blank = 0; input = 0; «data» = 0 };
   builtins = [];
   exprs =

@@ -7,7 +7,7 @@ use borrow.Author.Tests.{eqb-true}
 use lib.ListN.{getD}
 use Rattle.basics.specs.Truth.{not-both}
 use Rattle.trees.specs.Lists.{concatMap}
-use Rattle.trees.specs.declared.Row.{Row}
+use Rattle.records.specs.declared.Row.{Row}
 use Rattle.trees.specs.Sheet.{Sheet}
 use Rattle.trees.specs.Kinds.{isVar, isCompr, isRefBrack}
 use Rattle.trees.specs.Trees.{Tree, nil, node, rowOf}

@@ -11,7 +11,7 @@ use Rattle.basics.specs.Lists.{elem}
 use Rattle.basics.specs.Truth.{not-both}
 use Rattle.turns.specs.Definitions.{Definition}
 use Rattle.trees.specs.Lists.{concatMap, any}
-use Rattle.trees.specs.declared.Row.{Row}
+use Rattle.records.specs.declared.Row.{Row}
 use Rattle.trees.specs.Sheet.{Sheet}
 use Rattle.trees.specs.Kinds.{isVar, isCompr, isRefBrack}
 use Rattle.trees.specs.Trees.{Tree, nil, node}

@@ -23,6 +23,7 @@ use Rattle.sizes.specs.Sums.{valued, valued-at, worth}
 use Rattle.sizes.specs.Worth.{rowWorth, entry-worth, statementWorth, exprWorth}
 use Rattle.sizes.specs.Listed.{comprKind}
 use Rattle.sizes.specs.Named.{target-row}
+use Rattle.records.specs.Rows.{inTables}
 
 -- ---- the tables of kinds and forms
 
@@ -65,7 +66,7 @@ module _ (c : Counts) (g : ℕ → ℕ) where
   module _ (t : List ℕ) where
     -- A field that holds a query.
     query-field : (k q n v place : ℕ) → let e : Entry = record { field = fieldFrom n; value = v; place = place } in
-        Fine c t q e → HoldsQuery n → g v ≤ worth queryValue (entryNaming c k e)
+        Fine c (inTables t) q e → HoldsQuery n → g v ≤ worth queryValue (entryNaming c k e)
     unfolding queryValue
     query-field k q n v place fine h =
         let e : Entry = record { field = fieldFrom n; value = v; place = place } in
@@ -81,7 +82,7 @@ module _ (c : Counts) (g : ℕ → ℕ) where
           ap g next,
         )
 
-    module _ (ok : Accepted c t) where
+    module _ (ok : Accepted c (inTables t)) where
       -- What a comprehension names is worth at least its query.
       pub compr-worth : (r : ℕ) → 1 ≤ r → r ≤ c .exprs
           → cond (comprKind (exprAt t r .kind)) (g (exprAt t r .third)) 0 ≤ exprWorth c queryValue t r
@@ -91,13 +92,13 @@ module _ (c : Counts) (g : ℕ → ℕ) where
           go : (comprKind (exprAt t r .kind) ≡ true) ⊎ (comprKind (exprAt t r .kind) ≡ false)
               → cond (comprKind (exprAt t r .kind)) (g (exprAt t r .third)) 0 ≤ exprWorth c queryValue t r
           go (inl p) =
-              let row = fine-expr-row c t r (ok .fine-expr r low high) in
+              let row = fine-expr-row c (inTables t) r (ok .fine-expr r low high) in
               let n = kindFields (exprAt t r .kind) / third in
               rw p
               (omega (
                 arith,
                 query-field (exprRow r) _ n (exprAt t r .third) _
-                    (row .fields {e = exprEntry c t r (fieldFrom n) (exprAt t r .third)}
+                    (row .fields {e = exprEntry c (inTables t) r (fieldFrom n) (exprAt t r .third)}
                     (List·Memᴰ·tail (List·Memᴰ·tail (List·Memᴰ·tail (List·Memᴰ·head refl))))) (compr-holds _ (row .kind-high) p),
               ))
           go (inr p) = rw p (omega arith)
@@ -107,11 +108,11 @@ module _ (c : Counts) (g : ℕ → ℕ) where
           → g (statementAt t s .query) ≤ statementWorth c queryValue t s
       unfolding statementWorth rowWorth statementEntries
       every-worth s low high five =
-          let row = fine-statement-row c t s (ok .fine-statement s low high) in
+          let row = fine-statement-row c (inTables t) s (ok .fine-statement s low high) in
           let n = formFields (statementAt t s .form) in
           let holds : HoldsQuery n = rw five every-holds in
           omega (
             arith,
             query-field (statementRow s) _ n (statementAt t s .query) _
-                (row .fields {e = statementEntry c t s (fieldFrom n) (statementAt t s .query)} (List·Memᴰ·head refl)) holds,
+                (row .fields {e = statementEntry c (inTables t) s (fieldFrom n) (statementAt t s .query)} (List·Memᴰ·head refl)) holds,
           )

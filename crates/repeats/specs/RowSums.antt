@@ -22,6 +22,7 @@ use Rattle.repeats.specs.Counting.{is}
 use Rattle.repeats.specs.Tally.{stmtTally}
 use Rattle.repeats.specs.QueryFields.{queryValue, compr-worth}
 use Rattle.repeats.specs.RowTallies.{tallyAt, tallyFrom, tally-none, tally-row, from-none, from-row, of-query}
+use Rattle.records.specs.Rows.{inTables}
 
 -- ---- sums
 
@@ -49,7 +50,7 @@ one-at-most k (suc n) = go (eq-cases k (suc n)) (one-at-most k n)
 
 -- ---- the rows of a sheet
 
-module _ (c : Counts) (x : Special) (t : List ℕ) (facts : SheetFacts c t) (ok : Accepted c t) (g : ℕ → ℕ) where
+module _ (c : Counts) (x : Special) (t : List ℕ) (facts : SheetFacts c (inTables t)) (ok : Accepted c (inTables t)) (g : ℕ → ℕ) where
   -- Each query but the first is worth its number.
   abbrev queriesBy : ℕ → ℕ
   queriesBy = queryValue c g
@@ -104,7 +105,7 @@ module _ (c : Counts) (x : Special) (t : List ℕ) (facts : SheetFacts c t) (ok 
       omega (
         arith,
         worth-namings c (queryValue c g) t,
-        named-once 1 (λ q. g (suc q)) (c .queries - 1) (namings c t) (λ q a b. query-once c t ok (1 + q) (omega arith) (omega arith)),
+        named-once 1 (λ q. g (suc q)) (c .queries - 1) (namings c (inTables t)) (λ q a b. query-once c t ok (1 + q) (omega arith) (omega arith)),
       )
 
   -- The statements that are named are worth no more than all.
@@ -115,7 +116,7 @@ module _ (c : Counts) (x : Special) (t : List ℕ) (facts : SheetFacts c t) (ok 
       omega (
         arith,
         worth-namings c (statementValue c (tallyFrom c x t g)) t,
-        named-once 32 (tallyFrom c x t g) (c .statements) (namings c t) (statement-once c t ok),
+        named-once 32 (tallyFrom c x t g) (c .statements) (namings c (inTables t)) (statement-once c t ok),
       )
 
   -- Nor the expressions.
@@ -126,7 +127,7 @@ module _ (c : Counts) (x : Special) (t : List ℕ) (facts : SheetFacts c t) (ok 
       omega (
         arith,
         worth-namings c (exprValue c (tallyAt c x t g)) t,
-        named-once 160 (tallyAt c x t g) (c .exprs) (namings c t) (expr-once c t ok),
+        named-once 160 (tallyAt c x t g) (c .exprs) (namings c (inTables t)) (expr-once c t ok),
       )
 
   -- If each query is at most its own naming and what its statements name, the first is at most 1.

@@ -15,9 +15,9 @@ use Rattle.records.specs.Layout.{exprAt, statementAt, firstAt}
 use Rattle.spelling.specs.declared.Special.{Special}
 use Rattle.accepted.specs.Accepted.{Accepted}
 use Rattle.accepted.specs.Facts.{SheetFacts}
-use Rattle.trees.specs.Sheet.{Sheet, rowAt, sheetOf}
+use Rattle.trees.specs.Sheet.{Sheet, rowAt, sheetOf, noStatement}
 use Rattle.trees.specs.Trees.{Tree, node, thirdOf, treeAt, chain}
-use Rattle.trees.specs.Statements.{Literal, Stmt, noStatement, literalOf, stmtsOf}
+use Rattle.trees.specs.Statements.{Literal, Stmt, literalOf, stmtsOf}
 use Rattle.trees.specs.StatementWalks.{statementIn, Onwards, stmtAt, stmtsAt, stmts-none, stmts-row, stmts-of}
 use Rattle.branches.specs.RowTrees.{rows-length, rows-at, tree-none, tree-row}
 use Rattle.sizes.specs.Sizes.{total}
@@ -27,6 +27,7 @@ use Rattle.sizes.specs.Parts.{partsAt, wholesAt}
 use Rattle.repeats.specs.Places.{bodyOf}
 use Rattle.repeats.specs.Tally.{tally, literalTally, stmtTally, tally-chain}
 use Rattle.repeats.specs.QueryFields.{queryValue, every-worth}
+use Rattle.records.specs.Rows.{inTables}
 
 module _ (c : Counts) (x : Special) (t : List ℕ) (g : ℕ → ℕ) where
   -- The sheet in the tables.
@@ -63,7 +64,7 @@ module _ (c : Counts) (x : Special) (t : List ℕ) (g : ℕ → ℕ) where
       go false false false true = omega arith
       go false false false false = omega arith
 
-  module _ (facts : SheetFacts c t) where
+  module _ (facts : SheetFacts c (inTables t)) where
     -- ---- expressions
 
     -- Row 0 has no tree.
@@ -131,7 +132,7 @@ module _ (c : Counts) (x : Special) (t : List ℕ) (g : ℕ → ℕ) where
     unfolding stmtTally stmtOf wholesAt tallyAt
     stmt-wholes s = omega (arith, literal-wholes (statementAt t s), tally-chain g (treeAt sheet (statementAt t s .with)))
 
-    module _ (ok : Accepted c t) where
+    module _ (ok : Accepted c (inTables t)) where
       -- The body of an `every` is named by the statement's row.
       body-worth : (s : ℕ) → 1 ≤ s → s ≤ c .statements → total g (bodyOf (literalOf sheet (statementAt t s))) ≤ statementWorth c (queryValue c g) t s
       unfolding literalOf

@@ -8,7 +8,7 @@ use Prim.Native.Nat.{ℕ}
 use Rattle.basics.specs.Lists.{filter}
 use Rattle.turns.specs.Definitions.{Definition}
 use Rattle.trees.specs.Lists.{any, find}
-use Rattle.trees.specs.declared.Row.{Row}
+use Rattle.records.specs.declared.Row.{Row}
 use Rattle.trees.specs.Sheet.{Sheet, isInput}
 use Rattle.trees.specs.Trees.{Tree}
 use Rattle.scopes.specs.Scopes.{spanOf, useInput}

@@ -4,7 +4,7 @@ use mathlib.Core.List.{List, [], _∷_, _++_}
 use Prim.Native.Nat.{ℕ}
 use lib.ListN.{getD}
 use Rattle.trees.specs.Lists.{concatMap}
-use Rattle.trees.specs.declared.Row.{Row}
+use Rattle.records.specs.declared.Row.{Row}
 use Rattle.trees.specs.Sheet.{Sheet}
 use Rattle.trees.specs.Kinds.{isVar, isCompr, isRefBrack}
 use Rattle.trees.specs.Trees.{Tree, nil, node}

@@ -7,7 +7,7 @@ use lib.Dec.{eqb}
 use lib.ListN.{length}
 use Rattle.basics.specs.Lists.{filter}
 use Rattle.trees.specs.Lists.{concatMap}
-use Rattle.trees.specs.declared.Row.{Row}
+use Rattle.records.specs.declared.Row.{Row}
 use Rattle.trees.specs.Sheet.{Sheet}
 use Rattle.trees.specs.Kinds.{isAssign, isColEq}
 use Rattle.trees.specs.Trees.{Tree, rowOf, firstOf, secondOf, chain}

@@ -8,7 +8,7 @@ use lib.Dec.{eqb, ltb}
 use borrow.Author.Tests.{eqb-true}
 use Rattle.basics.specs.Truth.{bool-cases, not-both, and-right, or-left, or-right, or-cases}
 use Rattle.basics.specs.Lists.{all}
-use Rattle.trees.specs.declared.Row.{Row}
+use Rattle.records.specs.declared.Row.{Row}
 use Rattle.trees.specs.Sheet.{Sheet, nameBound}
 use Rattle.trees.specs.Trees.{Tree}
 use Rattle.trees.specs.Statements.{Stmt}

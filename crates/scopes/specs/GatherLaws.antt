@@ -7,10 +7,10 @@ use mathlib.Core.Option.{Option, none, some}
 use Rattle.basics.specs.Truth.{bool-cases, and-left, and-right}
 use Rattle.basics.specs.Lists.{all}
 use Rattle.trees.specs.Lists.{toList}
-use Rattle.trees.specs.declared.Row.{Row}
-use Rattle.trees.specs.Sheet.{Sheet, isInput, isSpecial}
+use Rattle.records.specs.declared.Row.{Row}
+use Rattle.trees.specs.Sheet.{Sheet, isInput, isSpecial, noRow}
 use Rattle.trees.specs.Kinds.{isVar, isRefBrack, isAssign, isColEq}
-use Rattle.trees.specs.Trees.{Tree, noRow, rowOf, firstOf, secondOf, chain}
+use Rattle.trees.specs.Trees.{Tree, rowOf, firstOf, secondOf, chain}
 use Rattle.trees.specs.Traverse.{traverse, leaves, vars}
 use Rattle.trees.specs.Paths.{getExtraArg}
 use Rattle.trees.specs.Statements.{Literal, someVars, someIn, expr, notExpr, every, Stmt}

@@ -9,7 +9,7 @@ use borrow.Author.Tests.{eqb-true, eq-eqb}
 use Rattle.basics.specs.Truth.{bool-cases, not-both, or-cases}
 use Rattle.trees.specs.Lists.{isSome}
 use Rattle.trees.specs.ListLaws.{all-always}
-use Rattle.trees.specs.declared.Row.{Row}
+use Rattle.records.specs.declared.Row.{Row}
 use Rattle.trees.specs.Sheet.{Sheet}
 use Rattle.trees.specs.Trees.{Tree}
 use Rattle.trees.specs.Statements.{Stmt}

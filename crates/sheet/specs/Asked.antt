@@ -23,10 +23,12 @@ use Rattle.records.specs.declared.Counts.{Counts}
 use Rattle.records.specs.Layout.{Within}
 use Rattle.spelling.specs.declared.Special.{Special}
 use Rattle.spelling.specs.Names.{SpecialRead}
+use Rattle.records.specs.Rows.{inTables}
 use Rattle.naming.specs.Lines.{firstLine}
 use Rattle.sheet.specs.declared.Outcome.{Outcome}
 use Rattle.sheet.specs.declared.Outcome.the-variants.{Read, NoRoom, TooLong, BadForm, BadName, BadCount, BadField}
 use Rattle.sheet.specs.Verdict.{blank, countsOf, fieldsFault, asked, verdict, headOf, specialOf, readTables, leftTables}
+use Rattle.sheet.specs.ReadRows.{fields-in-tables}
 
 abbrev pub isRead : Outcome → Bool
 isRead Read = true
@@ -183,9 +185,10 @@ module _ (s d : List ℕ) (r : read-of.Read) (e : List ℕ) (is : d ≡ blank) (
         headed
         ∙ rw (special .blank, special .input, special .«data») (ap₂ (λ (l : List ℕ) (c : Counts). sets l 0 (headOf c (specialOf s))) rows-are counts-are)
 
-    pub fields-fault-is : firstLine (countsIn r) t ≡ fieldsFault s
-    unfolding fieldsFault
-    fields-fault-is = ap₂ firstLine counts-are tables-are
+    pub fields-fault-is : formFault s ≡ 0 → countsFault s ≡ 0 → firstLine (countsIn r) (inTables t) ≡ fieldsFault s
+    unfolding countsFault
+    fields-fault-is formed counted =
+        ap₂ (λ (c : Counts) (d : List ℕ). firstLine c (inTables d)) counts-are tables-are ∙ fields-in-tables s formed (within (rowCounts s) counted)
 
 -- ---- each way out
 

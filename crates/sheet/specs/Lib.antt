@@ -1,4 +1,5 @@
 pub mod Verdict
+pub mod ReadRows
 pub mod Asked
 pub mod Leaving
 pub mod TextLines

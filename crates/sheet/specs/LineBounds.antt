@@ -1,5 +1,5 @@
 -- Number and line of an outcome fit 16 bits.
-use mathlib.Core.Path.{_≡_, refl}
+use mathlib.Core.Path.{_≡_, refl, subst}
 use mathlib.Core.Bool.{Bool, true, false, cond, _&&_}
 use mathlib.Core.List.{List, [], _∷_}
 use mathlib.Core.Logic.{_⊎_, inl, inr}
@@ -14,13 +14,15 @@ use Rattle.text.specs.Counts.{lineOf, overLine, noQueryLine, countFault}
 use Rattle.text.specs.Questions.{formFault, namesFault, countsFault, shortEnough, rowCounts}
 use Rattle.records.specs.declared.Counts.{Counts}
 use Rattle.records.specs.Layout.{Within}
+use Rattle.records.specs.Rows as rows-of
 use Rattle.naming.specs.Faults.{builtinFault, exprFault, statementFault, queryFault}
 use Rattle.naming.specs.Lines as Rows
 use Rattle.naming.specs.Lines.{firstOf, firstLine}
 use Rattle.sheet.specs.declared.Outcome.{Outcome}
 use Rattle.sheet.specs.declared.Outcome.the-variants.{Read, NoRoom, TooLong, BadForm, BadName, BadCount, BadField}
 use Rattle.sheet.specs.Verdict as Verdict
-use Rattle.sheet.specs.Verdict.{countsOf, readTables, fieldsFault, asked, verdict}
+use Rattle.sheet.specs.Verdict.{fieldsFault, asked, verdict}
+use Rattle.sheet.specs.ReadRows.{counts-same}
 use Rattle.sheet.specs.Asked.{over-none, within}
 use Rattle.sheet.specs.TextLines.{form-low, names-fault-low}
 
@@ -94,7 +96,7 @@ or-else-low c b r other most h g = go (bool-cases (eqb r 0))
     go (inl p) = rw p g
     go (inr p) = rw p h
 
-fields-low : (c : Counts) (t : List ℕ) → Within c → firstLine c t ≤ 872
+fields-low : (c : Counts) (t : rows-of.Rows) → Within c → firstLine c t ≤ 872
 unfolding firstLine
 fields-low c t w =
     let b = firstOf (builtinFault c t) 1 (c .builtins) in
@@ -119,7 +121,8 @@ either-low false x y f g = g refl
 module _ (s : List ℕ) where
   fields-fault-low : countsFault s ≡ 0 → fieldsFault s ≤ 872
   unfolding fieldsFault countsFault
-  fields-fault-low counted = fields-low (countsOf s) (readTables s) (within (rowCounts s) counted)
+  fields-fault-low counted =
+      fields-low _ _ (subst Within (counts-same s) (within (rowCounts s) counted))
 
   counts-fault-low : countsFault s ≤ 875
   unfolding countsFault

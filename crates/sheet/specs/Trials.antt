@@ -26,6 +26,7 @@ use Rattle.naming.specs.Chains.{varsIn, endsIn, allVars, endsOdd}
 use Rattle.naming.specs.Faults.{fieldFault, isNamedSo, isMember, exprFault, statementFault, queryFault, pathBefore, builtinFault}
 use Rattle.naming.specs.Faults as faults
 use Rattle.naming.specs.Lines.{lineOf, firstOf, firstLine}
+use Rattle.trees.specs.Sheet.{sheetIn}
 use Rattle.sheet.specs.Verdict.{number, line, blank, readTables, fieldsFault, asked, verdict}
 
 -- Is the text refused so, where there is room?
@@ -112,7 +113,7 @@ unfolding bytes lines numbers.words numbers.value numbers.number numbers.numbers
     target placeOf exprEntries statementEntries queryEntries namers inChain entryNaming rowNamings byQueries byStatements byExprs namings
     grown enclosing parent levelIn level varsIn endsIn allVars endsOdd
     fieldFault faults.fieldsFault isNamedSo isMember exprFault statementFault queryFault pathBefore builtinFault
-    lineOf firstOf firstLine blank readTables fieldsFault asked verdict
+    lineOf firstOf firstLine blank readTables sheetIn fieldsFault asked verdict
 trials-pass = refl
 
 -- Question 1 comes before all others.

@@ -17,6 +17,7 @@ use Rattle.trees.specs.Sheet.{nameBound, rowAt, rowsTo, sheetOf}
 use Rattle.branches.specs.Onwards.{name-low}
 use Rattle.scopes.specs.Below.{nameBelow}
 use Rattle.analysis.specs.Named.{NamesBelow}
+use Rattle.records.specs.Rows.{inTables}
 
 -- A test that each of the rows 1 to n passes, all of them pass.
 rows-pass : {A : Type 0} (p : A → Bool) (at : ℕ → A) (n : ℕ) → ((r : ℕ) → 1 ≤ r → r ≤ n → p (at r) ≡ true) → all p (rowsTo at n) ≡ true
@@ -29,11 +30,11 @@ rows-pass p at n h = go (n + 1 - 1) 1 (λ r l m. h r l (omega arith))
         and-intro (p (at a)) (all p (map at (counted (suc a) k))) (g a (omega arith) (omega arith))
         (go k (suc a) (λ r l m. g r (omega arith) (omega arith)))
 
-pub facts-names : (c : Counts) (x : Special) (t : List ℕ) → Within c → SheetFacts c t → NamesBelow (sheetOf c x t)
+pub facts-names : (c : Counts) (x : Special) (t : List ℕ) → Within c → SheetFacts c (inTables t) → NamesBelow (sheetOf c x t)
 unfolding sheetOf
 facts-names c x t few facts =
     rows-pass nameBelow (rowAt t) (c .exprs) (λ r a b. lt-ltb (rowAt t r .name) nameBound (name-low c t few facts r a b))
 
 -- So what the theorems about recorded names ask of a sheet holds.
-pub low-names : (c : Counts) (x : Special) (t : List ℕ) → Within c → firstLine c t ≡ 0 → NamesBelow (sheetOf c x t)
-low-names c x t few fine = facts-names c x t few (sheet-facts c t few fine)
+pub low-names : (c : Counts) (x : Special) (t : List ℕ) → Within c → firstLine c (inTables t) ≡ 0 → NamesBelow (sheetOf c x t)
+low-names c x t few fine = facts-names c x t few (sheet-facts c (inTables t) few fine)

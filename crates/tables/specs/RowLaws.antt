@@ -24,7 +24,7 @@ use Rattle.tables.specs.Tables.{rowValues, putRow, putRows}
 abbrev pub Outside : ℕ → ℕ → ℕ → Type 0
 Outside at n i = (i < at) ⊎ (at + n ≤ i)
 
-sets-other : (vs d : List ℕ) (at i : ℕ) → Outside at (length vs) i → getD (sets d at vs) i 0 ≡ getD d i 0
+pub sets-other : (vs d : List ℕ) (at i : ℕ) → Outside at (length vs) i → getD (sets d at vs) i 0 ≡ getD d i 0
 sets-other [] d at i o = refl
 sets-other (v ∷ vs) d at i o =
     sets-other vs (set d at v) (suc at) i (⊎-elim (λ l. inl (omega arith)) (λ l. inr (omega arith)) o)

@@ -1,7 +1,7 @@
 -- The kinds of expressions that the analysis tells apart, by their numbers in the sheet (ast.rs, `Expr`).
 use mathlib.Core.Bool.{Bool, _||_, _&&_}
 use lib.Dec.{eqb, leb}
-use Rattle.trees.specs.declared.Row.{Row}
+use Rattle.records.specs.declared.Row.{Row}
 
 -- A String; a RawString is none.
 abbrev pub isString : Row → Bool

@@ -8,12 +8,12 @@ use lib.ListN.{length, getD}
 use Rattle.basics.specs.Truth.{and-intro}
 use Rattle.basics.specs.Lists.{all}
 use Rattle.records.specs.declared.Statement.{Statement}
-use Rattle.trees.specs.declared.Row.{Row}
+use Rattle.records.specs.declared.Row.{Row}
 use Rattle.trees.specs.ListLaws.{all-always}
-use Rattle.trees.specs.Sheet.{Sheet}
-use Rattle.trees.specs.Trees.{Tree, noRow, treeAt}
+use Rattle.trees.specs.Sheet.{Sheet, noRow, noStatement}
+use Rattle.trees.specs.Trees.{Tree, treeAt}
 use Rattle.trees.specs.TreeRows.{allRows, any-rows, chain-rows, tree-rows}
-use Rattle.trees.specs.Statements.{Literal, someVars, someIn, expr, notExpr, every, Stmt, noStatement, literalOf, stmtsFrom, stmtsOf}
+use Rattle.trees.specs.Statements.{Literal, someVars, someIn, expr, notExpr, every, Stmt, literalOf, stmtsFrom, stmtsOf}
 
 module _ (q : Row → Bool) where
   abbrev pub literalRows : Literal → Bool

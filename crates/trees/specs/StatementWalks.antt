@@ -6,9 +6,9 @@ use native.Mathlib.Omega.{arith}
 use native.Mathlib.Nat.{suc-ne-zero}
 use lib.ListN.{length, getD}
 use Rattle.records.specs.declared.Statement.{Statement}
-use Rattle.trees.specs.Sheet.{Sheet}
+use Rattle.trees.specs.Sheet.{Sheet, noStatement}
 use Rattle.trees.specs.Trees.{treeAt, chain}
-use Rattle.trees.specs.Statements.{Stmt, noStatement, literalOf, stmtsFrom, stmtsOf}
+use Rattle.trees.specs.Statements.{Stmt, literalOf, stmtsFrom, stmtsOf}
 
 -- Statement r of a list; rows count from 1.
 abbrev pub statementIn : List Statement → ℕ → Statement

@@ -5,7 +5,7 @@ use Prim.Native.Nat.{ℕ, zero, suc}
 use lib.Dec.{eqb}
 use lib.ListN.{length, getD}
 use Rattle.records.specs.declared.Statement.{Statement}
-use Rattle.trees.specs.Sheet.{Sheet}
+use Rattle.trees.specs.Sheet.{Sheet, noStatement}
 use Rattle.trees.specs.Trees.{Tree, treeAt, chain}
 
 -- The five forms of a literal, by the names that the original has for their parts.
@@ -19,10 +19,6 @@ pub data Literal : Type 0 where
 pub record Stmt : Type 0 where
   pub literal : Literal
   pub withMods : List Tree
-
--- Stands where a sheet has no such row.
-abbrev pub noStatement : Statement
-noStatement = record { form = 0; first = 0; second = 0; third = 0; query = 0; with = 0; next = 0 }
 
 module _ (sheet : Sheet) where
   -- By form: 1 SomeVars, 2 SomeIn, 3 Expr, 4 NotExpr, 5 Every.

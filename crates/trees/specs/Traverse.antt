@@ -4,7 +4,7 @@ use mathlib.Core.Bool.{cond}
 use mathlib.Core.List.{List, [], _∷_, _++_}
 use lib.ListN.{getD}
 use Rattle.trees.specs.Lists.{concatMap}
-use Rattle.trees.specs.declared.Row.{Row}
+use Rattle.records.specs.declared.Row.{Row}
 use Rattle.trees.specs.Kinds.{isVar, isPattern, isCompr}
 use Rattle.trees.specs.Trees.{Tree, nil, node, rowOf}
 

@@ -11,10 +11,10 @@ use Rattle.basics.specs.Lists.{all}
 use Rattle.records.specs.declared.Builtin.{Builtin}
 use Rattle.trees.specs.Lists.{last, toList}
 use Rattle.trees.specs.ListLaws.{all-append, all-last, all-getD, all-concatMap}
-use Rattle.trees.specs.declared.Row.{Row}
-use Rattle.trees.specs.Sheet.{Sheet}
+use Rattle.records.specs.declared.Row.{Row}
+use Rattle.trees.specs.Sheet.{Sheet, noRow}
 use Rattle.trees.specs.Kinds.{isVar, isPattern, isCompr, isCall}
-use Rattle.trees.specs.Trees.{Tree, nil, node, noRow, thirdOf, decode, treeAt, rowOf, firstOf, secondOf, chain, outputsOf}
+use Rattle.trees.specs.Trees.{Tree, nil, node, thirdOf, decode, treeAt, rowOf, firstOf, secondOf, chain, outputsOf}
 use Rattle.trees.specs.Traverse.{Enters, nothing, params, fields, enters, entered, traverse, leaves, vars, comprs}
 use Rattle.trees.specs.Paths.{getPathString, builtinOf, beyond, getExtraArg}
 

@@ -3,18 +3,14 @@ use mathlib.Core.Bool.{cond}
 use mathlib.Core.List.{List, [], _∷_, _++_}
 use Prim.Native.Nat.{ℕ, zero, suc}
 use lib.ListN.{length, getD}
-use Rattle.trees.specs.declared.Row.{Row}
-use Rattle.trees.specs.Sheet.{Sheet}
+use Rattle.records.specs.declared.Row.{Row}
+use Rattle.trees.specs.Sheet.{Sheet, noRow}
 use Rattle.trees.specs.Kinds.{isCompr}
 
 -- A row, the trees of its first, second and third field, and the rest of its chain; `nil` where a field is 0.
 pub data Tree : Type 0 where
   nil : Tree
   node : (row : Row) (first second third next : Tree) → Tree
-
--- Stands where a sheet has no such row.
-abbrev pub noRow : Row
-noRow = record { kind = 0; name = 0; line = 0; col = 0; first = 0; second = 0; third = 0; next = 0 }
 
 -- A comprehension's third field names a query, and no expression.
 abbrev pub thirdOf : Row → ℕ

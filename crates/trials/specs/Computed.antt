@@ -24,7 +24,7 @@ use Rattle.naming.specs.Faults.{fieldFault, isNamedSo, isMember, exprFault, sta
 use Rattle.naming.specs.Faults as faults
 use Rattle.naming.specs.Lines.{lineOf, firstOf, firstLine}
 use Rattle.sheet.specs.Verdict as questions
-use Rattle.trees.specs.Sheet.{Sheet, rowAt, rowsTo, sheetOf, isInput, isSpecial}
+use Rattle.trees.specs.Sheet.{Sheet, sheetIn, isInput, isSpecial}
 use Rattle.trees.specs.Trees.{decode, treeAt, chain}
 use Rattle.trees.specs.Traverse.{traverse, leaves}
 use Rattle.trees.specs.Paths.{getPathString, getExtraArg}
@@ -42,15 +42,18 @@ use Rattle.analysis.specs.Exprs.{pairings, assignOneWay, assignPairing, process
 use Rattle.analysis.specs.SomeIn.{someVarsIn, nonVars, processNonVar, processSomeIn}
 use Rattle.analysis.specs.Statements.{modsOf, processEvery, processLiteral, processStmt, processStmts}
 use Rattle.analysis.specs.Queries.{outputScope, scheduled, outputCompr, analyzeOutputExpr, analyzeQuery, analyze, analyzeQuerySnippet, scheduleIn, recorded}
+use Rattle.repeats.specs.Ways.{propagateBy, comprsUseBy, useComprBy, allUsedBy, processComprBy, processComprsBy, useExprBy, assignOneWayBy, assignPairingBy, processAssignExprBy, processPlainExprBy, processExprBy, processExtraArgBy, processCallBy, processNonVarBy, processSomeInBy, processEveryBy, processLiteralBy, processStmtBy, processStmtsBy, outputComprBy, analyzeOutputExprBy, analyzeQueryBy}
+use Rattle.repeats.specs.RustWay.{rustWay, rustAnalyze, rustAnalyzeQuerySnippet}
+use Rattle.repeats.specs.RustWay as rust
 use Rattle.answers.specs.Rows.{rowsOf}
 use Rattle.writer.specs.Decimal.{digits}
 use Rattle.answers.specs.Text.{section, answerText, refusalText}
-use Rattle.answers.specs.Call.{Result, analysed, sheetIn, result}
+use Rattle.answers.specs.Call.{Result, analysed, result}
 
 -- The sheet in bytes.
 unfoldable pub sheetRead : List ℕ → Sheet
 unfolding lines numbers.words numbers.value numbers.values numbers.number numbers.numbers sections block sheet form faultOf rowsIn nameRow
-    sectionRows rowOfName tables putSections putRows areas areasFrom bytes range rowAt rowsTo sheetOf questions.blank questions.readTables sheetIn
+    sectionRows rowOfName bytes sheetIn
 sheetRead s = sheetIn s
 
 -- The analysis of a sheet, its text, and what it recorded.
@@ -70,11 +73,17 @@ unfolding range resolves round placements bytes isInput isSpecial decode treeAt 
     rowsOf digits section answerText refusalText analysed
 analysedSheet s = analyzeQuerySnippet s
 
+-- The same in the Rust's way.
+unfoldable pub rustAnalysed : Sheet → Run
+unfolding analysedSheet propagateBy comprsUseBy useComprBy allUsedBy processComprBy processComprsBy useExprBy assignOneWayBy assignPairingBy processAssignExprBy processPlainExprBy processExprBy processExtraArgBy processCallBy processNonVarBy processSomeInBy processEveryBy processLiteralBy processStmtBy processStmtsBy
+    outputComprBy analyzeOutputExprBy analyzeQueryBy rust.take rustWay rustAnalyze rustAnalyzeQuerySnippet
+rustAnalysed s = rustAnalyzeQuerySnippet s
+
 -- The whole call.
 unfoldable pub computed : List ℕ → ℕ → ℕ → ℕ → Result
-unfolding sheetRead analysedSheet before nameFault counts.lineOf overLine noQueryLine countFault formFault namesFault countsFault
+unfolding sheetRead rustAnalysed before nameFault counts.lineOf overLine noQueryLine countFault formFault namesFault countsFault
     fieldFrom kinds forms kindFields formFields target placeOf exprEntries statementEntries queryEntries
     namers inChain entryNaming rowNamings byQueries byStatements byExprs namings grown enclosing parent levelIn level
     varsIn endsIn allVars endsOdd fieldFault faults.fieldsFault isNamedSo isMember exprFault statementFault queryFault pathBefore
-    builtinFault lineOf firstOf firstLine questions.blank questions.readTables questions.fieldsFault questions.asked questions.verdict result
+    builtinFault lineOf firstOf firstLine questions.fieldsFault questions.asked questions.verdict result
 computed s room work text = result s room work text

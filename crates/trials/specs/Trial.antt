@@ -11,7 +11,8 @@ use Rattle.text.specs.Bytes.{bytes}
 use Rattle.trees.specs.Lists.{same, any, concatMap}
 use Rattle.trees.specs.Sheet.{Sheet}
 use Rattle.analysis.specs.Queries.{recorded}
-use Rattle.answers.specs.Call.{Result, refused, answered, sheetIn, result, printed}
+use Rattle.trees.specs.Sheet.{sheetIn}
+use Rattle.answers.specs.Call.{Result, refused, answered, result, printed}
 
 -- A sheet, the definitions that its queries record, and the text that is printed.
 pub record Trial : Type 0 where

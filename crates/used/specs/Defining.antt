@@ -12,7 +12,7 @@ use Rattle.basics.specs.Lists.{elem}
 use Rattle.names.specs.Sets.{member, Empty, Union}
 use Rattle.names.specs.declared.Names.{Names}
 use Rattle.turns.specs.Definitions.{Definition}
-use Rattle.trees.specs.declared.Row.{Row}
+use Rattle.records.specs.declared.Row.{Row}
 use Rattle.trees.specs.Sheet.{rowAt}
 use Rattle.trees.specs.Kinds.{isRefBrack, isCompr}
 use Rattle.trees.specs.Trees.{treeAt}

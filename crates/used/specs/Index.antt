@@ -7,7 +7,7 @@ use native.Mathlib.Omega.{arith}
 use lib.ListN.{length, getD}
 use borrow.Author.Tests.{eq-eqb, ne-eqb}
 use Rattle.names.specs.declared.Names.{Names}
-use Rattle.trees.specs.declared.Row.{Row}
+use Rattle.records.specs.declared.Row.{Row}
 use Rattle.trees.specs.Sheet.{rowAt}
 use Rattle.trees.specs.Kinds.{isPattern, isRefBrack}
 use Rattle.trees.specs.Trees.{treeAt}

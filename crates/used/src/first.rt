@@ -1,6 +1,6 @@
 // Where each name was used first.
 
-use trees::Row;
+use records::Row;
 ghost use Prim.Native.Nat.{_≤_, _<_};
 ghost use lib.ListN.{length};
 ghost use Rattle.used.specs.Firsts.{FirstUse};

@@ -3,7 +3,7 @@
 use gather::scope::Scope;
 use gather::special::is_special;
 use names::Names;
-use trees::Row;
+use records::Row;
 ghost use Prim.Native.Nat.{_≤_, _<_};
 ghost use lib.ListN.{length};
 ghost use Rattle.used.specs.Own.{Owns, IsUse};

@@ -8,7 +8,7 @@ use gather::scope::Scope;
 use gather::special::is_input;
 use gather::special::is_special;
 use names::Names;
-use trees::Row;
+use records::Row;
 ghost use mathlib.Core.Path.{_≡_};
 ghost use Prim.Native.Nat.{_≤_, _<_};
 ghost use lib.ListN.{length, getD};

@@ -4,7 +4,7 @@ use crate::assigned::assigned_vars;
 use crate::own::is_use;
 use gather::scope::Scope;
 use names::Names;
-use trees::Row;
+use records::Row;
 ghost use Prim.Native.Nat.{_≤_, _<_};
 ghost use lib.ListN.{length, getD};
 ghost use Rattle.gather.specs.Sheets.{Accepted};

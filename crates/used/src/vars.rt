@@ -8,7 +8,7 @@ use branches::kids_of;
 use branches::next_of;
 use gather::scope::Scope;
 use names::Names;
-use trees::Row;
+use records::Row;
 use trees::row_at;
 ghost use mathlib.Core.Path.{_≡_};
 ghost use Prim.Native.Nat.{_≤_};

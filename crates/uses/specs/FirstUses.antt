@@ -4,7 +4,7 @@ use mathlib.Core.List.{List, _∷_}
 use mathlib.Core.Option.{Option, none, some}
 use lib.Dec.{eqb, ltb}
 use Rattle.trees.specs.Lists.{isSome}
-use Rattle.trees.specs.declared.Row.{Row}
+use Rattle.records.specs.declared.Row.{Row}
 use Rattle.scopes.specs.Scopes.{Span, spanIn}
 
 -- `entry(..).or_insert(..)`: the first use of a name stays.

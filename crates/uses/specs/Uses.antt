@@ -8,7 +8,7 @@ use Rattle.basics.specs.Lists.{filter, elem}
 use Rattle.basics.specs.Ranges.{range}
 use Rattle.turns.specs.Definitions.{Definition}
 use Rattle.trees.specs.Lists.{concatMap, any, find}
-use Rattle.trees.specs.declared.Row.{Row}
+use Rattle.records.specs.declared.Row.{Row}
 use Rattle.trees.specs.Sheet.{Sheet, nameBound, isInput, isSpecial}
 use Rattle.trees.specs.Kinds.{isVar, isRefBrack}
 use Rattle.trees.specs.Trees.{Tree, rowOf, firstOf, secondOf}

@@ -9,7 +9,7 @@ use lib.ListN.{getD}
 use Rattle.trees.specs.Lists.{concatMap}
 use Rattle.trees.specs.Sheet.{rowAt}
 use Rattle.trees.specs.Kinds.{isCompr}
-use Rattle.trees.specs.declared.Row.{Row}
+use Rattle.records.specs.declared.Row.{Row}
 use Rattle.trees.specs.Trees.{Tree, nil, node, thirdOf, rowOf, treeAt}
 use Rattle.trees.specs.Traverse.{nothing, enters, entered, traverse, comprs}
 use Rattle.sizes.specs.Lists.{concatMap-append}

@@ -8,10 +8,11 @@ use Rattle.naming.specs.Lines.{firstOf}
 use Rattle.faults.specs.Firsts.{first-start, first-here, first-next, first-done}
 use Rattle.faults.proofs.first_builtin.Statement.{statement}
 use Rattle.faults.proofs.first_builtin.Tie as tie
+use Rattle.records.specs.Rows.{inTables}
 
 abbrev Inv-loop : tie.InvT-loop
 Inv-loop tables counts row₀ row =
-    (1 ≤ row) × (row ≤ counts .builtins + 1) × (firstOf (builtinFault counts tables) row (counts .builtins + 1 - row) ≡ firstOf (builtinFault counts tables) 1 (counts .builtins))
+    (1 ≤ row) × (row ≤ counts .builtins + 1) × (firstOf (builtinFault counts (inTables tables)) row (counts .builtins + 1 - row) ≡ firstOf (builtinFault counts (inTables tables)) 1 (counts .builtins))
 
 abbrev μ-loop : tie.MeasureT-loop
 μ-loop tables counts row₀ row =
@@ -19,7 +20,7 @@ abbrev μ-loop : tie.MeasureT-loop
 
 loop-holds : tie.Need-loop-holds Inv-loop μ-loop
 loop-holds c =
-    let a = c .before .args in (search needs, omega arith, first-start (builtinFault (a .counts) (a .tables .now)) (a .counts .builtins))
+    let a = c .before .args in (search needs, omega arith, first-start (builtinFault (a .counts) (inTables (a .tables .now))) (a .counts .builtins))
 
 builtin-fault-requires : tie.Need-builtin-fault-requires Inv-loop μ-loop
 builtin-fault-requires c κs =
@@ -28,7 +29,7 @@ builtin-fault-requires c κs =
 returns : tie.Need-returns Inv-loop μ-loop
 returns c =
     let a = c .before .before .before .before .before .before .args in let l = c .before .before .before .before .loop in
-    (first-here (builtinFault (a .counts) (a .tables .now)) (a .counts .builtins) (l .row) (c .before .before .if1 .taken) (sym (c .before .builtin-fault .ensures) ∙ c .if2 .taken) ∙ l .inv .2, omega (arith, c .before .before .before .before .before .before .pre .1 .few-builtins))
+    (first-here (builtinFault (a .counts) (inTables (a .tables .now))) (a .counts .builtins) (l .row) (c .before .before .if1 .taken) (sym (c .before .builtin-fault .ensures) ∙ c .if2 .taken) ∙ l .inv .2, omega (arith, c .before .before .before .before .before .before .pre .1 .few-builtins))
 
 add-row : tie.Need-add-row Inv-loop μ-loop
 add-row c =
@@ -41,11 +42,11 @@ loop-less c =
 loop-again : tie.Need-loop-again Inv-loop μ-loop
 loop-again c =
     let a = c .before .before .before .before .before .before .args in let l = c .before .before .before .before .loop in
-    (omega arith, omega arith, first-next (builtinFault (a .counts) (a .tables .now)) (a .counts .builtins) (l .row) (c .before .before .if1 .taken) (sym (c .before .builtin-fault .ensures) ∙ c .if2 .left) ∙ l .inv .2)
+    (omega arith, omega arith, first-next (builtinFault (a .counts) (inTables (a .tables .now))) (a .counts .builtins) (l .row) (c .before .before .if1 .taken) (sym (c .before .builtin-fault .ensures) ∙ c .if2 .left) ∙ l .inv .2)
 
 returns-2 : tie.Need-returns-2 Inv-loop μ-loop
 returns-2 c =
-    let a = c .before .before .before .before .args in let l = c .before .before .loop in (first-done (builtinFault (a .counts) (a .tables .now)) (a .counts .builtins) (l .row) (c .if1 .left) ∙ l .inv .2, omega arith)
+    let a = c .before .before .before .before .args in let l = c .before .before .loop in (first-done (builtinFault (a .counts) (inTables (a .tables .now))) (a .counts .builtins) (l .row) (c .if1 .left) ∙ l .inv .2, omega arith)
 
 pub first-builtin-spec : {M : Type 1} → statement M
 first-builtin-spec =

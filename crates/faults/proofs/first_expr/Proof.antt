@@ -8,10 +8,11 @@ use Rattle.naming.specs.Lines.{firstOf}
 use Rattle.faults.specs.Firsts.{first-start, first-here, first-next, first-done}
 use Rattle.faults.proofs.first_expr.Statement.{statement}
 use Rattle.faults.proofs.first_expr.Tie as tie
+use Rattle.records.specs.Rows.{inTables}
 
 abbrev Inv-loop : tie.InvT-loop
 Inv-loop work tables counts row₀ row =
-    (1 ≤ row) × (row ≤ counts .exprs + 1) × (firstOf (exprFault counts tables) row (counts .exprs + 1 - row) ≡ firstOf (exprFault counts tables) 1 (counts .exprs))
+    (1 ≤ row) × (row ≤ counts .exprs + 1) × (firstOf (exprFault counts (inTables tables)) row (counts .exprs + 1 - row) ≡ firstOf (exprFault counts (inTables tables)) 1 (counts .exprs))
 
 abbrev μ-loop : tie.MeasureT-loop
 μ-loop work tables counts row₀ row =
@@ -19,7 +20,7 @@ abbrev μ-loop : tie.MeasureT-loop
 
 loop-holds : tie.Need-loop-holds Inv-loop μ-loop
 loop-holds c =
-    let a = c .before .before .args in (search needs, omega arith, first-start (exprFault (a .counts) (a .tables .now)) (a .counts .exprs))
+    let a = c .before .before .args in (search needs, omega arith, first-start (exprFault (a .counts) (inTables (a .tables .now))) (a .counts .exprs))
 
 expr-fault-requires : tie.Need-expr-fault-requires Inv-loop μ-loop
 expr-fault-requires c κs =
@@ -28,7 +29,7 @@ expr-fault-requires c κs =
 returns : tie.Need-returns Inv-loop μ-loop
 returns c =
     let a = c .before .before .before .before .before .before .before .args in let l = c .before .before .before .before .loop in
-    (first-here (exprFault (a .counts) (a .tables .now)) (a .counts .exprs) (l .row) (c .before .before .if1 .taken) (sym (c .before .expr-fault .ensures) ∙ c .if2 .taken) ∙ l .inv .2, omega (arith, c .before .before .before .before .before .before .before .pre .within .few-exprs))
+    (first-here (exprFault (a .counts) (inTables (a .tables .now))) (a .counts .exprs) (l .row) (c .before .before .if1 .taken) (sym (c .before .expr-fault .ensures) ∙ c .if2 .taken) ∙ l .inv .2, omega (arith, c .before .before .before .before .before .before .before .pre .within .few-exprs))
 
 add-row : tie.Need-add-row Inv-loop μ-loop
 add-row c =
@@ -41,11 +42,11 @@ loop-less c =
 loop-again : tie.Need-loop-again Inv-loop μ-loop
 loop-again c =
     let a = c .before .before .before .before .before .before .before .args in let l = c .before .before .before .before .loop in
-    (omega arith, omega arith, first-next (exprFault (a .counts) (a .tables .now)) (a .counts .exprs) (l .row) (c .before .before .if1 .taken) (sym (c .before .expr-fault .ensures) ∙ c .if2 .left) ∙ l .inv .2)
+    (omega arith, omega arith, first-next (exprFault (a .counts) (inTables (a .tables .now))) (a .counts .exprs) (l .row) (c .before .before .if1 .taken) (sym (c .before .expr-fault .ensures) ∙ c .if2 .left) ∙ l .inv .2)
 
 returns-2 : tie.Need-returns-2 Inv-loop μ-loop
 returns-2 c =
-    let a = c .before .before .before .before .before .args in let l = c .before .before .loop in (first-done (exprFault (a .counts) (a .tables .now)) (a .counts .exprs) (l .row) (c .if1 .left) ∙ l .inv .2, omega arith)
+    let a = c .before .before .before .before .before .args in let l = c .before .before .loop in (first-done (exprFault (a .counts) (inTables (a .tables .now))) (a .counts .exprs) (l .row) (c .if1 .left) ∙ l .inv .2, omega arith)
 
 pub first-expr-spec : {M : Type 1} → statement M
 first-expr-spec =

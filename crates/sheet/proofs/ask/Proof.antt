@@ -3,6 +3,7 @@ use mathlib.Core.Path.{_≡_, sym, _∙_}
 use native.Mathlib.Omega.{arith}
 use borrow.Author.Needs.{needs}
 use Rattle.text.specs.Questions.{formFault, namesFault, countsFault}
+use Rattle.records.specs.Rows.{inTables}
 use Rattle.naming.specs.Lines.{firstLine}
 use Rattle.sheet.specs.Verdict.{fieldsFault, readTables}
 use Rattle.sheet.specs.Asked.{within, small, countsIn, blank-room, few-names, counts-fault-is, fields-fault-is, tables-are, too-long, bad-form, bad-name, bad-count, bad-field, all-read}
@@ -35,9 +36,9 @@ module _ (k : tie.After-store-head) where
   table-is =
       tables-are _ _ _ _ (start .pre .0) (read .read-sheet .ensures) good _ (k .before .special-names .ensures) _ (k .store-head .ensures)
 
-  fields-are : firstLine (countsIn (read .read-sheet .result)) (k .store-head .last .0) ≡ fieldsFault (start .args .s .now)
+  fields-are : firstLine (countsIn (read .read-sheet .result)) (inTables (k .store-head .last .0)) ≡ fieldsFault (start .args .s .now)
   fields-are =
-      fields-fault-is _ _ _ _ (start .pre .0) (read .read-sheet .ensures) good _ (k .before .special-names .ensures) _ (k .store-head .ensures)
+      fields-fault-is _ _ _ _ (start .pre .0) (read .read-sheet .ensures) good _ (k .before .special-names .ensures) _ (k .store-head .ensures) formed counted
 
 returns : tie.Need-returns
 returns c = too-long _ _ (c .if1 .taken)

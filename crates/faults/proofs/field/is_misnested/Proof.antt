@@ -1,6 +1,6 @@
 -- The code tests what the definition tests.
 use mathlib.Core.Path.{ap}
-use lib.Dec.{ltb}
+use lib.Dec.{leb}
 use borrow.Author.Tests.{eq-eqb, ne-eqb, le-leb, lt-leb}
 use Rattle.faults.specs.Tests.{misnestedBy}
 use borrow.Author.Needs.{needs}
@@ -31,7 +31,7 @@ level-requires c κs = search needs
 returns-4 : tie.Need-returns-4
 unfolding misnestedBy
 returns-4 c =
-    let a = c .before .before .before .before .before .before .before .args in rw (eq-eqb (a .field .section) 4 (c .before .before .before .before .if1 .left), lt-leb (a .v) (a .q) (c .before .before .before .if2 .left), ne-eqb (a .v) 1 (c .before .before .if3 .left)) (ap (ltb 8) (c .level .ensures))
+    let a = c .before .before .before .before .before .before .before .args in rw (eq-eqb (a .field .section) 4 (c .before .before .before .before .if1 .left), lt-leb (a .v) (a .q) (c .before .before .before .if2 .left), ne-eqb (a .v) 1 (c .before .before .if3 .left)) (ap (leb 8) (c .level .ensures))
 
 pub is-misnested-spec : {M : Type 1} → statement M
 is-misnested-spec =

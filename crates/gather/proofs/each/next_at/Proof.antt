@@ -1,7 +1,7 @@
 -- The row's last field.
 use mathlib.Core.Path.{ap, _∙_}
 use borrow.Author.Needs.{needs}
-use Rattle.trees.specs.declared.Row.{Row}
+use Rattle.records.specs.declared.Row.{Row}
 use Rattle.trees.specs.Sheet.{row-fields}
 use Rattle.gather.proofs.each.next_at.Statement.{statement}
 use Rattle.gather.proofs.each.next_at.Tie as tie

@@ -9,10 +9,11 @@ use Rattle.naming.specs.Namings.{namings}
 use Rattle.marks.specs.Homes.{Settled, settled-start, settled-next}
 use Rattle.marks.proofs.homes.settle.Statement.{statement}
 use Rattle.marks.proofs.homes.settle.Tie as tie
+use Rattle.records.specs.Rows.{inTables}
 
 abbrev Inv-loop : tie.InvT-loop
 Inv-loop work₀ tables counts k₀ work k =
-    (32 ≤ k) × (k ≤ 160 + counts .exprs) × (length work ≡ length work₀) × Settled (namings counts tables) k work
+    (32 ≤ k) × (k ≤ 160 + counts .exprs) × (length work ≡ length work₀) × Settled (namings counts (inTables tables)) k work
 
 abbrev μ-loop : tie.MeasureT-loop
 μ-loop work₀ tables counts k₀ work k =
@@ -41,7 +42,7 @@ loop-less c =
 loop-again : tie.Need-loop-again Inv-loop μ-loop
 loop-again c =
     let a = c .before .before .before .before .before .before .before .before .before .args in let l = c .before .before .before .before .before .before .loop in let w = c .before .before .before .before .before .before .before .before .before .pre .1 in
-    (omega arith, omega arith, search needs, subst (λ (v : List ℕ). Settled (namings (a .counts) (a .tables .now)) (l .k + 1) v) (sym (c .before .before .settle-next .ensures)) (settled-next _ (l .k) (l .work) (l .inv .3) (l .inv .0) (omega (arith, w .few-exprs))))
+    (omega arith, omega arith, search needs, subst (λ (v : List ℕ). Settled (namings (a .counts) (inTables (a .tables .now))) (l .k + 1) v) (sym (c .before .before .settle-next .ensures)) (settled-next _ (l .k) (l .work) (l .inv .3) (l .inv .0) (omega (arith, w .few-exprs))))
 
 same-length : tie.Need-same-length Inv-loop μ-loop
 same-length c =
@@ -49,7 +50,7 @@ same-length c =
 
 returns : tie.Need-returns Inv-loop μ-loop
 returns c =
-    let a = c .before .before .before .before .before .args in let l = c .before .before .loop in let e : l .k ≡ 160 + a .counts .exprs = omega arith in subst (λ (k : ℕ). Settled (namings (a .counts) (a .tables .now)) k (l .work)) e (l .inv .3)
+    let a = c .before .before .before .before .before .args in let l = c .before .before .loop in let e : l .k ≡ 160 + a .counts .exprs = omega arith in subst (λ (k : ℕ). Settled (namings (a .counts) (inTables (a .tables .now))) k (l .work)) e (l .inv .3)
 
 pub settle-spec : {M : Type 1} → statement M
 settle-spec =

@@ -13,10 +13,11 @@ use Rattle.marks.specs.Marks.{Marks, rowWork}
 use Rattle.marks.specs.Rows.{partsOf, next-expr}
 use Rattle.marks.proofs.rows.name_exprs.Statement.{statement}
 use Rattle.marks.proofs.rows.name_exprs.Tie as tie
+use Rattle.records.specs.Rows.{inTables}
 
 abbrev Inv-loop : tie.InvT-loop
 Inv-loop work₀ tables counts row₀ work row =
-    (row ≤ counts .exprs) × (length work ≡ length work₀) × Marks (byExprs counts tables row) work
+    (row ≤ counts .exprs) × (length work ≡ length work₀) × Marks (byExprs counts (inTables tables) row) work
 
 abbrev μ-loop : tie.MeasureT-loop
 μ-loop work₀ tables counts row₀ work row =
@@ -60,7 +61,7 @@ loop-again c =
     let a = c .before .before .before .before .before .before .before .before .before .before .before .args in let l = c .before .before .before .before .before .before .before .before .loop in let w = c .before .before .before .before .before .before .before .before .before .before .before .pre .2 in (
       omega arith,
       search needs,
-      subst (λ (w : List ℕ). Marks (byExprs (a .counts) (a .tables .now) (l .row + 1)) w)
+      subst (λ (w : List ℕ). Marks (byExprs (a .counts) (inTables (a .tables .now)) (l .row + 1)) w)
           (sym (c .before .before .name-expr .ensures ∙ ap (λ (x : Expr). rowWork (a .counts) (exprRow (l .row + 1)) (partsOf (a .counts) (eqb (getD (l .work) (160 + (l .row + 1)) 0 / 4 % 2) 1) x (l .row + 1)) (l .work)) (c .before .before .before .before .before .expr-at .ensures)))
           (next-expr (a .counts) (a .tables .now) w (l .row) (l .work) (omega (arith, w .few-exprs)) (l .inv .2)),
     )
@@ -72,7 +73,7 @@ same-length c =
 returns : tie.Need-returns Inv-loop μ-loop
 unfolding namings
 returns c =
-    let a = c .before .before .before .before .before .args in let l = c .before .before .loop in let e : l .row ≡ a .counts .exprs = omega arith in subst (λ (k : ℕ). Marks (byExprs (a .counts) (a .tables .now) k) (l .work)) e (l .inv .2)
+    let a = c .before .before .before .before .before .args in let l = c .before .before .loop in let e : l .row ≡ a .counts .exprs = omega arith in subst (λ (k : ℕ). Marks (byExprs (a .counts) (inTables (a .tables .now)) k) (l .work)) e (l .inv .2)
 
 pub name-exprs-spec : {M : Type 1} → statement M
 name-exprs-spec =

@@ -10,10 +10,11 @@ use Rattle.marks.specs.Marks.{Marks}
 use Rattle.marks.specs.Rows.{next-query}
 use Rattle.marks.proofs.rows.name_queries.Statement.{statement}
 use Rattle.marks.proofs.rows.name_queries.Tie as tie
+use Rattle.records.specs.Rows.{inTables}
 
 abbrev Inv-loop : tie.InvT-loop
 Inv-loop work₀ tables counts row₀ work row =
-    (row ≤ counts .queries) × (length work ≡ length work₀) × Marks (byQueries counts tables row) work
+    (row ≤ counts .queries) × (length work ≡ length work₀) × Marks (byQueries counts (inTables tables) row) work
 
 abbrev μ-loop : tie.MeasureT-loop
 μ-loop work₀ tables counts row₀ work row =
@@ -39,7 +40,7 @@ loop-less c =
 loop-again : tie.Need-loop-again Inv-loop μ-loop
 loop-again c =
     let a = c .before .before .before .before .before .before .before .before .before .args in let l = c .before .before .before .before .before .before .loop in
-    (omega arith, search needs, subst (λ (w : List ℕ). Marks (byQueries (a .counts) (a .tables .now) (l .row + 1)) w) (sym (c .before .before .name-query .ensures)) (next-query (a .counts) (a .tables .now) (c .before .before .before .before .before .before .before .before .before .pre .2) (l .row) (l .work) (l .inv .2)))
+    (omega arith, search needs, subst (λ (w : List ℕ). Marks (byQueries (a .counts) (inTables (a .tables .now)) (l .row + 1)) w) (sym (c .before .before .name-query .ensures)) (next-query (a .counts) (a .tables .now) (c .before .before .before .before .before .before .before .before .before .pre .2) (l .row) (l .work) (l .inv .2)))
 
 same-length : tie.Need-same-length Inv-loop μ-loop
 same-length c =
@@ -47,7 +48,7 @@ same-length c =
 
 returns : tie.Need-returns Inv-loop μ-loop
 returns c =
-    let a = c .before .before .before .before .before .args in let l = c .before .before .loop in let e : l .row ≡ a .counts .queries = omega arith in subst (λ (k : ℕ). Marks (byQueries (a .counts) (a .tables .now) k) (l .work)) e (l .inv .2)
+    let a = c .before .before .before .before .before .args in let l = c .before .before .loop in let e : l .row ≡ a .counts .queries = omega arith in subst (λ (k : ℕ). Marks (byQueries (a .counts) (inTables (a .tables .now)) k) (l .work)) e (l .inv .2)
 
 pub name-queries-spec : {M : Type 1} → statement M
 name-queries-spec =

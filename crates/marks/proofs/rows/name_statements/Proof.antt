@@ -12,10 +12,11 @@ use Rattle.marks.specs.Marks.{Marks, rowWork}
 use Rattle.marks.specs.Rows.{fieldsOf, next-statement}
 use Rattle.marks.proofs.rows.name_statements.Statement.{statement}
 use Rattle.marks.proofs.rows.name_statements.Tie as tie
+use Rattle.records.specs.Rows.{inTables}
 
 abbrev Inv-loop : tie.InvT-loop
 Inv-loop work₀ tables counts row₀ work row =
-    (row ≤ counts .statements) × (length work ≡ length work₀) × Marks (byStatements counts tables row) work
+    (row ≤ counts .statements) × (length work ≡ length work₀) × Marks (byStatements counts (inTables tables) row) work
 
 abbrev μ-loop : tie.MeasureT-loop
 μ-loop work₀ tables counts row₀ work row =
@@ -47,7 +48,7 @@ loop-again c =
     let a = c .before .before .before .before .before .before .before .before .before .before .args in let l = c .before .before .before .before .before .before .before .loop in (
       omega arith,
       search needs,
-      subst (λ (w : List ℕ). Marks (byStatements (a .counts) (a .tables .now) (l .row + 1)) w)
+      subst (λ (w : List ℕ). Marks (byStatements (a .counts) (inTables (a .tables .now)) (l .row + 1)) w)
           (sym (c .before .before .name-statement .ensures ∙ ap (λ (x : Statement). rowWork (a .counts) (statementRow (l .row + 1)) (fieldsOf x (l .row + 1)) (l .work)) (c .before .before .before .before .statement-at .ensures)))
           (next-statement (a .counts) (a .tables .now) (c .before .before .before .before .before .before .before .before .before .before .pre .2) (l .row) (l .work) (l .inv .2)),
     )
@@ -58,7 +59,7 @@ same-length c =
 
 returns : tie.Need-returns Inv-loop μ-loop
 returns c =
-    let a = c .before .before .before .before .before .args in let l = c .before .before .loop in let e : l .row ≡ a .counts .statements = omega arith in subst (λ (k : ℕ). Marks (byStatements (a .counts) (a .tables .now) k) (l .work)) e (l .inv .2)
+    let a = c .before .before .before .before .before .args in let l = c .before .before .loop in let e : l .row ≡ a .counts .statements = omega arith in subst (λ (k : ℕ). Marks (byStatements (a .counts) (inTables (a .tables .now)) k) (l .work)) e (l .inv .2)
 
 pub name-statements-spec : {M : Type 1} → statement M
 name-statements-spec =

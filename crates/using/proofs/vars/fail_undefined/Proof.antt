@@ -1,7 +1,7 @@
 -- The row's own line and column.
 use mathlib.Core.Path.{ap, _∙_}
 use borrow.Author.Needs.{needs}
-use Rattle.trees.specs.declared.Row.{Row}
+use Rattle.records.specs.declared.Row.{Row}
 use Rattle.trees.specs.Sheet.{row-fields}
 use Rattle.frame.specs.Frames.{failed}
 use Rattle.frame.specs.declared.Fault.the-variants.{Undefined}
