@@ -9,7 +9,8 @@ use Rattle.trees.specs.Trees.{Tree, treeAt}
 use Rattle.trees.specs.Traverse.{leaves, comprs}
 use Rattle.uses.specs.Uses.{usedVars}
 use Rattle.analysis.specs.States.{State}
-use Rattle.analysis.specs.Comprs.{Mods, allUsed}
+use Rattle.analysis.specs.Comprs.{Mods}
+use Rattle.once.specs.Comprs.{allUsed}
 use Rattle.analysis.specs.SomeIn.{nonVars}
 use Rattle.answer.specs.Stored.{Stored}
 use Rattle.gather.specs.declared.scope.Scope.{Scope}

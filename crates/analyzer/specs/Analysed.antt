@@ -3,7 +3,7 @@ use mathlib.Core.Path.{_≡_}
 use mathlib.Core.List.{List}
 use Prim.Native.Nat.{ℕ}
 use Rattle.analysis.specs.States.{sound}
-use Rattle.analysis.specs.Queries.{analyzeQuerySnippet}
+use Rattle.once.specs.Queries.{analyzeQuerySnippetOnce}
 use Rattle.answer.specs.Stored.{Stored}
 use Rattle.gather.specs.Sheets.{sheetAt}
 use Rattle.frame.specs.declared.Fault.{Fault}
@@ -11,5 +11,5 @@ use Rattle.frame.specs.Faults.{meaning}
 use Rattle.frame.specs.Table.{answersOf}
 
 pub record Analysed (t w : List ℕ) (r : Fault) : Type 0 where
-  pub fault : meaning r ≡ analyzeQuerySnippet (sheetAt t) .fault
-  pub stored : analyzeQuerySnippet (sheetAt t) .fault ≡ sound → Stored (answersOf w) (analyzeQuerySnippet (sheetAt t) .schedules)
+  pub fault : meaning r ≡ analyzeQuerySnippetOnce (sheetAt t) .fault
+  pub stored : analyzeQuerySnippetOnce (sheetAt t) .fault ≡ sound → Stored (answersOf w) (analyzeQuerySnippetOnce (sheetAt t) .schedules)

@@ -16,7 +16,7 @@ use Rattle.trees.specs.Kinds.{isCompr}
 use Rattle.trees.specs.Trees.{Tree, rowOf, outputsOf}
 use Rattle.scopes.specs.Scopes.{Scope}
 use Rattle.analysis.specs.States.{sound, Run, State, setRun, inTurn}
-use Rattle.analysis.specs.Comprs.{propagate, useCompr, analyzeCompr, processCompr}
+use Rattle.once.specs.Comprs.{propagate, useCompr, analyzeCompr, processCompr}
 use Rattle.gather.specs.Sheets.{sheetAt, Accepted}
 use Rattle.gather.specs.Exprs.{exprBy, tree-is, row-is}
 use Rattle.gather.specs.Chains.{chainAt}

@@ -14,7 +14,7 @@ use Rattle.trees.specs.Trees.{Tree, rowOf}
 use Rattle.trees.specs.Traverse.{comprs}
 use Rattle.scopes.specs.Scopes.{Scope}
 use Rattle.analysis.specs.States.{sound, State}
-use Rattle.analysis.specs.Comprs.{processCompr, processComprs}
+use Rattle.once.specs.Comprs.{processCompr, processComprs}
 use Rattle.naming.specs.Entries.{exprRow}
 use Rattle.naming.specs.EnclosingLaws.{queryOf}
 use Rattle.branches.specs.declared.Kids.{Kids}

@@ -10,10 +10,13 @@ use Rattle.trees.specs.Paths.{getExtraArg}
 use Rattle.trees.specs.Statements.{literalOf}
 use Rattle.scopes.specs.Scopes.{Scope}
 use Rattle.analysis.specs.States.{State}
-use Rattle.analysis.specs.Comprs.{Mods, allUsed, processComprs, useExpr}
-use Rattle.analysis.specs.Exprs.{Pairing, assignPairing, processExpr, processCall}
-use Rattle.analysis.specs.SomeIn.{nonVars, processNonVar, processSomeIn}
-use Rattle.analysis.specs.Statements.{processEvery, processLiteral, processStmts}
+use Rattle.analysis.specs.Comprs.{Mods}
+use Rattle.once.specs.Comprs.{allUsed, processComprs, useExpr}
+use Rattle.analysis.specs.Exprs.{Pairing}
+use Rattle.once.specs.Exprs.{assignPairing, processExpr, processCall}
+use Rattle.analysis.specs.SomeIn.{nonVars}
+use Rattle.once.specs.SomeIn.{processNonVar, processSomeIn}
+use Rattle.once.specs.Statements.{processEvery, processLiteral, processStmts}
 use Rattle.gather.specs.Sheets.{sheetAt}
 use Rattle.used.specs.Own.{Holds}
 use Rattle.using.specs.declared.Using.{Using}

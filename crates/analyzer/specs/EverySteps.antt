@@ -20,9 +20,10 @@ use Rattle.trees.specs.Statements.{every, literalOf}
 use Rattle.scopes.specs.Scopes.{Scope, noScope, addLocal}
 use Rattle.analysis.specs.States.{sound, State, setRun}
 use Rattle.analysis.specs.Using.{recordOne}
-use Rattle.analysis.specs.Comprs.{Nested, Mods, allUsed, useExpr}
-use Rattle.analysis.specs.Exprs.{processPlainExpr}
-use Rattle.analysis.specs.Statements.{processEvery}
+use Rattle.analysis.specs.Comprs.{Mods}
+use Rattle.once.specs.Comprs.{Nested, allUsed, useExpr}
+use Rattle.once.specs.Exprs.{processPlainExpr}
+use Rattle.once.specs.Statements.{processEvery}
 use Rattle.sizes.specs.Sizes.{literalSize}
 use Rattle.sizes.specs.Leaves.{bracketVars, brackets-fit}
 use Rattle.sizes.specs.Adds.{Step, step-at-most, step-if, end, _⨾_, turn}

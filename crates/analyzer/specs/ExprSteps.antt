@@ -20,8 +20,9 @@ use Rattle.trees.specs.Paths.{getExtraArg}
 use Rattle.scopes.specs.Scopes.{Scope, addUnscoped}
 use Rattle.analysis.specs.States.{sound, Run, State, setScope, inTurn}
 use Rattle.analysis.specs.Using.{recordEach}
-use Rattle.analysis.specs.Comprs.{Nested, Mods, allUsed, useExpr}
-use Rattle.analysis.specs.Exprs.{assignPairing, processAssignExpr, processPlainExpr, processExpr, extraVars, processExtraArg, processCall}
+use Rattle.analysis.specs.Comprs.{Mods}
+use Rattle.once.specs.Comprs.{Nested, allUsed, useExpr}
+use Rattle.once.specs.Exprs.{assignPairing, processAssignExpr, processPlainExpr, processExpr, extraVars, processExtraArg, processCall}
 use Rattle.sizes.specs.Sizes.{total, size}
 use Rattle.sizes.specs.Leaves.{bracketVars, brackets-fit}
 use Rattle.sizes.specs.Exprs.{pairCost, pairings-fit}

@@ -22,10 +22,12 @@ use Rattle.scopes.specs.Scopes.{Scope, noScope, addLocal, spanOf, spanIn}
 use Rattle.uses.specs.Uses.{define}
 use Rattle.analysis.specs.States.{sound, State, addFirstUses, addDefinitions, setRun, failOr}
 use Rattle.analysis.specs.Using.{usedBeforeAt, checkFirstUse, recordOne}
-use Rattle.analysis.specs.Comprs.{Nested, Mods, allUsed, useExpr}
-use Rattle.analysis.specs.Exprs.{processPlainExpr}
-use Rattle.analysis.specs.SomeIn.{someVarsIn, nonVars, processNonVar, processSomeIn}
-use Rattle.analysis.specs.Statements.{processEvery, processLiteral}
+use Rattle.analysis.specs.Comprs.{Mods}
+use Rattle.once.specs.Comprs.{Nested, allUsed, useExpr}
+use Rattle.once.specs.Exprs.{processPlainExpr}
+use Rattle.analysis.specs.SomeIn.{someVarsIn, nonVars}
+use Rattle.once.specs.SomeIn.{processNonVar, processSomeIn}
+use Rattle.once.specs.Statements.{processEvery, processLiteral}
 use Rattle.sizes.specs.Sizes.{size, literalSize}
 use Rattle.homes.specs.Lying.{statement-there}
 use Rattle.homes.specs.StatementHomes.{StatementInside, statement-lies}

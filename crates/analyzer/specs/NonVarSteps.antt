@@ -18,8 +18,10 @@ use Rattle.scopes.specs.Scopes.{Scope}
 use Rattle.uses.specs.Uses.{indexDefinitions}
 use Rattle.analysis.specs.States.{sound, indexVariable, State}
 use Rattle.analysis.specs.Using.{gatherUsedVars}
-use Rattle.analysis.specs.Comprs.{Mods, processCompr, processComprs}
-use Rattle.analysis.specs.SomeIn.{failIfSome, processNonVar}
+use Rattle.analysis.specs.Comprs.{Mods}
+use Rattle.once.specs.Comprs.{processCompr, processComprs}
+use Rattle.analysis.specs.SomeIn.{failIfSome}
+use Rattle.once.specs.SomeIn.{processNonVar}
 use Rattle.sizes.specs.Sizes.{total}
 use Rattle.sizes.specs.Leaves.{bracketVars}
 use Rattle.sizes.specs.Adds.{Adds, step-if, adds-none, adds-fail}

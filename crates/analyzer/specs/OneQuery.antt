@@ -15,9 +15,10 @@ use Rattle.scopes.specs.NameSets.{NameSet, contains}
 use Rattle.scopes.specs.Scopes as spec
 use Rattle.scopes.specs.Scopes.{Span, spanIn}
 use Rattle.analysis.specs.States.{sound, QuerySchedule, Run, State, setScope}
-use Rattle.analysis.specs.Comprs.{processCompr, processComprs}
-use Rattle.analysis.specs.Statements.{processStmts}
-use Rattle.analysis.specs.Queries.{outputScope, analyze}
+use Rattle.once.specs.Comprs.{processCompr, processComprs}
+use Rattle.once.specs.Statements.{processStmts}
+use Rattle.analysis.specs.Queries.{outputScope}
+use Rattle.once.specs.Queries.{analyzeOnce}
 use Rattle.sizes.specs.Sizes.{total, weight}
 use Rattle.sizes.specs.Adds.{Fits, adds-length}
 use Rattle.sizes.specs.Statements.{adds-process-stmts}
@@ -93,7 +94,7 @@ pub does-none : (t outer : List ℕ) (query key value levels : ℕ) (work : List
 does-none t outer query key value levels work z = record { none = λ e. (refl, refl); one = λ ne. absurd (ne z) }
 
 pub does-nothing : (t outer : List ℕ) (query key value levels : ℕ) (work : List ℕ) → levels ≡ 0 → DoesQuery t outer query key value levels work Sound work
-unfolding analyze
+unfolding analyzeOnce
 does-nothing t outer query key value levels work z =
     rw z (record { none = λ e. (refl, refl); one = λ ne parents run o fine table. (sym fine, λ e. table) })
 
@@ -373,10 +374,10 @@ module _ (t outer work : List ℕ) (query key value : ℕ) (spans : List ℕ) (n
           same-fault : meaning r ≡ end .run .fault
           same-fault = ap meaning (done .fault) ∙ last-agrees .fault ∙ ap (λ (u : Run). u .fault) (beside .run)
 
-          ends : Ends (analyze (suc n) (sheetAt t) parents query outs run)
+          ends : Ends (analyzeOnce (suc n) (sheetAt t) parents query outs run)
           ends = go (fault-cases (end .run .fault))
             where
-              go : (end .run .fault ≡ sound) ⊎ (end .run .fault ≡ sound → ⊥) → Ends (analyze (suc n) (sheetAt t) parents query outs run)
+              go : (end .run .fault ≡ sound) ⊎ (end .run .fault ≡ sound → ⊥) → Ends (analyzeOnce (suc n) (sheetAt t) parents query outs run)
               go (inl well) =
                   let held : Table t w₂ (end .run .schedules) =
                   subst (λ (u : Run). Table t w₂ (u .schedules)) (beside .run) (last-agrees .whole (well-last well) .table) in

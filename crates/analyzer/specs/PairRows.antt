@@ -15,7 +15,8 @@ use Rattle.trees.specs.Kinds.{isArray}
 use Rattle.scopes.specs.Scopes.{Scope}
 use Rattle.analysis.specs.States.{lengths, State, fail}
 use Rattle.analysis.specs.Comprs.{Mods}
-use Rattle.analysis.specs.Exprs.{Pairing, pair, mismatch, assignPairing}
+use Rattle.analysis.specs.Exprs.{Pairing, pair, mismatch}
+use Rattle.once.specs.Exprs.{assignPairing}
 use Rattle.sizes.specs.Sizes.{total}
 use Rattle.sizes.specs.Lists.{total-append}
 use Rattle.sizes.specs.Exprs.{pairCost}

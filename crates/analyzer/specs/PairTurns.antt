@@ -14,8 +14,10 @@ use Rattle.scopes.specs.Scopes.{Scope}
 use Rattle.uses.specs.Uses.{assignedVars}
 use Rattle.analysis.specs.States.{sound, State}
 use Rattle.analysis.specs.Using.{checkAssigned, recordEach}
-use Rattle.analysis.specs.Comprs.{Mods, allUsed, useExpr}
-use Rattle.analysis.specs.Exprs.{Pairing, pair, assignOneWay, assignPairing}
+use Rattle.analysis.specs.Comprs.{Mods}
+use Rattle.once.specs.Comprs.{allUsed, useExpr}
+use Rattle.analysis.specs.Exprs.{Pairing, pair}
+use Rattle.once.specs.Exprs.{assignOneWay, assignPairing}
 use Rattle.sizes.specs.Sizes.{total}
 use Rattle.sizes.specs.Leaves.{patternVars, bracketVars}
 use Rattle.sizes.specs.Exprs.{sideCost, pairCost, adds-assign-one-way}

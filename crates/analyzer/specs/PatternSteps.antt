@@ -14,7 +14,8 @@ use Rattle.trees.specs.Trees.{Tree}
 use Rattle.scopes.specs.Scopes.{Scope}
 use Rattle.analysis.specs.States.{sound, State}
 use Rattle.analysis.specs.Comprs.{Mods}
-use Rattle.analysis.specs.SomeIn.{nonVars, processNonVar}
+use Rattle.analysis.specs.SomeIn.{nonVars}
+use Rattle.once.specs.SomeIn.{processNonVar}
 use Rattle.sizes.specs.Sizes.{total}
 use Rattle.sizes.specs.Lists.{total-append, total-filter}
 use Rattle.sizes.specs.Leaves.{bracketVars}

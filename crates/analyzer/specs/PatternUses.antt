@@ -13,7 +13,7 @@ use Rattle.trees.specs.Trees.{Tree, treeAt}
 use Rattle.trees.specs.Traverse.{comprs}
 use Rattle.uses.specs.Uses.{usedVars}
 use Rattle.analysis.specs.States.{State}
-use Rattle.analysis.specs.Comprs.{comprsUse, allUsed}
+use Rattle.once.specs.Comprs.{comprsUse, allUsed}
 use Rattle.analysis.specs.SomeIn.{nonVars}
 use Rattle.sizes.specs.Lists.{concatMap-append}
 use Rattle.gather.specs.declared.scope.Scope.{Scope}

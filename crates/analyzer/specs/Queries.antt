@@ -4,7 +4,7 @@ use mathlib.Core.List.{List, _++_}
 use Prim.Native.Nat.{ℕ}
 use Rattle.scopes.specs.Scopes.{Scope}
 use Rattle.analysis.specs.States.{sound, Run}
-use Rattle.analysis.specs.Queries.{analyze}
+use Rattle.once.specs.Queries.{analyzeOnce}
 use Rattle.gather.specs.Sheets.{sheetAt}
 use Rattle.gather.specs.Chains.{chainAt}
 use Rattle.gather.specs.Outers.{Outer}
@@ -18,5 +18,5 @@ module _ (t : List ℕ) where
   pub record DoesQuery (outer : List ℕ) (query key value levels : ℕ) (work : List ℕ) (r : Fault) (work′ : List ℕ) : Type 0 where
     pub none : query ≡ 0 → (r ≡ Sound) × (work′ ≡ work)
     pub one : (query ≡ 0 → ⊥) → (parents : List Scope) (run : Run) → Outer outer parents → run .fault ≡ sound → Table t work (run .schedules)
-        → let end = analyze levels (sheetAt t) parents query (chainAt t key ++ chainAt t value) run in
+        → let end = analyzeOnce levels (sheetAt t) parents query (chainAt t key ++ chainAt t value) run in
         (meaning r ≡ end .fault) × (end .fault ≡ sound → Table t work′ (end .schedules))

@@ -5,8 +5,8 @@ use Prim.Native.Nat.{ℕ, _+_, _*_, _≤_}
 use lib.ListN.{length, getD}
 use Rattle.scopes.specs.Scopes.{Scope}
 use Rattle.analysis.specs.States.{sound, State}
-use Rattle.analysis.specs.Comprs.{Nested}
-use Rattle.analysis.specs.Queries.{analyze}
+use Rattle.once.specs.Comprs.{Nested}
+use Rattle.once.specs.Queries.{analyzeOnce}
 use Rattle.homes.specs.Lying.{Lies}
 use Rattle.gather.specs.Sheets.{countsAt, sheetAt}
 use Rattle.gather.specs.Outers.{Outer}
@@ -17,7 +17,7 @@ use Rattle.analyzer.specs.Budgets.{aboveAt}
 module _ (t : List ℕ) where
   -- Query analysis with so many levels left.
   abbrev pub nestedBy : ℕ → Nested
-  nestedBy levels = λ ps q outputs r. analyze levels (sheetAt t) ps q outputs r
+  nestedBy levels = λ ps q outputs r. analyzeOnce levels (sheetAt t) ps q outputs r
 
   -- The expression at row r lies in query q, if there is one.
   abbrev pub LiesIn : ℕ → ℕ → Type 0

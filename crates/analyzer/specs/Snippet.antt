@@ -10,7 +10,7 @@ use borrow.Author.Tests.{lt-leb}
 use Rattle.trees.specs.Trees.{Tree}
 use Rattle.scopes.specs.Scopes.{varExists}
 use Rattle.analysis.specs.States.{sound, Run}
-use Rattle.analysis.specs.Queries.{analyze, analyzeQuerySnippet}
+use Rattle.once.specs.Queries.{analyzeOnce, analyzeQuerySnippetOnce}
 use Rattle.gather.specs.Sheets.{sheetAt, Accepted}
 use Rattle.gather.specs.Chains.{chainAt, chain-none}
 use Rattle.gather.specs.Outers.{Outer}
@@ -53,9 +53,9 @@ module _ (t : List ℕ) (ok : Accepted t) (outer : List ℕ) (none : Outer outer
   outputs : (chainAt t 0 ++ chainAt t 0) ≡ []
   outputs = rw (chain-none t ok)
 
-  snippet-is : analyze 8 (sheetAt t) [] 1 (chainAt t 0 ++ chainAt t 0) fresh ≡ analyzeQuerySnippet (sheetAt t)
-  unfolding analyzeQuerySnippet
-  snippet-is = ap (λ (es : List Tree). analyze 8 (sheetAt t) [] 1 es fresh) outputs
+  snippet-is : analyzeOnce 8 (sheetAt t) [] 1 (chainAt t 0 ++ chainAt t 0) fresh ≡ analyzeQuerySnippetOnce (sheetAt t)
+  unfolding analyzeQuerySnippetOnce
+  snippet-is = ap (λ (es : List Tree). analyzeOnce 8 (sheetAt t) [] 1 es fresh) outputs
 
   pub analysed : (r : Fault) (v : List ℕ) → DoesQuery t outer 1 0 0 8 work r v → Analysed t v r
   analysed r v does =

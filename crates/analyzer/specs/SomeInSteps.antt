@@ -19,8 +19,10 @@ use Rattle.uses.specs.Uses.{nameOf, define}
 use Rattle.uses.specs.FirstUses.{addFirstUse}
 use Rattle.analysis.specs.States.{sound, State, addFirstUses, addDefinitions}
 use Rattle.analysis.specs.Using.{recordOne}
-use Rattle.analysis.specs.Comprs.{Mods, allUsed, useExpr}
-use Rattle.analysis.specs.SomeIn.{someVarsIn, nonVars, processSomeIn}
+use Rattle.analysis.specs.Comprs.{Mods}
+use Rattle.once.specs.Comprs.{allUsed, useExpr}
+use Rattle.analysis.specs.SomeIn.{someVarsIn, nonVars}
+use Rattle.once.specs.SomeIn.{processSomeIn}
 use Rattle.sizes.specs.Sizes.{total, literalSize}
 use Rattle.sizes.specs.Lists.{concatMap-append, length-filter}
 use Rattle.sizes.specs.Leaves.{patternVars, bracketVars, vars-append, brackets-fit, leaves-fit}

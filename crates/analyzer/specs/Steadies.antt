@@ -9,9 +9,11 @@ use Rattle.trees.specs.Traverse.{comprs}
 use Rattle.scopes.specs.Scopes.{Scope}
 use Rattle.analysis.specs.States.{State}
 use Rattle.analysis.specs.Using.{gatherUsedVars}
-use Rattle.analysis.specs.Comprs.{Mods, processComprs, useExpr}
-use Rattle.analysis.specs.Exprs.{Pairing, assignPairing}
-use Rattle.analysis.specs.SomeIn.{processNonVar}
+use Rattle.analysis.specs.Comprs.{Mods}
+use Rattle.once.specs.Comprs.{processComprs, useExpr}
+use Rattle.analysis.specs.Exprs.{Pairing}
+use Rattle.once.specs.Exprs.{assignPairing}
+use Rattle.once.specs.SomeIn.{processNonVar}
 use Rattle.sizes.specs.Sizes.{total}
 use Rattle.sizes.specs.Leaves.{bracketVars}
 use Rattle.sizes.specs.Exprs.{pairCost, adds-assign-pairing}

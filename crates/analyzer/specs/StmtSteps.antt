@@ -27,7 +27,8 @@ use Rattle.uses.specs.Uses.{usedVars}
 use Rattle.analysis.specs.States.{sound, State, inTurn}
 use Rattle.analysis.specs.Using.{gatherUsedVars, atLeastOne}
 use Rattle.analysis.specs.Comprs.{Mods}
-use Rattle.analysis.specs.Statements.{modsOf, processLiteral, processStmt, processStmts}
+use Rattle.analysis.specs.Statements.{modsOf}
+use Rattle.once.specs.Statements.{processLiteral, processStmt, processStmts}
 use Rattle.sizes.specs.Sizes.{total, size, literalSize, weight}
 use Rattle.sizes.specs.Lists.{total-mono}
 use Rattle.sizes.specs.Leaves.{bracketVars, brackets-fit}

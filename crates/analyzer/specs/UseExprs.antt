@@ -14,7 +14,8 @@ use Rattle.scopes.specs.Scopes.{Scope}
 use Rattle.uses.specs.Uses.{usedVars}
 use Rattle.analysis.specs.States.{sound, State}
 use Rattle.analysis.specs.Using.{gatherUsedVars}
-use Rattle.analysis.specs.Comprs.{Mods, processComprs, useExpr, allUsed}
+use Rattle.analysis.specs.Comprs.{Mods}
+use Rattle.once.specs.Comprs.{processComprs, useExpr, allUsed}
 use Rattle.sizes.specs.Leaves.{bracketVars}
 use Rattle.gather.specs.Sheets.{sheetAt, Accepted}
 use Rattle.gather.specs.Exprs.{exprBy}

@@ -12,7 +12,7 @@ use Rattle.trees.specs.Traverse.{comprs}
 use Rattle.scopes.specs.Scopes.{owns}
 use Rattle.uses.specs.Uses.{usedVars}
 use Rattle.analysis.specs.States.{State}
-use Rattle.analysis.specs.Comprs.{comprInputs, comprsUse, allUsed}
+use Rattle.once.specs.Comprs.{comprInputs, comprsUse, allUsed}
 use Rattle.sizes.specs.Lists.{concatMap-append}
 use Rattle.gather.specs.declared.scope.Scope.{Scope}
 use Rattle.gather.specs.Sheets.{sheetAt}

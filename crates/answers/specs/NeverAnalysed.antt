@@ -5,7 +5,7 @@ use mathlib.Core.Option.{Option, none}
 use Prim.Native.Nat.{ℕ}
 use Rattle.trees.specs.Sheet.{Sheet}
 use Rattle.analysis.specs.States.{QuerySchedule}
-use Rattle.analysis.specs.Queries.{scheduleIn}
+use Rattle.once.specs.Queries.{scheduleOnce}
 use Rattle.answers.specs.Rows.{queryRows, placeRows, setRows}
 
 pub record NoRows (q : ℕ) (a : Option QuerySchedule) : Type 0 where
@@ -13,5 +13,5 @@ pub record NoRows (q : ℕ) (a : Option QuerySchedule) : Type 0 where
   pub no-place : placeRows q a ≡ []
   pub no-set : setRows q a ≡ []
 
-pub never-analysed : (sheet : Sheet) (q : ℕ) → scheduleIn sheet q ≡ none → NoRows q (scheduleIn sheet q)
+pub never-analysed : (sheet : Sheet) (q : ℕ) → scheduleOnce sheet q ≡ none → NoRows q (scheduleOnce sheet q)
 never-analysed sheet q e = rw e (record { placed-2 = refl; no-place = refl; no-set = refl })

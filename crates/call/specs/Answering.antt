@@ -13,7 +13,7 @@ use Rattle.branches.specs.RowTrees.{rows-length}
 use Rattle.trees.specs.Sheet.{sheetOf}
 use Rattle.analysis.specs.States.{sound, Run, QuerySchedule}
 use Rattle.analysis.specs.States as spec
-use Rattle.analysis.specs.Queries.{analyzeQuerySnippet}
+use Rattle.once.specs.Queries.{analyzeQuerySnippetOnce}
 use Rattle.answers.specs.Text.{answerText}
 use Rattle.answers.specs.Call.{fitting, finished}
 use Rattle.answers.specs.Once.{analysedOnce}
@@ -76,7 +76,7 @@ meaning-sound code.IndexVariable h = absurd (not-both h refl)
 
 module _ (t w : List ℕ) (f : Fault) (a : Analysed t w f) where
   abbrev run : Run
-  run = analyzeQuerySnippet (sheetAt t)
+  run = analyzeQuerySnippetOnce (sheetAt t)
 
   pub faulty : isSound f ≡ false → (room : ℕ) (r : Reply) → r ≡ faultReply f → (b : List ℕ) → b ≡ replicate room 0
       → Replies room (analysedOnce (sheetAt t) room) r b

@@ -9,7 +9,7 @@ use Rattle.records.specs.declared.Row.{Row}
 use Rattle.trees.specs.Kinds.{isCompr}
 use Rattle.trees.specs.Trees.{Tree, rowOf}
 use Rattle.analysis.specs.States.{State, ifSound}
-use Rattle.analysis.specs.Comprs.{propagate, useCompr}
+use Rattle.once.specs.Comprs.{propagate, useCompr}
 use Rattle.frame.specs.declared.Fault.{Fault}
 use Rattle.frame.specs.declared.Fault.the-variants.{Sound, Undefined, UsedBefore, Lengths, IndexVariable}
 use Rattle.frame.specs.declared.Progress.{Progress}

@@ -14,7 +14,7 @@ use Rattle.scopes.specs.NameSets.{contains, elements}
 use Rattle.scopes.specs.Scopes as spec
 use Rattle.scopes.specs.Scopes.{Span, owns, addInput, useInput}
 use Rattle.analysis.specs.States.{sound, State, setScope, addFirstUses, inTurn}
-use Rattle.analysis.specs.Comprs.{comprScope, comprInputs, propagate, comprsUse, useCompr}
+use Rattle.once.specs.Comprs.{comprScope, comprInputs, propagate, comprsUse, useCompr}
 use Rattle.gather.specs.declared.scope.Scope.{Scope}
 use Rattle.gather.specs.Agrees.{Sets}
 use Rattle.used.specs.Own.{Holds}

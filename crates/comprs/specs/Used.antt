@@ -16,7 +16,7 @@ use Rattle.trees.specs.Traverse.{traverse, comprs}
 use Rattle.scopes.specs.NameSets.{elements}
 use Rattle.scopes.specs.Scopes.{owns}
 use Rattle.analysis.specs.States.{State, scheduleOf, scopeIn}
-use Rattle.analysis.specs.Comprs.{comprInputs, comprsUse}
+use Rattle.once.specs.Comprs.{comprInputs, comprsUse}
 use Rattle.branches.specs.declared.Kids.{Kids}
 use Rattle.branches.specs.Kids.{kidsOf}
 use Rattle.gather.specs.declared.scope.Scope.{Scope}

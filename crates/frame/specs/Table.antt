@@ -9,7 +9,7 @@ use Rattle.trees.specs.Statements.{stmtsOf}
 use Rattle.scopes.specs.Scopes.{Scope}
 use Rattle.scopes.specs.Below.{Below}
 use Rattle.analysis.specs.States.{QuerySchedule}
-use Rattle.analysis.specs.Schedules.{Each}
+use Rattle.once.specs.Schedules.{Each}
 use Rattle.sizes.specs.Adds.{Fits}
 use Rattle.sizes.specs.Sums.{sumTo}
 use Rattle.answer.specs.Stored.{wordAt, Stored}

@@ -15,14 +15,14 @@ use Rattle.scopes.specs.NameSets.{empty, contains}
 use Rattle.scopes.specs.Scopes.{Scope, varExists}
 use Rattle.scopes.specs.Shadowed.{Found, InputsFound}
 use Rattle.analysis.specs.States.{sound, QuerySchedule, Run, scheduleOf, scopeIn}
-use Rattle.analysis.specs.Queries.{analyze, analyzeQuerySnippet, scheduleIn}
+use Rattle.once.specs.Queries.{analyzeOnce, analyzeQuerySnippetOnce, scheduleOnce}
 use Rattle.sizes.specs.Lists.{find-some}
 use Rattle.repeats.specs.Lists.{orElse, orElse-none}
 use Rattle.repeats.specs.Distinct.{distinct}
 use Rattle.repeats.specs.Places.{family}
 use Rattle.repeats.specs.Beside.{isSound}
 use Rattle.repeats.specs.LookUps.{Fresh, look-append}
-use Rattle.repeats.specs.RustWay.{rustAnalyze, rustAnalyzeQuerySnippet}
+use Rattle.analysis.specs.RustWay.{analyze, analyzeQuerySnippet}
 use Rattle.repeats.specs.RustWrites.{family-has}
 use Rattle.repeats.specs.MemoRust.{Agree, stopped, agreed, analyze-agree}
 use Rattle.repeats.specs.QueryRepeats.{queriesOnce, rust-schedules}
@@ -34,15 +34,15 @@ use Rattle.inputs.specs.RustInputs.{rust-known, every-placed}
 -- in these scopes.
 pub analyze-found : (levels : ℕ) (sheet : Sheet) (parents : List Scope) (q : ℕ) (outputs : List Tree) → Around sheet parents q outputs
     → (T : List QuerySchedule) → distinct (family levels sheet q outputs) ≡ true → Fresh (family levels sheet q outputs) T
-    → analyze levels sheet parents q outputs (record { schedules = T; fault = sound }) .fault ≡ sound
-    → InputsFound parents (scopeAfter (analyze levels sheet parents q outputs (record { schedules = T; fault = sound })) q)
+    → analyzeOnce levels sheet parents q outputs (record { schedules = T; fault = sound }) .fault ≡ sound
+    → InputsFound parents (scopeAfter (analyzeOnce levels sheet parents q outputs (record { schedules = T; fault = sound })) q)
 analyze-found levels sheet parents q outputs at T d f s = go (analyze-agree levels sheet parents q outputs T d f)
   where
     m : Run
-    m = analyze levels sheet parents q outputs (record { schedules = T; fault = sound })
+    m = analyzeOnce levels sheet parents q outputs (record { schedules = T; fault = sound })
 
     r : Run
-    r = rustAnalyze levels sheet parents q outputs
+    r = analyze levels sheet parents q outputs
 
     go : Agree T m r → InputsFound parents (scopeAfter m q)
     go (stopped p n) = absurd (not-both (ap isSound s) n)
@@ -60,22 +60,22 @@ pub record FoundAround (sheet : Sheet) (q x : ℕ) : Type 0 where
   pub around : Around sheet parents q outputs
   pub found : Found parents x
 
-module _ (sheet : Sheet) (once : queriesOnce sheet ≡ true) (s : analyzeQuerySnippet sheet .fault ≡ sound) where
+module _ (sheet : Sheet) (once : queriesOnce sheet ≡ true) (s : analyzeQuerySnippetOnce sheet .fault ≡ sound) where
   -- Each schedule of a sheet without fault: the scopes around its query, and its inputs found in them.
-  pub schedule-placed : (q : ℕ) (a : QuerySchedule) → scheduleIn sheet q ≡ some a → Placed sheet a
+  pub schedule-placed : (q : ℕ) (a : QuerySchedule) → scheduleOnce sheet q ≡ some a → Placed sheet a
   schedule-placed q a h =
-      every-placed sheet a (find-some _ (rustAnalyzeQuerySnippet sheet .schedules) (rust-schedules sheet once s q ∙ h) .0)
+      every-placed sheet a (find-some _ (analyzeQuerySnippet sheet .schedules) (rust-schedules sheet once s q ∙ h) .0)
 
   -- So each input of each query is found in a scope around the query.
-  pub every-input-found : (q x : ℕ) → contains (scopeIn (scheduleIn sheet q) .inputs) x ≡ true → FoundAround sheet q x
+  pub every-input-found : (q x : ℕ) → contains (scopeIn (scheduleOnce sheet q) .inputs) x ≡ true → FoundAround sheet q x
   unfolding contains empty
-  every-input-found q x h = go (scheduleIn sheet q) refl h
+  every-input-found q x h = go (scheduleOnce sheet q) refl h
     where
-      go : (o : Option QuerySchedule) → scheduleIn sheet q ≡ o → contains (scopeIn o .inputs) x ≡ true → FoundAround sheet q x
+      go : (o : Option QuerySchedule) → scheduleOnce sheet q ≡ o → contains (scopeIn o .inputs) x ≡ true → FoundAround sheet q x
       go none e i = absurd (not-both i refl)
       go (some a) e i =
           let p = schedule-placed q a e in
-          let same : a .query ≡ q = eqb-true (a .query) q (find-some _ (rustAnalyzeQuerySnippet sheet .schedules) (rust-schedules sheet once s q ∙ e) .1) in
+          let same : a .query ≡ q = eqb-true (a .query) q (find-some _ (analyzeQuerySnippet sheet .schedules) (rust-schedules sheet once s q ∙ e) .1) in
           record {
             parents = p .parents;
             outputs = p .outputs;
@@ -84,10 +84,10 @@ module _ (sheet : Sheet) (once : queriesOnce sheet ≡ true) (s : analyzeQuerySn
           }
 
   -- The outer query has no inputs.
-  pub outer-has-none : (x : ℕ) → contains (scopeIn (scheduleIn sheet 1) .inputs) x ≡ false
-  unfolding varExists scheduleIn analyzeQuerySnippet queriesOnce
+  pub outer-has-none : (x : ℕ) → contains (scopeIn (scheduleOnce sheet 1) .inputs) x ≡ false
+  unfolding varExists scheduleOnce analyzeQuerySnippetOnce queriesOnce
   outer-has-none x =
       ⊎-elim
-      (λ (h : contains (scopeIn (scheduleIn sheet 1) .inputs) x ≡ true).
+      (λ (h : contains (scopeIn (scheduleOnce sheet 1) .inputs) x ≡ true).
       absurd (not-both (analyze-found deepest sheet [] 1 [] outer [] once (λ y m. refl) s x h .exists) refl))
-      (λ (h : contains (scopeIn (scheduleIn sheet 1) .inputs) x ≡ false). h) (bool-cases (contains (scopeIn (scheduleIn sheet 1) .inputs) x))
+      (λ (h : contains (scopeIn (scheduleOnce sheet 1) .inputs) x ≡ false). h) (bool-cases (contains (scopeIn (scheduleOnce sheet 1) .inputs) x))

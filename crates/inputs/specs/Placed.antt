@@ -9,7 +9,7 @@ use Rattle.trees.specs.Trees.{Tree}
 use Rattle.scopes.specs.Scopes.{Scope}
 use Rattle.scopes.specs.Shadowed.{InputsFound}
 use Rattle.analysis.specs.States.{sound, QuerySchedule, Run, scheduleOf, scopeIn}
-use Rattle.repeats.specs.RustWay.{rustAnalyze}
+use Rattle.analysis.specs.RustWay.{analyze}
 use Rattle.inputs.specs.Around.{Around}
 
 -- A schedule, and the scopes around its query in which its inputs are found: the analysis of the query below these gave the schedule.
@@ -18,7 +18,7 @@ pub record Placed (sheet : Sheet) (a : QuerySchedule) : Type 0 where
   pub parents : List Scope
   pub outputs : List Tree
   pub around : Around sheet parents (a .query) outputs
-  pub gave : scheduleOf (rustAnalyze levels sheet parents (a .query) outputs .schedules) (a .query) ≡ some a
+  pub gave : scheduleOf (analyze levels sheet parents (a .query) outputs .schedules) (a .query) ≡ some a
   pub found : InputsFound parents (a .scope)
 
 -- Each schedule of a table.

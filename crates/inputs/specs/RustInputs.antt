@@ -21,9 +21,10 @@ use Rattle.scopes.specs.Gather.{gatherAssignedVars}
 use Rattle.scopes.specs.GatherLocals.{gatherLocalVars}
 use Rattle.scopes.specs.Shadowed.{InputsFound, inputs-found}
 use Rattle.analysis.specs.States.{Fault, sound, QuerySchedule, Run, State, scheduleOf, scopeIn, setRun, ifSound}
-use Rattle.analysis.specs.Queries.{outputScope, scheduled}
-use Rattle.repeats.specs.Ways.{propagateBy, processStmtsBy, analyzeOutputExprBy, analyzeQueryBy}
-use Rattle.repeats.specs.RustWay.{noRun, Answer, take, rustWay, rustAnalyze, rustAnalyzeQuerySnippet}
+use Rattle.analysis.specs.Queries.{outputScope, scheduled, analyzeOutputExpr, analyzeQuery}
+use Rattle.analysis.specs.Comprs.{propagate}
+use Rattle.analysis.specs.Statements.{processStmts}
+use Rattle.analysis.specs.RustWay.{noRun, Answer, take, rustWay, analyze, analyzeQuerySnippet}
 use Rattle.repeats.specs.RustWrites.{fault-cases}
 use Rattle.repeats.specs.Beside.{isSound, ifSound-failed}
 use Rattle.inputs.specs.Outside.{flag-found, unscoped-found, output-owns, foreign, rise-found}
@@ -57,8 +58,8 @@ module _ (sheet : Sheet) (answer : Answer)
   rises : (p : Scope) (e : Tree) → Around sheet (p ∷ parents) (rowOf e .third) (outputsOf e)
       → answer (p ∷ parents) (rowOf e .third) (outputsOf e) .fault ≡ sound
       → (s : State) → ((x : ℕ) → owns (s .scope) x ≡ false → owns p x ≡ false) → Holds S (AllPlaced sheet) s
-      → Holds S (AllPlaced sheet) (propagateBy sheet (rustWay sheet answer parents) p e s)
-  unfolding propagateBy rustWay
+      → Holds S (AllPlaced sheet) (propagate sheet (rustWay sheet answer parents) p e s)
+  unfolding propagate rustWay
   rises p e h f s n o =
       let c = scopeAfter (answer (p ∷ parents) (rowOf e .third) (outputsOf e)) (rowOf e .third) in
       let xs = filter (foreign (s .scope)) (elements (c .inputs)) in
@@ -82,14 +83,14 @@ module _ (sheet : Sheet) (answer : Answer)
         let below = inStmt parents q outputs at (s .scope) (o .here .of) st m e n in
         let t = take-holds (s .scope ∷ parents) (rowOf e .third) (outputsOf e) below s o in
         good-two S (AllPlaced sheet) (take (answer (s .scope ∷ parents) (rowOf e .third) (outputsOf e)))
-        (λ u. propagateBy sheet (rustWay sheet answer parents) (u .scope) e u) s o t
+        (λ u. propagate sheet (rustWay sheet answer parents) (u .scope) e u) s o t
         (λ f. rises (s .scope) e below f (take (answer (s .scope ∷ parents) (rowOf e .third) (outputsOf e)) s) (λ x n. n) t);
     output = λ e n s o.
         let p = outputScope (s .scope) in
         let below = inOutput parents q outputs at (s .scope) (o .here .of) e n in
         let t = take-holds (p ∷ parents) (rowOf e .third) (outputsOf e) below s o in
         good-two S (AllPlaced sheet) (take (answer (p ∷ parents) (rowOf e .third) (outputsOf e)))
-        (λ u. propagateBy sheet (rustWay sheet answer parents) (outputScope (u .scope)) e u) s o t
+        (λ u. propagate sheet (rustWay sheet answer parents) (outputScope (u .scope)) e u) s o t
         (λ f. rises p e below f (take (answer (p ∷ parents) (rowOf e .third) (outputsOf e)) s) (output-owns (s .scope)) t);
     body = λ st m key value domain b is s o.
         take-holds (foldl addLocal noScope (vars (chain key ++ chain value)) ∷ (s .scope ∷ parents)) b []
@@ -99,8 +100,8 @@ module _ (sheet : Sheet) (answer : Answer)
   -- The state in which the query's analysis ends.
   abbrev last : State
   last =
-      foldl (analyzeOutputExprBy sheet (rustWay sheet answer parents))
-      (processStmtsBy sheet (rustWay sheet answer parents) 0 (stmtsOf sheet q)
+      foldl (analyzeOutputExpr sheet (rustWay sheet answer parents))
+      (processStmts sheet (rustWay sheet answer parents) 0 (stmtsOf sheet q)
       (record { scope = gatherLocalVars sheet parents (stmtsOf sheet q) outputs; firstUses = []; definitions = []; run = noRun })) outputs
 
   -- It has both.
@@ -117,15 +118,15 @@ module _ (sheet : Sheet) (answer : Answer)
 -- A run that ends in the state s: its schedules are placed, and the query's inputs are found.
 ended-known : (sheet : Sheet) (levels : ℕ) (parents : List Scope) (q : ℕ) (outputs : List Tree) → Around sheet parents q outputs → (n : ℕ) (s : State)
     → Holds (ScopeSoFar sheet parents q outputs) (AllPlaced sheet) s
-    → rustAnalyze levels sheet parents q outputs ≡ ifSound (s .run .fault) (scheduled q n s) (s .run)
-    → Known sheet parents q (rustAnalyze levels sheet parents q outputs)
+    → analyze levels sheet parents q outputs ≡ ifSound (s .run .fault) (scheduled q n s) (s .run)
+    → Known sheet parents q (analyze levels sheet parents q outputs)
 unfolding scheduled
 ended-known sheet levels parents q outputs at n s o r =
     ⊎-elim
     (λ (e : s .run .fault ≡ sound).
-    let is : rustAnalyze levels sheet parents q outputs ≡ record { schedules = a ∷ s .run .schedules; fault = sound } =
+    let is : analyze levels sheet parents q outputs ≡ record { schedules = a ∷ s .run .schedules; fault = sound } =
     r ∙ ap (λ (f : Fault). ifSound f (scheduled q n s) (s .run)) e in
-    let look : scheduleOf (rustAnalyze levels sheet parents q outputs .schedules) q ≡ some a =
+    let look : scheduleOf (analyze levels sheet parents q outputs .schedules) q ≡ some a =
     ap (λ (u : Run). scheduleOf (u .schedules) q) is
     ∙ ap (λ (b : Bool). cond b (some a) (scheduleOf (s .run .schedules) q)) (eq-eqb q q refl) in
     record {
@@ -135,7 +136,7 @@ ended-known sheet levels parents q outputs at n s o r =
       found = λ f. subst (λ (b : Option QuerySchedule). InputsFound parents (scopeIn b)) (sym look) (o .here .found);
     })
     (λ (e : isSound (s .run .fault) ≡ false).
-    let is : rustAnalyze levels sheet parents q outputs ≡ s .run = r ∙ ifSound-failed (s .run .fault) e (scheduled q n s) (s .run) in
+    let is : analyze levels sheet parents q outputs ≡ s .run = r ∙ ifSound-failed (s .run .fault) e (scheduled q n s) (s .run) in
     record {
       placed = subst (λ (u : Run). AllPlaced sheet (u .schedules)) (sym is) (o .table);
       found = λ f. absurd (not-both (sym (ap (λ (u : Run). isSound (u .fault)) is) ∙ ap isSound f) e);
@@ -151,15 +152,15 @@ none-found parents x h = absurd (not-both h refl)
 
 -- The Rust's analysis of a query, below the scopes around it.
 pub rust-known : (levels : ℕ) (sheet : Sheet) (parents : List Scope) (q : ℕ) (outputs : List Tree) → Around sheet parents q outputs
-    → Known sheet parents q (rustAnalyze levels sheet parents q outputs)
-unfolding rustAnalyze analyzeQueryBy rustWay
+    → Known sheet parents q (analyze levels sheet parents q outputs)
+unfolding analyze analyzeQuery rustWay
 rust-known zero sheet parents q outputs at = record { placed = λ a m. absurd (List·Memᴰ·not-nil m); found = λ f. none-found parents }
 rust-known (suc levels) sheet parents q outputs at =
-    let answer : Answer = λ ps b ts. rustAnalyze levels sheet ps b ts in
+    let answer : Answer = λ ps b ts. analyze levels sheet ps b ts in
     ended-known sheet (suc levels) parents q outputs at (length (stmtsOf sheet q)) (last sheet answer (λ ps b ts h. rust-known levels sheet ps b ts h) parents q outputs at)
     (last-holds sheet answer (λ ps b ts h. rust-known levels sheet ps b ts h) parents q outputs at) refl
 
 -- Every schedule of a sheet's analysis.
-pub every-placed : (sheet : Sheet) → AllPlaced sheet (rustAnalyzeQuerySnippet sheet .schedules)
-unfolding rustAnalyzeQuerySnippet
+pub every-placed : (sheet : Sheet) → AllPlaced sheet (analyzeQuerySnippet sheet .schedules)
+unfolding analyzeQuerySnippet
 every-placed sheet = rust-known deepest sheet [] 1 [] outer .placed

@@ -20,14 +20,14 @@ use Rattle.scopes.specs.Scopes.{Scope, noScope, spanOf, addLocal, addUnscoped, 
 use Rattle.uses.specs.Uses.{define, readsInput, undefinedVar, variablesUsed, indexDefinitions, assignedVars}
 use Rattle.analysis.specs.States.{lengths, QuerySchedule, State, setScope, addFirstUses, addDefinitions, fail, inTurn}
 use Rattle.analysis.specs.Using.{undefinedAt, gatherUsedVars, checkAssigned, recordOne, recordEach, atLeastOne}
-use Rattle.analysis.specs.Comprs.{Mods}
-use Rattle.analysis.specs.Exprs.{Pairing, pair, mismatch, pairings}
-use Rattle.analysis.specs.SomeIn.{someVarsIn, nonVars, failIfSome}
-use Rattle.analysis.specs.Statements.{modsOf}
-use Rattle.analysis.specs.Queries.{outputScope}
+use Rattle.analysis.specs.Comprs.{Mods, propagate, comprsUse, useCompr, allUsed, processCompr, processComprs, useExpr}
+use Rattle.analysis.specs.Exprs.{Pairing, pair, mismatch, pairings, assignOneWay, assignPairing, processAssignExpr, processPlainExpr, processExpr, processExtraArg, processCall}
+use Rattle.analysis.specs.SomeIn.{someVarsIn, nonVars, failIfSome, processNonVar, processSomeIn}
+use Rattle.analysis.specs.Statements.{modsOf, processEvery, processLiteral, processStmt, processStmts}
+use Rattle.analysis.specs.Queries.{outputScope, outputCompr, analyzeOutputExpr}
 use Rattle.repeats.specs.Members.{Within, mem-left, mem-right, within-append, mem-concatMap}
 use Rattle.repeats.specs.Places.{pairComprs, exprComprs, callComprs, literalComprs, stmtComprs}
-use Rattle.repeats.specs.Ways.{Way, propagateBy, comprsUseBy, useComprBy, allUsedBy, processComprBy, processComprsBy, useExprBy, assignOneWayBy, assignPairingBy, processAssignExprBy, processPlainExprBy, processExprBy, processExtraArgBy, processCallBy, processNonVarBy, processSomeInBy, processEveryBy, processLiteralBy, processStmtBy, processStmtsBy, outputComprBy, analyzeOutputExprBy}
+use Rattle.analysis.specs.Ways.{Way}
 use Rattle.inputs.specs.Steps.{Holds, Good, good-turn, good-then, good-fold, good-first-uses, good-definitions, good-fail, good-fail-or, good-scope, good-one, good-each, good-at-least-one, good-checks, good-check-assigned, good-fail-if}
 
 -- What is asked of S and of the way, for these statements and outputs.
@@ -36,9 +36,9 @@ pub record Kept (sheet : Sheet) (way : Way) (stmts : List Stmt) (outputs : List 
   pub extra : (st : Stmt) → List·Memᴰ st stmts → (e arg : Tree) → st .literal ≡ expr e → getExtraArg sheet e ≡ some arg → (sc : Scope) → S sc
       → S (foldl addUnscoped sc (way .extraVars arg))
   pub compr : (st : Stmt) → List·Memᴰ st stmts → (e : Tree) → List·Memᴰ e (stmtComprs sheet st)
-      → Good S R (λ s. inTurn (way .compr (s .scope) e ∷ (λ t. propagateBy sheet way (t .scope) e t) ∷ []) s)
+      → Good S R (λ s. inTurn (way .compr (s .scope) e ∷ (λ t. propagate sheet way (t .scope) e t) ∷ []) s)
   pub output : (e : Tree) → List·Memᴰ e (concatMap comprs outputs)
-      → Good S R (λ s. inTurn (way .compr (outputScope (s .scope)) e ∷ (λ t. propagateBy sheet way (outputScope (t .scope)) e t) ∷ []) s)
+      → Good S R (λ s. inTurn (way .compr (outputScope (s .scope)) e ∷ (λ t. propagate sheet way (outputScope (t .scope)) e t) ∷ []) s)
   pub body : (st : Stmt) → List·Memᴰ st stmts → (key value domain : Tree) (q : ℕ) → st .literal ≡ every key value domain q
       → Good S R (λ t. way .body (foldl addLocal noScope (vars (chain key ++ chain value))) (t .scope) q t)
 
@@ -59,10 +59,10 @@ module _ (sheet : Sheet) (way : Way) (stmts : List Stmt) (outputs : List Tree) (
       (undefinedAt (undefinedVar sheet (s .scope) t)) s o
 
   -- What comprehensions use.
-  good-use-compr : (e : Tree) → Good S R (useComprBy sheet way e)
-  unfolding useComprBy
+  good-use-compr : (e : Tree) → Good S R (useCompr sheet way e)
+  unfolding useCompr
   good-use-compr e s o =
-      good-first-uses S R (map (λ x. record { name = x; line = rowOf e .line; col = rowOf e .col }) (comprsUseBy sheet way (e ∷ []) s)) s o
+      good-first-uses S R (map (λ x. record { name = x; line = rowOf e .line; col = rowOf e .col }) (comprsUse sheet way (e ∷ []) s)) s o
 
   module _ (st : Stmt) (at : List·Memᴰ st stmts) where
     -- The comprehensions of the statement.
@@ -72,128 +72,128 @@ module _ (sheet : Sheet) (way : Way) (stmts : List Stmt) (outputs : List Tree) (
     -- ---- expressions
 
     -- Comprehensions.
-    good-comprs : (cs : List Tree) → Within cs C → Good S R (processComprsBy sheet way cs)
-    unfolding processComprsBy processComprBy
+    good-comprs : (cs : List Tree) → Within cs C → Good S R (processComprs sheet way cs)
+    unfolding processComprs processCompr
     good-comprs cs h =
-        good-fold S R (processComprBy sheet way) cs
-        (λ e m s o. good-turn S R (useComprBy sheet way e) (good-use-compr e) _ (k .compr st at e (h e m) s o))
+        good-fold S R (processCompr sheet way) cs
+        (λ e m s o. good-turn S R (useCompr sheet way e) (good-use-compr e) _ (k .compr st at e (h e m) s o))
 
     -- An expression with its comprehensions.
-    good-expr : (i : ℕ) (extras : List ℕ) (m : Mods) (t : Tree) → Within (comprs t ++ m .comprs) C → Good S R (useExprBy sheet way i extras m t)
-    unfolding useExprBy
+    good-expr : (i : ℕ) (extras : List ℕ) (m : Mods) (t : Tree) → Within (comprs t ++ m .comprs) C → Good S R (useExpr sheet way i extras m t)
+    unfolding useExpr
     good-expr i extras m t h =
-        good-then S R (gatherUsedVars sheet i extras t) (processComprsBy sheet way (comprs t ++ m .comprs) ∷ []) (good-used i extras t)
-        (good-turn S R (processComprsBy sheet way (comprs t ++ m .comprs)) (good-comprs (comprs t ++ m .comprs) h))
+        good-then S R (gatherUsedVars sheet i extras t) (processComprs sheet way (comprs t ++ m .comprs) ∷ []) (good-used i extras t)
+        (good-turn S R (processComprs sheet way (comprs t ++ m .comprs)) (good-comprs (comprs t ++ m .comprs) h))
 
     -- One direction of an assignment.
     good-way : (i : ℕ) (m : Mods) (check : Bool) (target source : Tree) → Within (comprs source ++ m .comprs) C
-        → Good S R (assignOneWayBy sheet way i m check target source)
-    unfolding assignOneWayBy
+        → Good S R (assignOneWay sheet way i m check target source)
+    unfolding assignOneWay
     good-way i m check target source h =
-        let used : State → ℕ → List ℕ = λ t x. filter (λ y. not (eqb y x)) (allUsedBy sheet way [] m source t) in
+        let used : State → ℕ → List ℕ = λ t x. filter (λ y. not (eqb y x)) (allUsed sheet way [] m source t) in
         let last : State → State = λ t. recordEach i (assignedVars (t .scope) target) (used t) t in
-        good-then S R (useExprBy sheet way i [] m source) (checkAssigned check target ∷ last ∷ []) (good-expr i [] m source h)
+        good-then S R (useExpr sheet way i [] m source) (checkAssigned check target ∷ last ∷ []) (good-expr i [] m source h)
         (good-then S R (checkAssigned check target) (last ∷ []) (good-check-assigned S R check target)
         (good-turn S R last (λ t p. good-each S R i (assignedVars (t .scope) target) (used t) t p)))
 
     -- A pair.
     good-pairing : (i : ℕ) (m : Mods) → Within (m .comprs) C → (check : Bool) (j : Pairing) → Within (pairComprs j) C
-        → Good S R (λ s. assignPairingBy sheet way i m check s j)
-    unfolding assignPairingBy
+        → Good S R (λ s. assignPairing sheet way i m check s j)
+    unfolding assignPairing
     good-pairing i m w check (pair lhs rhs) h =
         let left = within-append (comprs lhs) (m .comprs) C (λ e n. h e (mem-left (comprs lhs) (comprs rhs) e n)) w in
         let right = within-append (comprs rhs) (m .comprs) C (λ e n. h e (mem-right (comprs lhs) (comprs rhs) e n)) w in
-        good-then S R (assignOneWayBy sheet way i m check lhs rhs) (assignOneWayBy sheet way i m false rhs lhs ∷ [])
-        (good-way i m check lhs rhs right) (good-turn S R (assignOneWayBy sheet way i m false rhs lhs) (good-way i m false rhs lhs left))
+        good-then S R (assignOneWay sheet way i m check lhs rhs) (assignOneWay sheet way i m false rhs lhs ∷ [])
+        (good-way i m check lhs rhs right) (good-turn S R (assignOneWay sheet way i m false rhs lhs) (good-way i m false rhs lhs left))
     good-pairing i m w check (mismatch v) h =
         good-turn S R (fail (lengths (v .line) (v .col))) (good-fail S R (lengths (v .line) (v .col)))
 
     -- A plain expression.
-    good-plain : (i : ℕ) (m : Mods) → Within (m .comprs) C → (e : Tree) → Within (comprs e) C → Good S R (processPlainExprBy sheet way i m e)
-    unfolding processPlainExprBy
+    good-plain : (i : ℕ) (m : Mods) → Within (m .comprs) C → (e : Tree) → Within (comprs e) C → Good S R (processPlainExpr sheet way i m e)
+    unfolding processPlainExpr
     good-plain i m w e h =
-        let last : State → State = λ t. recordOne i 0 (allUsedBy sheet way [] m e t) t in
-        good-then S R (useExprBy sheet way i [] m e) (last ∷ []) (good-expr i [] m e (within-append (comprs e) (m .comprs) C h w))
-        (good-turn S R last (λ t p. good-one S R i 0 (allUsedBy sheet way [] m e t) t p))
+        let last : State → State = λ t. recordOne i 0 (allUsed sheet way [] m e t) t in
+        good-then S R (useExpr sheet way i [] m e) (last ∷ []) (good-expr i [] m e (within-append (comprs e) (m .comprs) C h w))
+        (good-turn S R last (λ t p. good-one S R i 0 (allUsed sheet way [] m e t) t p))
 
     -- An expression.
-    good-process-expr : (i : ℕ) (m : Mods) → Within (m .comprs) C → (e : Tree) → Within (exprComprs e) C → Good S R (processExprBy sheet way i m e)
-    unfolding processExprBy processAssignExprBy exprComprs
+    good-process-expr : (i : ℕ) (m : Mods) → Within (m .comprs) C → (e : Tree) → Within (exprComprs e) C → Good S R (processExpr sheet way i m e)
+    unfolding processExpr processAssignExpr exprComprs
     good-process-expr i m w e h s o = go (isAssign (rowOf e)) h
       where
         ps : List Pairing
         ps = pairings (firstOf e) (secondOf e)
 
         go : (b : Bool) → Within (cond b (concatMap pairComprs ps) (comprs e)) C
-            → Holds S R (cond b (foldl (assignPairingBy sheet way i m (isColEq (rowOf e))) s ps) (processPlainExprBy sheet way i m e s))
+            → Holds S R (cond b (foldl (assignPairing sheet way i m (isColEq (rowOf e))) s ps) (processPlainExpr sheet way i m e s))
         go true v =
-            good-fold S R (assignPairingBy sheet way i m (isColEq (rowOf e))) ps
+            good-fold S R (assignPairing sheet way i m (isColEq (rowOf e))) ps
             (λ j n. good-pairing i m w (isColEq (rowOf e)) j (λ d x. v d (mem-concatMap pairComprs ps j n d x))) s o
         go false v = good-plain i m w e v s o
 
     -- An expression with its extra argument, if it has one.
     good-call : (e : Tree) → st .literal ≡ expr e → (x : Option Tree) → getExtraArg sheet e ≡ x → (i : ℕ) (m : Mods) → Within (m .comprs) C
-        → Within (callComprs x e) C → Good S R (processCallBy sheet way x i m e)
-    unfolding processCallBy processExtraArgBy
+        → Within (callComprs x e) C → Good S R (processCall sheet way x i m e)
+    unfolding processCall processExtraArg
     good-call e is none has i m w h s o = good-process-expr i m w e h s o
     good-call e is (some arg) has i m w h s o =
         let extras = way .extraVars arg in
         let b = foldl addUnscoped (s .scope) extras in
-        let f : State → State = λ u. recordEach i extras (λ x. allUsedBy sheet way extras m e u) u in
-        good-then S R (useExprBy sheet way i extras m e) (f ∷ []) (good-expr i extras m e (within-append (comprs e) (m .comprs) C h w))
-        (good-turn S R f (λ u p. good-each S R i extras (λ x. allUsedBy sheet way extras m e u) u p)) (setScope b s)
+        let f : State → State = λ u. recordEach i extras (λ x. allUsed sheet way extras m e u) u in
+        good-then S R (useExpr sheet way i extras m e) (f ∷ []) (good-expr i extras m e (within-append (comprs e) (m .comprs) C h w))
+        (good-turn S R f (λ u p. good-each S R i extras (λ x. allUsed sheet way extras m e u) u p)) (setScope b s)
         (good-scope S R b (k .extra st at e arg is has (s .scope) (o .here)) s o)
 
     -- ---- literals
 
     -- A part of a some-in pattern.
-    good-non-var : (i : ℕ) (m : Mods) (e : Tree) → Within (comprs e ++ m .comprs) C → Good S R (λ s. processNonVarBy sheet way i m s e)
-    unfolding processNonVarBy
+    good-non-var : (i : ℕ) (m : Mods) (e : Tree) → Within (comprs e ++ m .comprs) C → Good S R (λ s. processNonVar sheet way i m s e)
+    unfolding processNonVar
     good-non-var i m e h =
         let cs = comprs e ++ m .comprs in
         let f : State → State = λ t. failIfSome (indexDefinitions sheet (t .scope) [] i e) t in
-        good-then S R (gatherUsedVars sheet i [] e) (f ∷ processComprsBy sheet way cs ∷ []) (good-used i [] e)
-        (good-then S R f (processComprsBy sheet way cs ∷ []) (λ t p. good-fail-if S R (indexDefinitions sheet (t .scope) [] i e) t p)
-        (good-turn S R (processComprsBy sheet way cs) (good-comprs cs h)))
+        good-then S R (gatherUsedVars sheet i [] e) (f ∷ processComprs sheet way cs ∷ []) (good-used i [] e)
+        (good-then S R f (processComprs sheet way cs ∷ []) (λ t p. good-fail-if S R (indexDefinitions sheet (t .scope) [] i e) t p)
+        (good-turn S R (processComprs sheet way cs) (good-comprs cs h)))
 
     -- `some .. in ..`.
     good-some-in : (i : ℕ) (m : Mods) → Within (m .comprs) C → (ls : List Tree) → Within (concatMap comprs ls) C → (collection : Tree)
-        → Within (comprs collection) C → Good S R (processSomeInBy sheet way i m ls collection)
-    unfolding processSomeInBy nonVars
+        → Within (comprs collection) C → Good S R (processSomeIn sheet way i m ls collection)
+    unfolding processSomeIn nonVars
     good-some-in i m w ls v collection h s o =
         let names = someVarsIn sheet (s .scope) ls in
         let others = nonVars sheet (s .scope) ls in
         let rest : Mods = record { usedVars = []; comprs = m .comprs } in
-        let f2 : State → State = λ t. addDefinitions (map (λ (w : Row). define i (w .name) (allUsedBy sheet way [] m collection t)) names) t in
+        let f2 : State → State = λ t. addDefinitions (map (λ (w : Row). define i (w .name) (allUsed sheet way [] m collection t)) names) t in
         let f3 : State → State = addFirstUses (map spanOf names) in
-        let f4 : State → State = λ t. foldl (processNonVarBy sheet way i m) t others in
-        let f5 : State → State = λ t. recordOne i 0 (concatMap (λ e. allUsedBy sheet way [] rest e t) others) t in
-        good-then S R (useExprBy sheet way i [] m collection) (f2 ∷ f3 ∷ f4 ∷ f5 ∷ [])
+        let f4 : State → State = λ t. foldl (processNonVar sheet way i m) t others in
+        let f5 : State → State = λ t. recordOne i 0 (concatMap (λ e. allUsed sheet way [] rest e t) others) t in
+        good-then S R (useExpr sheet way i [] m collection) (f2 ∷ f3 ∷ f4 ∷ f5 ∷ [])
         (good-expr i [] m collection (within-append (comprs collection) (m .comprs) C h w))
         (good-then S R f2 (f3 ∷ f4 ∷ f5 ∷ [])
-        (λ t p. good-definitions S R (map (λ (w : Row). define i (w .name) (allUsedBy sheet way [] m collection t)) names) t p)
+        (λ t p. good-definitions S R (map (λ (w : Row). define i (w .name) (allUsed sheet way [] m collection t)) names) t p)
         (good-then S R f3 (f4 ∷ f5 ∷ []) (good-first-uses S R (map spanOf names))
         (good-then S R f4 (f5 ∷ [])
-        (good-fold S R (processNonVarBy sheet way i m) others
+        (good-fold S R (processNonVar sheet way i m) others
         (λ e n.
         good-non-var i m e
         (within-append (comprs e) (m .comprs) C (λ d x. v d (mem-concatMap comprs ls e (filter-mem _ ls n .0) d x)) w)))
-        (good-turn S R f5 (λ t p. good-one S R i 0 (concatMap (λ e. allUsedBy sheet way [] rest e t) others) t p))))) s o
+        (good-turn S R f5 (λ t p. good-one S R i 0 (concatMap (λ e. allUsed sheet way [] rest e t) others) t p))))) s o
 
     -- `every`.
     good-every : (i : ℕ) (m : Mods) → Within (m .comprs) C → (key value domain : Tree) (query : ℕ) → st .literal ≡ every key value domain query
-        → Within (comprs domain) C → Good S R (processEveryBy sheet way i m key value domain query)
-    unfolding processEveryBy
+        → Within (comprs domain) C → Good S R (processEvery sheet way i m key value domain query)
+    unfolding processEvery
     good-every i m w key value domain query is h =
         let inner : Scope = foldl addLocal noScope (vars (chain key ++ chain value)) in
         let f : State → State = λ t. way .body inner (t .scope) query t in
-        good-then S R (processPlainExprBy sheet way i m domain) (f ∷ []) (good-plain i m w domain h)
+        good-then S R (processPlainExpr sheet way i m domain) (f ∷ []) (good-plain i m w domain h)
         (good-turn S R f (k .body st at key value domain query is))
 
     -- A literal.
     good-literal : (i : ℕ) (m : Mods) → Within (m .comprs) C → (l : Literal) → st .literal ≡ l → Within (literalComprs sheet l) C
-        → Good S R (processLiteralBy sheet way i m l)
-    unfolding processLiteralBy literalComprs
+        → Good S R (processLiteral sheet way i m l)
+    unfolding processLiteral literalComprs
     good-literal i m w (someVars vs) is h = good-checks S R (vars (chain vs))
     good-literal i m w (someIn key value collection) is h =
         let ls = leaves key ++ leaves value in
@@ -204,12 +204,12 @@ module _ (sheet : Sheet) (way : Way) (stmts : List Stmt) (outputs : List Tree) (
     good-literal i m w (every key value domain query) is h = good-every i m w key value domain query is h
 
     -- A statement.
-    good-stmt : (i : ℕ) → Good S R (processStmtBy sheet way i st)
-    unfolding processStmtBy modsOf stmtComprs
+    good-stmt : (i : ℕ) → Good S R (processStmt sheet way i st)
+    unfolding processStmt modsOf stmtComprs
     good-stmt i =
         let mods = concatMap comprs (st .withMods) in
         let f1 : State → State = λ t. foldl (λ u e. inTurn (gatherUsedVars sheet i [] e ∷ []) u) t (st .withMods) in
-        let f2 : State → State = λ t. processLiteralBy sheet way i (modsOf sheet (t .scope) (st .withMods)) (st .literal) t in
+        let f2 : State → State = λ t. processLiteral sheet way i (modsOf sheet (t .scope) (st .withMods)) (st .literal) t in
         good-then S R f1 (f2 ∷ atLeastOne i ∷ [])
         (good-fold S R (λ u e. inTurn (gatherUsedVars sheet i [] e ∷ []) u) (st .withMods)
         (λ e n. good-turn S R (gatherUsedVars sheet i [] e) (good-used i [] e)))
@@ -222,16 +222,16 @@ module _ (sheet : Sheet) (way : Way) (stmts : List Stmt) (outputs : List Tree) (
   -- ---- the query
 
   -- Statements.
-  pub good-stmts : (rest : List Stmt) → Within rest stmts → (i : ℕ) → Good S R (processStmtsBy sheet way i rest)
-  unfolding processStmtsBy
+  pub good-stmts : (rest : List Stmt) → Within rest stmts → (i : ℕ) → Good S R (processStmts sheet way i rest)
+  unfolding processStmts
   good-stmts [] h i s o = o
   good-stmts (st ∷ rest) h i s o =
       good-stmts rest (λ x m. h x (List·Memᴰ·tail m)) (suc i) _
-      (good-turn S R (processStmtBy sheet way i st) (good-stmt st (h st (List·Memᴰ·head refl)) i) s o)
+      (good-turn S R (processStmt sheet way i st) (good-stmt st (h st (List·Memᴰ·head refl)) i) s o)
 
   -- Outputs.
-  pub good-outputs : Good S R (λ s. foldl (analyzeOutputExprBy sheet way) s outputs)
-  unfolding analyzeOutputExprBy outputComprBy
+  pub good-outputs : Good S R (λ s. foldl (analyzeOutputExpr sheet way) s outputs)
+  unfolding analyzeOutputExpr outputCompr
   good-outputs =
-      good-fold S R (analyzeOutputExprBy sheet way) outputs
-      (λ t m. good-fold S R (outputComprBy sheet way) (comprs t) (λ e n. k .output e (mem-concatMap comprs outputs t m e n)))
+      good-fold S R (analyzeOutputExpr sheet way) outputs
+      (λ t m. good-fold S R (outputCompr sheet way) (comprs t) (λ e n. k .output e (mem-concatMap comprs outputs t m e n)))

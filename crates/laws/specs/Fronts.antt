@@ -12,10 +12,11 @@ use Rattle.trees.specs.TreeRows.{allRows}
 use Rattle.scopes.specs.Scopes.{Scope}
 use Rattle.scopes.specs.Below.{nameBelow}
 use Rattle.analysis.specs.States.{Fault, sound, undefined, usedBefore, lengths, indexVariable, QuerySchedule, Run, State, ifSound}
-use Rattle.analysis.specs.Statements.{processStmts}
-use Rattle.analysis.specs.Queries.{scheduled, analyzeOutputExpr, analyzeQuery, analyze}
-use Rattle.analysis.specs.Schedules.{Each}
-use Rattle.analysis.specs.Named.{NamesBelow}
+use Rattle.once.specs.Statements.{processStmts}
+use Rattle.analysis.specs.Queries.{scheduled}
+use Rattle.once.specs.Queries.{analyzeOutputExpr, analyzeQuery, analyzeOnce}
+use Rattle.once.specs.Schedules.{Each}
+use Rattle.once.specs.Named.{NamesBelow}
 use Rattle.sizes.specs.Adds.{Fits, AllFit}
 use Rattle.sizes.specs.Queries.{start, analyze-fits}
 use Rattle.sizes.specs.Sound.{Sound}
@@ -26,17 +27,17 @@ module _ (n : ℕ) (sheet : Sheet) (parents : List Scope) (q : ℕ) (outputs : L
   -- The state at the end of the query, whose nested queries are analysed at level n.
   abbrev pub ended : State
   ended =
-      foldl (analyzeOutputExpr sheet (analyze n sheet) parents)
-      (processStmts sheet (analyze n sheet) parents 0 (stmtsOf sheet q) (start sheet parents q outputs r)) outputs
+      foldl (analyzeOutputExpr sheet (analyzeOnce n sheet) parents)
+      (processStmts sheet (analyzeOnce n sheet) parents 0 (stmtsOf sheet q) (start sheet parents q outputs r)) outputs
 
   abbrev pub front : QuerySchedule
   front = record { query = q; scope = ended .scope; count = length (stmtsOf sheet q); definitions = ended .definitions }
 
-  pub analyze-ended : analyze (suc n) sheet parents q outputs r ≡ ifSound (ended .run .fault) (scheduled q (length (stmtsOf sheet q)) ended) (ended .run)
-  unfolding analyze analyzeQuery
+  pub analyze-ended : analyzeOnce (suc n) sheet parents q outputs r ≡ ifSound (ended .run .fault) (scheduled q (length (stmtsOf sheet q)) ended) (ended .run)
+  unfolding analyzeOnce analyzeQuery
   analyze-ended = refl
 
-  pub analyze-faulty : (ended .run .fault ≡ sound → ⊥) → analyze (suc n) sheet parents q outputs r ≡ ended .run
+  pub analyze-faulty : (ended .run .fault ≡ sound → ⊥) → analyzeOnce (suc n) sheet parents q outputs r ≡ ended .run
   analyze-faulty faulty = analyze-ended ∙ go (ended .run .fault) faulty
     where
       go : (x : Fault) → (x ≡ sound → ⊥) → ifSound x (scheduled q (length (stmtsOf sheet q)) ended) (ended .run) ≡ ended .run
@@ -47,11 +48,11 @@ module _ (n : ℕ) (sheet : Sheet) (parents : List Scope) (q : ℕ) (outputs : L
       go indexVariable f = refl
 
   module _ (fine : Sound ended) where
-    pub analyze-sound : analyze (suc n) sheet parents q outputs r ≡ record { schedules = front ∷ ended .run .schedules; fault = sound }
+    pub analyze-sound : analyzeOnce (suc n) sheet parents q outputs r ≡ record { schedules = front ∷ ended .run .schedules; fault = sound }
     unfolding scheduled
     analyze-sound = analyze-ended ∙ ap (λ (x : Fault). ifSound x (scheduled q (length (stmtsOf sheet q)) ended) (ended .run)) fine
 
-    front-there : List·Memᴰ front (analyze (suc n) sheet parents q outputs r .schedules)
+    front-there : List·Memᴰ front (analyzeOnce (suc n) sheet parents q outputs r .schedules)
     front-there = subst (λ (u : Run). List·Memᴰ front (u .schedules)) (sym analyze-sound) (List·Memᴰ·head refl)
 
     pub front-fits : AllFit sheet r → Fits sheet front

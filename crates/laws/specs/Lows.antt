@@ -23,11 +23,11 @@ use Rattle.scopes.specs.Scopes.{Scope}
 use Rattle.scopes.specs.Below.{nameBelow, unscoped-below, input-below, flag-below, gathered-below}
 use Rattle.scopes.specs.GatherLocals.{gatherLocalVars}
 use Rattle.analysis.specs.States.{QuerySchedule, Run}
-use Rattle.analysis.specs.Queries.{analyze}
-use Rattle.analysis.specs.Own.{ownDefinition}
-use Rattle.analysis.specs.Steps.{Kept}
-use Rattle.analysis.specs.Schedules.{Each, analyze-keeps}
-use Rattle.analysis.specs.Named.{NamesBelow, own-below}
+use Rattle.once.specs.Queries.{analyzeOnce}
+use Rattle.once.specs.Own.{ownDefinition}
+use Rattle.once.specs.Steps.{Kept}
+use Rattle.once.specs.Schedules.{Each, analyze-keeps}
+use Rattle.once.specs.Named.{NamesBelow, own-below}
 use Rattle.sizes.specs.Adds.{below, Fits}
 use Rattle.sizes.specs.Bound.{weight-in-bounds}
 use Rattle.sizes.specs.Counted.{statements-few, statements-counted}
@@ -74,7 +74,7 @@ module _ (sheet : Sheet) (names : NamesBelow sheet) where
   }
 
   pub analyze-low : (n : ℕ) (parents : List Scope) (q : ℕ) (outputs : List Tree) (r : Run) → all (allRows nameBelow) outputs ≡ true
-      → Each Low (r .schedules) → Each Low (analyze n sheet parents q outputs r .schedules)
+      → Each Low (r .schedules) → Each Low (analyzeOnce n sheet parents q outputs r .schedules)
   analyze-low = analyze-keeps sheet nameBelow names refl Low low-kept gathered-low
 
 -- The sheet in accepted tables is one.

@@ -25,8 +25,8 @@ use Rattle.scopes.specs.Gather.{gatherAssignedVars}
 use Rattle.scopes.specs.GatherLaws.{Kept, assigned-kept}
 use Rattle.scopes.specs.Below.{nameBelow}
 use Rattle.branches.specs.Walks.{alone}
-use Rattle.analysis.specs.Comprs.{Nested}
-use Rattle.analysis.specs.Exprs.{extraVars}
+use Rattle.once.specs.Comprs.{Nested}
+use Rattle.once.specs.Exprs.{extraVars}
 use Rattle.sizes.specs.LowNames.{facts-names}
 use Rattle.gather.specs.declared.scope.Scope.{Scope}
 use Rattle.gather.specs.Sheets.{countsAt, specialAt, sheetAt, Accepted}

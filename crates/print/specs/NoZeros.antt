@@ -19,7 +19,7 @@ use Rattle.sheet.specs.declared.Outcome.{Outcome}
 use Rattle.sheet.specs.declared.Outcome.the-variants.{Read, NoRoom, TooLong, BadForm, BadName, BadCount, BadField}
 use Rattle.sheet.specs.Verdict.{verdict}
 use Rattle.analysis.specs.States.{Fault, sound, undefined, usedBefore, lengths, indexVariable, Run, QuerySchedule}
-use Rattle.repeats.specs.RustWay.{rustAnalyzeQuerySnippet}
+use Rattle.analysis.specs.RustWay.{analyzeQuerySnippet}
 use Rattle.answers.specs.Text.{section, answerText}
 use Rattle.trees.specs.Sheet.{sheetIn}
 use Rattle.answers.specs.Call.{Result, refused, answered, fitting, finished, analysed, afterReading, result}
@@ -89,7 +89,7 @@ finished-told n room r indexVariable = omega arith
 
 analysed-told : (sheet : Sheet) (room : ℕ) → Told (analysed sheet room)
 unfolding analysed
-analysed-told sheet room = finished-told _ room (rustAnalyzeQuerySnippet sheet) (rustAnalyzeQuerySnippet sheet .fault)
+analysed-told sheet room = finished-told _ room (analyzeQuerySnippet sheet) (analyzeQuerySnippet sheet .fault)
 
 after-told : (s : List ℕ) (room : ℕ) (r : Outcome) → Told (afterReading s room r)
 after-told s room Read = analysed-told (sheetIn s) room

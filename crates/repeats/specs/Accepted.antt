@@ -13,8 +13,8 @@ use Rattle.accepted.specs.Accepted.{accepted}
 use Rattle.accepted.specs.Facts.{sheet-facts}
 use Rattle.trees.specs.Sheet.{sheetOf}
 use Rattle.analysis.specs.States.{sound, scheduleOf}
-use Rattle.analysis.specs.Queries.{analyzeQuerySnippet, scheduleIn}
-use Rattle.repeats.specs.RustWay.{rustAnalyzeQuerySnippet}
+use Rattle.once.specs.Queries.{analyzeQuerySnippetOnce, scheduleOnce}
+use Rattle.analysis.specs.RustWay.{analyzeQuerySnippet}
 use Rattle.repeats.specs.Places.{family}
 use Rattle.repeats.specs.QueryRepeats.{queriesOnce, rust-fault, rust-schedules}
 use Rattle.repeats.specs.Counting.{once-distinct}
@@ -36,10 +36,10 @@ module _ (c : Counts) (x : Special) (t : List ℕ) (few : Within c) (none : firs
       ))
 
   -- The Rust's fault is that of the definitions.
-  pub accepted-fault : rustAnalyzeQuerySnippet (sheetOf c x t) .fault ≡ analyzeQuerySnippet (sheetOf c x t) .fault
+  pub accepted-fault : analyzeQuerySnippet (sheetOf c x t) .fault ≡ analyzeQuerySnippetOnce (sheetOf c x t) .fault
   accepted-fault = rust-fault (sheetOf c x t) accepted-once
 
   -- Without a fault each query's schedule in the Rust's table, the last that it wrote, is that of the definitions.
-  pub accepted-schedules : analyzeQuerySnippet (sheetOf c x t) .fault ≡ sound
-      → (q : ℕ) → scheduleOf (rustAnalyzeQuerySnippet (sheetOf c x t) .schedules) q ≡ scheduleIn (sheetOf c x t) q
+  pub accepted-schedules : analyzeQuerySnippetOnce (sheetOf c x t) .fault ≡ sound
+      → (q : ℕ) → scheduleOf (analyzeQuerySnippet (sheetOf c x t) .schedules) q ≡ scheduleOnce (sheetOf c x t) q
   accepted-schedules = rust-schedules (sheetOf c x t) accepted-once

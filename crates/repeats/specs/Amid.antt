@@ -12,7 +12,8 @@ use Rattle.analysis.specs.States.{sound, QuerySchedule, Run}
 use Rattle.repeats.specs.SameOuter.{SameOwn, below, same-outer}
 use Rattle.repeats.specs.Members.{Within}
 use Rattle.repeats.specs.Distinct.{distinct, Apart, apart-sym, distinct-left, distinct-apart, elem-concatMap, one-or-apart}
-use Rattle.repeats.specs.RustWay.{rustAnalyze, rustAnalyze-same}
+use Rattle.analysis.specs.RustWay.{analyze}
+use Rattle.repeats.specs.RustSame.{analyze-same}
 use Rattle.repeats.specs.Places.{comprFamily, family}
 use Rattle.repeats.specs.Beside.{isSound}
 use Rattle.repeats.specs.CoupledQuery
@@ -22,7 +23,7 @@ use Rattle.repeats.specs.LookUps.{SameTable, Fresh, Only, Held, same-beh
 module _ (levels : ℕ) (sheet : Sheet) (parents : List Scope) (T₀ : List QuerySchedule) where
   -- The Rust's run of a comprehension that stands in a scope.
   abbrev pub runOf : Scope → Tree → Run
-  runOf sc e = rustAnalyze levels sheet (sc ∷ parents) (rowOf e .third) (outputsOf e)
+  runOf sc e = analyze levels sheet (sc ∷ parents) (rowOf e .third) (outputsOf e)
 
   -- That run is held.
   abbrev pub HeldAt : Scope → Tree → List QuerySchedule → Type 0
@@ -40,7 +41,7 @@ module _ (levels : ℕ) (sheet : Sheet) (parents : List Scope) (T₀ : List Quer
   held-again : (sc sc′ : Scope) → SameOwn sc sc′ → (e : Tree) (T : List QuerySchedule) → HeldAt sc e T → HeldAt sc′ e T
   held-again sc sc′ own e T h =
       subst (λ (f : ℕ → List Tree → Run). Held (f (rowOf e .third) (outputsOf e)) (rowOf e .third) T)
-      (rustAnalyze-same levels sheet (below own (same-outer parents))) h
+      (analyze-same levels sheet (below own (same-outer parents))) h
 
   -- All of it stays so.
   pub amid-again : (C : List Tree) (P : List ℕ) (K : List Tree) (sc sc′ : Scope) (T U : List QuerySchedule) → SameOwn sc sc′ → Amid C P K sc T U

@@ -19,8 +19,10 @@ use Rattle.repeats.specs.Settled.{Settled}
 use Rattle.repeats.specs.Events.{comprsMet}
 use Rattle.repeats.specs.RustWalk.{rustWalk}
 use Rattle.repeats.specs.BracketRepeats.{rust-takes-comprs}
-use Rattle.repeats.specs.Ways.{Way, propagateBy, comprsUseBy, useComprBy, processComprBy, processComprsBy}
-use Rattle.repeats.specs.RustWay.{take, rustWay, rustAnalyze, rustAnalyze-same}
+use Rattle.analysis.specs.Ways.{Way}
+use Rattle.analysis.specs.Comprs.{propagate, comprsUse, useCompr, processCompr, processComprs}
+use Rattle.analysis.specs.RustWay.{take, rustWay, analyze}
+use Rattle.repeats.specs.RustSame.{analyze-same}
 use Rattle.repeats.specs.Beside.{isSound, Own, stateOf, ifSound-failed, own-useInput, own-addInputs}
 use Rattle.repeats.specs.RustWrites.{fault-cases, take-sound}
 use Rattle.repeats.specs.Gated.{Gated, enterWith, gate, gate-settled}
@@ -62,11 +64,11 @@ same-trans a b c h k = record { locals = h .locals ∙ k .locals; unscoped = h .
 module _ (levels : ℕ) (sheet : Sheet) (parents : List Scope) (sc₀ : Scope) where
   -- The Rust's way below the parents.
   abbrev way : Way
-  way = rustWay sheet (λ ps q ts. rustAnalyze levels sheet ps q ts) parents
+  way = rustWay sheet (λ ps q ts. analyze levels sheet ps q ts) parents
 
   -- The run of a comprehension in a scope.
   abbrev runIn : Scope → Tree → Run
-  runIn sc e = rustAnalyze levels sheet (sc ∷ parents) (rowOf e .third) (outputsOf e)
+  runIn sc e = analyze levels sheet (sc ∷ parents) (rowOf e .third) (outputsOf e)
 
   -- The scope that it finds.
   abbrev scopeFound : Scope → Tree → Scope
@@ -84,7 +86,7 @@ module _ (levels : ℕ) (sheet : Sheet) (parents : List Scope) (sc₀ : Scope) w
   run-same : (sc : Scope) → SameOwn sc₀ sc → (e : Tree) → runIn sc e ≡ runIn sc₀ e
   run-same sc h e =
       ap (λ (f : ℕ → List Tree → Run). f (rowOf e .third) (outputsOf e))
-      (rustAnalyze-same levels sheet (below (same-sym sc₀ sc h) (same-outer parents)))
+      (analyze-same levels sheet (below (same-sym sc₀ sc h) (same-outer parents)))
 
   -- And the same scope is found.
   found-same : (sc : Scope) → SameOwn sc₀ sc → (e : Tree) → scopeFound sc e ≡ scopeFound sc₀ e
@@ -104,9 +106,9 @@ module _ (levels : ℕ) (sheet : Sheet) (parents : List Scope) (sc₀ : Scope) w
 
   -- One comprehension, where there is no fault so far.
   one-sound : (o : Own) (T : List QuerySchedule) (e : Tree) → SameOwn sc₀ (o .scope)
-      → (viewOf (processComprBy sheet way (stateOf o T) e) ≡ enterWith step faultIn (faultIn e) e (viewOf (stateOf o T) .state))
-      × SameOwn sc₀ (processComprBy sheet way (stateOf o T) e .scope)
-  unfolding processComprBy rustWay take setRun propagateBy useComprBy comprsUseBy setScope addFirstUses useInput
+      → (viewOf (processCompr sheet way (stateOf o T) e) ≡ enterWith step faultIn (faultIn e) e (viewOf (stateOf o T) .state))
+      × SameOwn sc₀ (processCompr sheet way (stateOf o T) e .scope)
+  unfolding processCompr rustWay take setRun propagate useCompr comprsUse setScope addFirstUses useInput
   one-sound o T e h =
       ⊎-elim good bad (fault-cases (r .fault))
     where
@@ -120,7 +122,7 @@ module _ (levels : ℕ) (sheet : Sheet) (parents : List Scope) (sc₀ : Scope) w
       p = record { inputs = sc .inputs; usesInput = sc .usesInput; firstUses = o .firstUses }
 
       rest : List (State → State)
-      rest = (λ t. propagateBy sheet way (t .scope) e t) ∷ useComprBy sheet way e ∷ []
+      rest = (λ t. propagate sheet way (t .scope) e t) ∷ useCompr sheet way e ∷ []
 
       same : r .fault ≡ faultIn e
       same = ap (λ (a : Run). a .fault) (run-same sc h e)
@@ -171,8 +173,8 @@ module _ (levels : ℕ) (sheet : Sheet) (parents : List Scope) (sc₀ : Scope) w
 
   -- One comprehension.
   one : (s : State) (e : Tree) → SameOwn sc₀ (s .scope)
-      → (viewOf (processComprBy sheet way s e) ≡ gate step faultIn (viewOf s) e) × SameOwn sc₀ (processComprBy sheet way s e .scope)
-  unfolding processComprBy
+      → (viewOf (processCompr sheet way s e) ≡ gate step faultIn (viewOf s) e) × SameOwn sc₀ (processCompr sheet way s e .scope)
+  unfolding processCompr
   one s e h =
       ⊎-elim
       (λ (q : s .run .fault ≡ sound).
@@ -188,11 +190,11 @@ module _ (levels : ℕ) (sheet : Sheet) (parents : List Scope) (sc₀ : Scope) w
       }) (sym q) in
       subst
       (λ (t : State).
-      (viewOf (processComprBy sheet way t e) ≡ gate step faultIn (viewOf t) e) × SameOwn sc₀ (processComprBy sheet way t e .scope)) eq
+      (viewOf (processCompr sheet way t e) ≡ gate step faultIn (viewOf t) e) × SameOwn sc₀ (processCompr sheet way t e .scope)) eq
       (one-sound o (s .run .schedules) e h))
       (λ (n : isSound (s .run .fault) ≡ false).
       let still =
-      inTurn-failed (way .compr (s .scope) e ∷ (λ t. propagateBy sheet way (t .scope) e t) ∷ useComprBy sheet way e ∷ []) s n in (
+      inTurn-failed (way .compr (s .scope) e ∷ (λ t. propagate sheet way (t .scope) e t) ∷ useCompr sheet way e ∷ []) s n in (
         ap viewOf still
             ∙ sym (ifSound-failed (s .run .fault) n (λ k. enterWith step faultIn (faultIn e) e (k .state)) (viewOf s)),
         subst (λ (t : State). SameOwn sc₀ (t .scope)) (sym still) h,
@@ -201,19 +203,19 @@ module _ (levels : ℕ) (sheet : Sheet) (parents : List Scope) (sc₀ : Scope) w
 
   -- A list of comprehensions.
   all-taken : (cs : List Tree) (s : State) → SameOwn sc₀ (s .scope)
-      → viewOf (foldl (processComprBy sheet way) s cs) ≡ foldl (gate step faultIn) (viewOf s) cs
+      → viewOf (foldl (processCompr sheet way) s cs) ≡ foldl (gate step faultIn) (viewOf s) cs
   all-taken [] s h = refl
   all-taken (e ∷ cs) s h =
-      all-taken cs (processComprBy sheet way s e) (one s e h .1) ∙ ap (λ (g : Gated Part). foldl (gate step faultIn) g cs) (one s e h .0)
+      all-taken cs (processCompr sheet way s e) (one s e h .1) ∙ ap (λ (g : Gated Part). foldl (gate step faultIn) g cs) (one s e h .0)
 
 -- Comprehensions as the Rust's walks over expressions hand them out, some more than once, come to the same scope, first uses and fault as
 -- those that `comprs` lists. Each walk may have a scope of its own.
 pub rust-processComprs : (levels : ℕ) (sheet : Sheet) (parents : List Scope) (i : ℕ) (scopeOf : Tree → Scope) (extras : Tree → List ℕ)
     (ts : List Tree) (s : State)
-    → (let way = rustWay sheet (λ ps q outputs. rustAnalyze levels sheet ps q outputs) parents in
-    viewOf (processComprsBy sheet way (concatMap (λ t. comprsMet (rustWalk sheet (scopeOf t) (extras t) i t)) ts) s)
-    ≡ viewOf (processComprsBy sheet way (concatMap comprs ts) s))
-unfolding processComprsBy
+    → (let way = rustWay sheet (λ ps q outputs. analyze levels sheet ps q outputs) parents in
+    viewOf (processComprs sheet way (concatMap (λ t. comprsMet (rustWalk sheet (scopeOf t) (extras t) i t)) ts) s)
+    ≡ viewOf (processComprs sheet way (concatMap comprs ts) s))
+unfolding processComprs
 rust-processComprs levels sheet parents i scopeOf extras ts s =
     all-taken levels sheet parents (s .scope) (concatMap (λ t. comprsMet (rustWalk sheet (scopeOf t) (extras t) i t)) ts) s (same-own (s .scope))
     ∙ lists ts (viewOf s)

@@ -11,9 +11,9 @@ use Rattle.scopes.specs.NameSets.{elements}
 use Rattle.scopes.specs.Scopes.{Scope, Span, owns, addInput, useInput}
 use Rattle.uses.specs.Uses.{usedVars}
 use Rattle.analysis.specs.States.{QuerySchedule, State}
-use Rattle.analysis.specs.Comprs.{Mods}
+use Rattle.analysis.specs.Comprs.{Mods, propagate, comprsUse, useCompr, allUsed, processCompr, processComprs, useExpr}
 use Rattle.repeats.specs.SameOuter.{SameOwn}
-use Rattle.repeats.specs.Ways.{Way, propagateBy, comprsUseBy, useComprBy, allUsedBy, processComprBy, processComprsBy, useExprBy}
+use Rattle.analysis.specs.Ways.{Way}
 use Rattle.repeats.specs.Members.{Within, mem-right, mem-move, concatMap-agree}
 use Rattle.repeats.specs.Beside.{Own, stateOf, Tables, Beside, going, Good, turn-at, turn, beside-map, own-useInput, own-addInputs, gatherUsedVars-good, addFirstUses-beside, setScope-beside}
 
@@ -33,8 +33,8 @@ module _ (sheet : Sheet) (way way′ : Way) (C : List Tree) (c : Coupling way wa
 
   -- Known comprehensions use the same names.
   comprsUse-same : (cs K : List Tree) → Within cs K → (o : Own) (T U : List QuerySchedule) → c .ρ K (o .scope) T U
-      → comprsUseBy sheet way cs (stateOf o T) ≡ comprsUseBy sheet way′ cs (stateOf o U)
-  unfolding comprsUseBy
+      → comprsUse sheet way cs (stateOf o T) ≡ comprsUse sheet way′ cs (stateOf o U)
+  unfolding comprsUse
   comprsUse-same cs K h o T U r =
       concatMap-agree (λ e. filter (owns (o .scope)) (elements (way .comprScope (o .scope) (stateOf o T) e .inputs)))
       (λ e. filter (owns (o .scope)) (elements (way′ .comprScope (o .scope) (stateOf o U) e .inputs))) cs
@@ -42,8 +42,8 @@ module _ (sheet : Sheet) (way way′ : Way) (C : List Tree) (c : Coupling way wa
 
   -- What a known comprehension propagates.
   pub propagate-good : (e : Tree) (K : List Tree) → List·Memᴰ e K
-      → Good (c .ρ K) (c .ρ K) (λ t. propagateBy sheet way (t .scope) e t) (λ t. propagateBy sheet way′ (t .scope) e t)
-  unfolding propagateBy
+      → Good (c .ρ K) (c .ρ K) (λ t. propagate sheet way (t .scope) e t) (λ t. propagate sheet way′ (t .scope) e t)
+  unfolding propagate
   propagate-good e K m o T U r =
       let F : Scope → Scope = λ x.
       foldl addInput (useInput (x .usesInput) (o .scope)) (filter (λ y. not (owns (o .scope) y)) (elements (x .inputs))) in
@@ -54,29 +54,29 @@ module _ (sheet : Sheet) (way way′ : Way) (C : List Tree) (c : Coupling way wa
       (own-useInput (x .usesInput) (o .scope))) r)
 
   -- What it uses.
-  useCompr-good : (e : Tree) (K : List Tree) → List·Memᴰ e K → Good (c .ρ K) (c .ρ K) (useComprBy sheet way e) (useComprBy sheet way′ e)
-  unfolding useComprBy
+  useCompr-good : (e : Tree) (K : List Tree) → List·Memᴰ e K → Good (c .ρ K) (c .ρ K) (useCompr sheet way e) (useCompr sheet way′ e)
+  unfolding useCompr
   useCompr-good e K m o T U r =
       let F : List ℕ → List Span = map (λ x. record { name = x; line = rowOf e .line; col = rowOf e .col }) in
-      addFirstUses-beside (c .ρ K) (c .again K) (F (comprsUseBy sheet way (e ∷ []) (stateOf o T)))
-      (F (comprsUseBy sheet way′ (e ∷ []) (stateOf o U)))
+      addFirstUses-beside (c .ρ K) (c .again K) (F (comprsUse sheet way (e ∷ []) (stateOf o T)))
+      (F (comprsUse sheet way′ (e ∷ []) (stateOf o U)))
       (ap F (comprsUse-same (e ∷ []) K
       (λ d n. subst (λ (x : Tree). List·Memᴰ x K) (sym (List·Memᴰ·eq-of-singleton n)) m) o T U r)) o T U r
 
   -- A comprehension is processed, and known from then on.
   processCompr-beside : (e : Tree) → List·Memᴰ e C → (K : List Tree) {s u : State} → Beside (c .ρ K) s u
-      → Beside (c .ρ (e ∷ K)) (processComprBy sheet way s e) (processComprBy sheet way′ u e)
-  unfolding processComprBy
+      → Beside (c .ρ (e ∷ K)) (processCompr sheet way s e) (processCompr sheet way′ u e)
+  unfolding processCompr
   processCompr-beside e m K b =
       let here : List·Memᴰ e (e ∷ K) = List·Memᴰ·head refl in
       let L = e ∷ K in
-      turn (c .ρ L) (c .ρ L) (useComprBy sheet way e) (useComprBy sheet way′ e) (useCompr-good e L here)
-      (turn (c .ρ L) (c .ρ L) (λ t. propagateBy sheet way (t .scope) e t) (λ t. propagateBy sheet way′ (t .scope) e t) (propagate-good e L here)
+      turn (c .ρ L) (c .ρ L) (useCompr sheet way e) (useCompr sheet way′ e) (useCompr-good e L here)
+      (turn (c .ρ L) (c .ρ L) (λ t. propagate sheet way (t .scope) e t) (λ t. propagate sheet way′ (t .scope) e t) (propagate-good e L here)
       (turn-at (c .ρ K) (c .ρ L) (λ s. way .compr (s .scope) e) (λ s. way′ .compr (s .scope) e) (c .enter e m K) b))
 
   -- So are all of a list.
   pub processComprs-beside : (cs : List Tree) → Within cs C → (K : List Tree) {s u : State} → Beside (c .ρ K) s u
-      → Beside (c .ρ (cs ++ K)) (foldl (processComprBy sheet way) s cs) (foldl (processComprBy sheet way′) u cs)
+      → Beside (c .ρ (cs ++ K)) (foldl (processCompr sheet way) s cs) (foldl (processCompr sheet way′) u cs)
   processComprs-beside [] h K b = b
   processComprs-beside (e ∷ cs) h K b =
       beside-map (c .ρ (cs ++ (e ∷ K))) (c .ρ ((e ∷ cs) ++ K)) (c .weaken (cs ++ (e ∷ K)) ((e ∷ cs) ++ K) (mem-move e cs K))
@@ -88,17 +88,17 @@ module _ (sheet : Sheet) (way way′ : Way) (C : List Tree) (c : Coupling way wa
 
   -- An expression with its comprehensions and the modifiers'.
   pub useExpr-good : (i : ℕ) (extras : List ℕ) (m : Mods) (t : Tree) → Within (comprs t ++ m .comprs) C → (K : List Tree)
-      → Good (c .ρ K) (c .ρ ((comprs t ++ m .comprs) ++ K)) (useExprBy sheet way i extras m t) (useExprBy sheet way′ i extras m t)
-  unfolding useExprBy processComprsBy
+      → Good (c .ρ K) (c .ρ ((comprs t ++ m .comprs) ++ K)) (useExpr sheet way i extras m t) (useExpr sheet way′ i extras m t)
+  unfolding useExpr processComprs
   useExpr-good i extras m t h K o T U r =
       let cs = comprs t ++ m .comprs in
-      turn (c .ρ K) (c .ρ (cs ++ K)) (λ s. foldl (processComprBy sheet way) s cs) (λ s. foldl (processComprBy sheet way′) s cs)
+      turn (c .ρ K) (c .ρ (cs ++ K)) (λ s. foldl (processCompr sheet way) s cs) (λ s. foldl (processCompr sheet way′) s cs)
       (λ p A B x. processComprs-beside cs h K (going p A B x))
       (gatherUsedVars-good (c .ρ K) (c .again K) sheet i extras t o T U r)
 
   -- All that it uses is the same, once these are known.
   pub allUsed-same : (extras : List ℕ) (m : Mods) (t : Tree) (K : List Tree) → Within (comprs t ++ m .comprs) K → (o : Own) (T U : List QuerySchedule)
-      → c .ρ K (o .scope) T U → allUsedBy sheet way extras m t (stateOf o T) ≡ allUsedBy sheet way′ extras m t (stateOf o U)
-  unfolding allUsedBy
+      → c .ρ K (o .scope) T U → allUsed sheet way extras m t (stateOf o T) ≡ allUsed sheet way′ extras m t (stateOf o U)
+  unfolding allUsed
   allUsed-same extras m t K h o T U r =
       ap (λ (l : List ℕ). usedVars sheet (o .scope) extras t ++ (m .usedVars ++ l)) (comprsUse-same (comprs t ++ m .comprs) K h o T U r)

@@ -13,9 +13,9 @@ use Rattle.trees.specs.Traverse.{comprs}
 use Rattle.uses.specs.Uses.{assignedVars}
 use Rattle.analysis.specs.States.{lengths, State, fail}
 use Rattle.analysis.specs.Using.{checkAssigned, recordOne, recordEach}
-use Rattle.analysis.specs.Comprs.{Mods}
-use Rattle.analysis.specs.Exprs.{Pairing, pair, mismatch, pairings}
-use Rattle.repeats.specs.Ways.{Way, allUsedBy, assignOneWayBy, assignPairingBy, processAssignExprBy, processPlainExprBy, processExprBy}
+use Rattle.analysis.specs.Comprs.{Mods, allUsed}
+use Rattle.analysis.specs.Exprs.{Pairing, pair, mismatch, pairings, assignOneWay, assignPairing, processAssignExpr, processPlainExpr, processExpr}
+use Rattle.analysis.specs.Ways.{Way}
 use Rattle.repeats.specs.Members.{Within, mem-left, mem-right, within-append, mem-concatMap}
 use Rattle.repeats.specs.Places.{pairComprs, exprComprs}
 use Rattle.repeats.specs.Beside.{stateOf, Beside, going, Good, turn, fold-beside, fail-good, checkAssigned-good, recordOne-beside, recordEach-beside}
@@ -24,19 +24,19 @@ use Rattle.repeats.specs.CoupledComprs.{Coupling, forget, useExpr-good, 
 module _ (sheet : Sheet) (way way′ : Way) (C : List Tree) (c : Coupling way way′ C) where
   -- One direction of a pair.
   assignOneWay-good : (i : ℕ) (m : Mods) (check : Bool) (target source : Tree) → Within (comprs source ++ m .comprs) C → (K : List Tree)
-      → Good (c .ρ K) (c .ρ K) (assignOneWayBy sheet way i m check target source) (assignOneWayBy sheet way′ i m check target source)
-  unfolding assignOneWayBy
+      → Good (c .ρ K) (c .ρ K) (assignOneWay sheet way i m check target source) (assignOneWay sheet way′ i m check target source)
+  unfolding assignOneWay
   assignOneWay-good i m check target source h K o T U r =
       let cs = comprs source ++ m .comprs in
       let L = cs ++ K in
       forget sheet way way′ C c cs K
       (turn (c .ρ L) (c .ρ L)
-      (λ t. recordEach i (assignedVars (t .scope) target) (λ x. filter (λ y. not (eqb y x)) (allUsedBy sheet way [] m source t)) t)
-      (λ t. recordEach i (assignedVars (t .scope) target) (λ x. filter (λ y. not (eqb y x)) (allUsedBy sheet way′ [] m source t)) t)
+      (λ t. recordEach i (assignedVars (t .scope) target) (λ x. filter (λ y. not (eqb y x)) (allUsed sheet way [] m source t)) t)
+      (λ t. recordEach i (assignedVars (t .scope) target) (λ x. filter (λ y. not (eqb y x)) (allUsed sheet way′ [] m source t)) t)
       (λ p A B z.
       recordEach-beside (c .ρ L) (c .again L) i (assignedVars (p .scope) target)
-      (λ x. filter (λ y. not (eqb y x)) (allUsedBy sheet way [] m source (stateOf p A)))
-      (λ x. filter (λ y. not (eqb y x)) (allUsedBy sheet way′ [] m source (stateOf p B)))
+      (λ x. filter (λ y. not (eqb y x)) (allUsed sheet way [] m source (stateOf p A)))
+      (λ x. filter (λ y. not (eqb y x)) (allUsed sheet way′ [] m source (stateOf p B)))
       (ap {B = ℕ → List ℕ} (λ (l : List ℕ) (x : ℕ). filter (λ y. not (eqb y x)) l)
       (allUsed-same sheet way way′ C c [] m source L (mem-left cs K) p A B z)) p A B z)
       (turn (c .ρ L) (c .ρ L) (checkAssigned check target) (checkAssigned check target) (checkAssigned-good (c .ρ L) (c .again L) check target)
@@ -44,14 +44,14 @@ module _ (sheet : Sheet) (way way′ : Way) (C : List Tree) (c : Coupling way wa
 
   -- Both directions, or a mismatch.
   assignPairing-beside : (i : ℕ) (m : Mods) (check : Bool) (p : Pairing) → Within (pairComprs p) C → Within (m .comprs) C → (K : List Tree)
-      → {s u : State} → Beside (c .ρ K) s u → Beside (c .ρ K) (assignPairingBy sheet way i m check s p) (assignPairingBy sheet way′ i m check u p)
-  unfolding assignPairingBy
+      → {s u : State} → Beside (c .ρ K) s u → Beside (c .ρ K) (assignPairing sheet way i m check s p) (assignPairing sheet way′ i m check u p)
+  unfolding assignPairing
   assignPairing-beside i m check (pair lhs rhs) h k K b =
       let left = within-append (comprs lhs) (m .comprs) C (λ e n. h e (mem-left (comprs lhs) (comprs rhs) e n)) k in
       let right = within-append (comprs rhs) (m .comprs) C (λ e n. h e (mem-right (comprs lhs) (comprs rhs) e n)) k in
-      turn (c .ρ K) (c .ρ K) (assignOneWayBy sheet way i m false rhs lhs) (assignOneWayBy sheet way′ i m false rhs lhs)
+      turn (c .ρ K) (c .ρ K) (assignOneWay sheet way i m false rhs lhs) (assignOneWay sheet way′ i m false rhs lhs)
       (assignOneWay-good i m false rhs lhs left K)
-      (turn (c .ρ K) (c .ρ K) (assignOneWayBy sheet way i m check lhs rhs) (assignOneWayBy sheet way′ i m check lhs rhs)
+      (turn (c .ρ K) (c .ρ K) (assignOneWay sheet way i m check lhs rhs) (assignOneWay sheet way′ i m check lhs rhs)
       (assignOneWay-good i m check lhs rhs right K) b)
   assignPairing-beside i m check (mismatch v) h k K b =
       turn (c .ρ K) (c .ρ K) (fail (lengths (v .line) (v .col))) (fail (lengths (v .line) (v .col)))
@@ -59,22 +59,22 @@ module _ (sheet : Sheet) (way way′ : Way) (C : List Tree) (c : Coupling way wa
 
   -- A plain expression.
   pub processPlainExpr-good : (i : ℕ) (m : Mods) (e : Tree) → Within (comprs e) C → Within (m .comprs) C → (K : List Tree)
-      → Good (c .ρ K) (c .ρ K) (processPlainExprBy sheet way i m e) (processPlainExprBy sheet way′ i m e)
-  unfolding processPlainExprBy
+      → Good (c .ρ K) (c .ρ K) (processPlainExpr sheet way i m e) (processPlainExpr sheet way′ i m e)
+  unfolding processPlainExpr
   processPlainExpr-good i m e h k K o T U r =
       let cs = comprs e ++ m .comprs in
       let L = cs ++ K in
       forget sheet way way′ C c cs K
-      (turn (c .ρ L) (c .ρ L) (λ t. recordOne i 0 (allUsedBy sheet way [] m e t) t) (λ t. recordOne i 0 (allUsedBy sheet way′ [] m e t) t)
+      (turn (c .ρ L) (c .ρ L) (λ t. recordOne i 0 (allUsed sheet way [] m e t) t) (λ t. recordOne i 0 (allUsed sheet way′ [] m e t) t)
       (λ p A B z.
-      recordOne-beside (c .ρ L) (c .again L) i 0 (allUsedBy sheet way [] m e (stateOf p A)) (allUsedBy sheet way′ [] m e (stateOf p B))
+      recordOne-beside (c .ρ L) (c .again L) i 0 (allUsed sheet way [] m e (stateOf p A)) (allUsed sheet way′ [] m e (stateOf p B))
       (allUsed-same sheet way way′ C c [] m e L (mem-left cs K) p A B z) p A B z)
       (useExpr-good sheet way way′ C c i [] m e (within-append (comprs e) (m .comprs) C h k) K o T U r))
 
   -- Any expression.
   pub processExpr-good : (i : ℕ) (m : Mods) (e : Tree) → Within (exprComprs e) C → Within (m .comprs) C → (K : List Tree)
-      → Good (c .ρ K) (c .ρ K) (processExprBy sheet way i m e) (processExprBy sheet way′ i m e)
-  unfolding processExprBy exprComprs processAssignExprBy
+      → Good (c .ρ K) (c .ρ K) (processExpr sheet way i m e) (processExpr sheet way′ i m e)
+  unfolding processExpr exprComprs processAssignExpr
   processExpr-good i m e h k K o T U r = go (isAssign (rowOf e)) h
     where
       ps : List Pairing
@@ -82,10 +82,10 @@ module _ (sheet : Sheet) (way way′ : Way) (C : List Tree) (c : Coupling way wa
 
       go : (b : Bool) → Within (cond b (concatMap pairComprs ps) (comprs e)) C
           → Beside (c .ρ K)
-          (cond b (foldl (assignPairingBy sheet way i m (isColEq (rowOf e))) (stateOf o T) ps) (processPlainExprBy sheet way i m e (stateOf o T)))
-          (cond b (foldl (assignPairingBy sheet way′ i m (isColEq (rowOf e))) (stateOf o U) ps) (processPlainExprBy sheet way′ i m e (stateOf o U)))
+          (cond b (foldl (assignPairing sheet way i m (isColEq (rowOf e))) (stateOf o T) ps) (processPlainExpr sheet way i m e (stateOf o T)))
+          (cond b (foldl (assignPairing sheet way′ i m (isColEq (rowOf e))) (stateOf o U) ps) (processPlainExpr sheet way′ i m e (stateOf o U)))
       go true w =
-          fold-beside (c .ρ K) (assignPairingBy sheet way i m (isColEq (rowOf e))) (assignPairingBy sheet way′ i m (isColEq (rowOf e))) ps
+          fold-beside (c .ρ K) (assignPairing sheet way i m (isColEq (rowOf e))) (assignPairing sheet way′ i m (isColEq (rowOf e))) ps
           (λ p n s u b. assignPairing-beside i m (isColEq (rowOf e)) p (λ d x. w d (mem-concatMap pairComprs ps p n d x)) k K b)
           (going o T U r)
       go false w = processPlainExpr-good i m e w k K o T U r

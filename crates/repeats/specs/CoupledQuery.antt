@@ -13,9 +13,11 @@ use Rattle.trees.specs.Statements.{Stmt, stmtsOf}
 use Rattle.scopes.specs.NameSets.{elements}
 use Rattle.scopes.specs.Scopes.{Scope, owns, addInput, useInput}
 use Rattle.analysis.specs.States.{sound, QuerySchedule, Run, State, ifSound}
-use Rattle.analysis.specs.Queries.{outputScope, scheduled}
+use Rattle.analysis.specs.Queries.{outputScope, scheduled, outputCompr, analyzeOutputExpr, analyzeQuery}
 use Rattle.repeats.specs.SameOuter.{SameOwn}
-use Rattle.repeats.specs.Ways.{Way, propagateBy, processStmtsBy, outputComprBy, analyzeOutputExprBy, analyzeQueryBy}
+use Rattle.analysis.specs.Ways.{Way}
+use Rattle.analysis.specs.Comprs.{propagate}
+use Rattle.analysis.specs.Statements.{processStmts}
 use Rattle.repeats.specs.Members.{Within, mem-concatMap}
 use Rattle.repeats.specs.Beside.{isSound, Own, stateOf, Tables, Beside, failed, going, Good, ifSound-failed, turn-at, turn, beside-map, fold-beside, own-useInput, own-addInputs, setScope-beside}
 use Rattle.repeats.specs.CoupledStmts.{Pairs, anywhere, StmtCoupling, processStmts-beside}
@@ -43,9 +45,9 @@ module _ (sheet : Sheet) (way way′ : Way) where
   module _ (C : List Tree) (c : OutputCoupling way way′ C) where
     -- What a known comprehension propagates.
     propagate-good : (e : Tree)
-        → Good (c .known e) (c .known e) (λ t. propagateBy sheet way (outputScope (t .scope)) e t)
-        (λ t. propagateBy sheet way′ (outputScope (t .scope)) e t)
-    unfolding propagateBy
+        → Good (c .known e) (c .known e) (λ t. propagate sheet way (outputScope (t .scope)) e t)
+        (λ t. propagate sheet way′ (outputScope (t .scope)) e t)
+    unfolding propagate
     propagate-good e o T U r =
         let F : Scope → Scope = λ x.
         foldl addInput (useInput (x .usesInput) (o .scope)) (filter (λ y. not (owns (o .scope) y)) (elements (x .inputs))) in
@@ -58,22 +60,22 @@ module _ (sheet : Sheet) (way way′ : Way) where
 
     -- A comprehension of an output.
     outputCompr-beside : (e : Tree) → List·Memᴰ e C → {s u : State} → Beside (c .ω) s u
-        → Beside (c .ω) (outputComprBy sheet way s e) (outputComprBy sheet way′ u e)
-    unfolding outputComprBy
+        → Beside (c .ω) (outputCompr sheet way s e) (outputCompr sheet way′ u e)
+    unfolding outputCompr
     outputCompr-beside e m b =
         beside-map (c .known e) (c .ω) (c .forget e)
-        (turn (c .known e) (c .known e) (λ t. propagateBy sheet way (outputScope (t .scope)) e t)
-        (λ t. propagateBy sheet way′ (outputScope (t .scope)) e t) (propagate-good e)
+        (turn (c .known e) (c .known e) (λ t. propagate sheet way (outputScope (t .scope)) e t)
+        (λ t. propagate sheet way′ (outputScope (t .scope)) e t) (propagate-good e)
         (turn-at (c .ω) (c .known e) (λ s. way .compr (outputScope (s .scope)) e) (λ s. way′ .compr (outputScope (s .scope)) e) (c .enter e m) b))
 
     -- The outputs, in order.
     outputs-beside : (outputs : List Tree) → Within (concatMap comprs outputs) C → {s u : State} → Beside (c .ω) s u
-        → Beside (c .ω) (foldl (analyzeOutputExprBy sheet way) s outputs) (foldl (analyzeOutputExprBy sheet way′) u outputs)
-    unfolding analyzeOutputExprBy
+        → Beside (c .ω) (foldl (analyzeOutputExpr sheet way) s outputs) (foldl (analyzeOutputExpr sheet way′) u outputs)
+    unfolding analyzeOutputExpr
     outputs-beside outputs h b =
-        fold-beside (c .ω) (analyzeOutputExprBy sheet way) (analyzeOutputExprBy sheet way′) outputs
+        fold-beside (c .ω) (analyzeOutputExpr sheet way) (analyzeOutputExpr sheet way′) outputs
         (λ t m s u b′.
-        fold-beside (c .ω) (outputComprBy sheet way) (outputComprBy sheet way′) (comprs t)
+        fold-beside (c .ω) (outputCompr sheet way) (outputCompr sheet way′) (comprs t)
         (λ e n s′ u′ b″. outputCompr-beside e (h e (mem-concatMap comprs outputs t m e n)) b″) b′) b
 
   -- States side by side end side by side.
@@ -90,19 +92,19 @@ module _ (sheet : Sheet) (way way′ : Way) where
       → ((st : Stmt) (stmts : List Stmt) → StmtCoupling sheet way way′ st (Start (st ∷ stmts)) (Start stmts)) → (q : ℕ) (outputs : List Tree)
       (c : OutputCoupling way way′ (concatMap comprs outputs)) → ((sc : Scope) (T U : List QuerySchedule) → Start [] T U → c .ω sc T U)
       → (T U : List QuerySchedule) → Start (stmtsOf sheet q) T U
-      → Ended (c .ω) q (length (stmtsOf sheet q)) (analyzeQueryBy sheet way q outputs (record { schedules = T; fault = sound }))
-      (analyzeQueryBy sheet way′ q outputs (record { schedules = U; fault = sound }))
-  unfolding analyzeQueryBy
+      → Ended (c .ω) q (length (stmtsOf sheet q)) (analyzeQuery sheet way q outputs (record { schedules = T; fault = sound }))
+      (analyzeQuery sheet way′ q outputs (record { schedules = U; fault = sound }))
+  unfolding analyzeQuery
   query-ended extras starts Start steps q outputs c last T U r =
       let stmts = stmtsOf sheet q in
       let own : Own = record { scope = way .start stmts outputs; firstUses = []; definitions = [] } in
       let F : Scope → Run = λ sc.
       let begin : State = record { scope = sc; firstUses = []; definitions = []; run = record { schedules = U; fault = sound } } in
-      let s = foldl (analyzeOutputExprBy sheet way′) (processStmtsBy sheet way′ 0 stmts begin) outputs in
+      let s = foldl (analyzeOutputExpr sheet way′) (processStmts sheet way′ 0 stmts begin) outputs in
       ifSound (s .run .fault) (scheduled q (length stmts) s) (s .run) in
       subst
       (λ (sc : Scope).
-      Ended (c .ω) q (length stmts) (analyzeQueryBy sheet way q outputs (record { schedules = T; fault = sound })) (F sc))
+      Ended (c .ω) q (length stmts) (analyzeQuery sheet way q outputs (record { schedules = T; fault = sound })) (F sc))
       (ap (λ (f : List Stmt → List Tree → Scope). f stmts outputs) starts)
       (ended-of (c .ω) q (length stmts)
       (outputs-beside (concatMap comprs outputs) c outputs (λ e m. m)

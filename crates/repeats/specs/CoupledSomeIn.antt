@@ -12,9 +12,9 @@ use Rattle.scopes.specs.Scopes.{spanOf}
 use Rattle.uses.specs.Uses.{define, usedVars, indexDefinitions}
 use Rattle.analysis.specs.States.{State, addFirstUses, addDefinitions}
 use Rattle.analysis.specs.Using.{gatherUsedVars, recordOne}
-use Rattle.analysis.specs.Comprs.{Mods}
-use Rattle.analysis.specs.SomeIn.{someVarsIn, nonVars, failIfSome}
-use Rattle.repeats.specs.Ways.{Way, allUsedBy, processComprBy, processComprsBy, processNonVarBy, processSomeInBy}
+use Rattle.analysis.specs.Comprs.{Mods, allUsed, processCompr, processComprs}
+use Rattle.analysis.specs.SomeIn.{someVarsIn, nonVars, failIfSome, processNonVar, processSomeIn}
+use Rattle.analysis.specs.Ways.{Way}
 use Rattle.repeats.specs.Members.{Within, mem-left, mem-right, within-append, mem-concatMap, concatMap-agree}
 use Rattle.repeats.specs.Beside.{stateOf, Beside, going, Good, turn, beside-map, gatherUsedVars-good, addFirstUses-beside, addDefinitions-beside, recordOne-beside, failIfSome-good}
 use Rattle.repeats.specs.CoupledComprs.{Coupling, processComprs-beside, forget, useExpr-good, allUsed-same}
@@ -22,11 +22,11 @@ use Rattle.repeats.specs.CoupledComprs.{Coupling, processComprs-beside, 
 module _ (sheet : Sheet) (way way′ : Way) (C : List Tree) (c : Coupling way way′ C) where
   -- What is left of a pattern, one by one.
   processNonVar-beside : (i : ℕ) (m : Mods) (e : Tree) → Within (comprs e ++ m .comprs) C → (K : List Tree) {s u : State} → Beside (c .ρ K) s u
-      → Beside (c .ρ ((comprs e ++ m .comprs) ++ K)) (processNonVarBy sheet way i m s e) (processNonVarBy sheet way′ i m u e)
-  unfolding processNonVarBy processComprsBy
+      → Beside (c .ρ ((comprs e ++ m .comprs) ++ K)) (processNonVar sheet way i m s e) (processNonVar sheet way′ i m u e)
+  unfolding processNonVar processComprs
   processNonVar-beside i m e h K b =
       let cs = comprs e ++ m .comprs in
-      turn (c .ρ K) (c .ρ (cs ++ K)) (λ s. foldl (processComprBy sheet way) s cs) (λ s. foldl (processComprBy sheet way′) s cs)
+      turn (c .ρ K) (c .ρ (cs ++ K)) (λ s. foldl (processCompr sheet way) s cs) (λ s. foldl (processCompr sheet way′) s cs)
       (λ p A B x. processComprs-beside sheet way way′ C c cs h K (going p A B x))
       (turn (c .ρ K) (c .ρ K) (λ t. failIfSome (indexDefinitions sheet (t .scope) [] i e) t)
       (λ t. failIfSome (indexDefinitions sheet (t .scope) [] i e) t)
@@ -41,7 +41,7 @@ module _ (sheet : Sheet) (way way′ : Way) (C : List Tree) (c : Coupling way wa
   -- All that is left of a pattern.
   processNonVars-beside : (i : ℕ) (m : Mods) (others : List Tree) → ((e : Tree) → List·Memᴰ e others → Within (comprs e ++ m .comprs) C)
       → (K : List Tree) {s u : State} → Beside (c .ρ K) s u
-      → Beside (c .ρ (allComprs m others ++ K)) (foldl (processNonVarBy sheet way i m) s others) (foldl (processNonVarBy sheet way′ i m) u others)
+      → Beside (c .ρ (allComprs m others ++ K)) (foldl (processNonVar sheet way i m) s others) (foldl (processNonVar sheet way′ i m) u others)
   unfolding allComprs
   processNonVars-beside i m [] h K b = b
   processNonVars-beside i m (e ∷ others) h K b =
@@ -57,8 +57,8 @@ module _ (sheet : Sheet) (way way′ : Way) (C : List Tree) (c : Coupling way wa
   -- `some .. in ..`.
   pub processSomeIn-good : (i : ℕ) (m : Mods) (pattern : List Tree) (collection : Tree) → Within (comprs collection) C
       → Within (concatMap comprs pattern) C → Within (m .comprs) C → (K : List Tree)
-      → Good (c .ρ K) (c .ρ K) (processSomeInBy sheet way i m pattern collection) (processSomeInBy sheet way′ i m pattern collection)
-  unfolding processSomeInBy allComprs nonVars
+      → Good (c .ρ K) (c .ρ K) (processSomeIn sheet way i m pattern collection) (processSomeIn sheet way′ i m pattern collection)
+  unfolding processSomeIn allComprs nonVars
   processSomeIn-good i m pattern collection h p k K o T U r =
       let cs = comprs collection ++ m .comprs in
       let L = cs ++ K in
@@ -68,17 +68,17 @@ module _ (sheet : Sheet) (way way′ : Way) (C : List Tree) (c : Coupling way wa
       let later : Mods = record { usedVars = []; comprs = m .comprs } in
       forget sheet way way′ C c cs K
       (forget sheet way way′ C c N L
-      (turn (c .ρ (N ++ L)) (c .ρ (N ++ L)) (λ t. recordOne i 0 (concatMap (λ e. allUsedBy sheet way [] later e t) others) t)
-      (λ t. recordOne i 0 (concatMap (λ e. allUsedBy sheet way′ [] later e t) others) t)
+      (turn (c .ρ (N ++ L)) (c .ρ (N ++ L)) (λ t. recordOne i 0 (concatMap (λ e. allUsed sheet way [] later e t) others) t)
+      (λ t. recordOne i 0 (concatMap (λ e. allUsed sheet way′ [] later e t) others) t)
       (λ q A B z.
       recordOne-beside (c .ρ (N ++ L)) (c .again (N ++ L)) i 0
-      (concatMap (λ e. allUsedBy sheet way [] later e (stateOf q A)) others)
-      (concatMap (λ e. allUsedBy sheet way′ [] later e (stateOf q B)) others)
-      (concatMap-agree (λ e. allUsedBy sheet way [] later e (stateOf q A)) (λ e. allUsedBy sheet way′ [] later e (stateOf q B)) others
+      (concatMap (λ e. allUsed sheet way [] later e (stateOf q A)) others)
+      (concatMap (λ e. allUsed sheet way′ [] later e (stateOf q B)) others)
+      (concatMap-agree (λ e. allUsed sheet way [] later e (stateOf q A)) (λ e. allUsed sheet way′ [] later e (stateOf q B)) others
       (λ e n.
       allUsed-same sheet way way′ C c [] later e (N ++ L)
       (λ d x. mem-left N L d (mem-concatMap (λ f. comprs f ++ m .comprs) others e n d x)) q A B z)) q A B z)
-      (turn (c .ρ L) (c .ρ (N ++ L)) (λ t. foldl (processNonVarBy sheet way i m) t others) (λ t. foldl (processNonVarBy sheet way′ i m) t others)
+      (turn (c .ρ L) (c .ρ (N ++ L)) (λ t. foldl (processNonVar sheet way i m) t others) (λ t. foldl (processNonVar sheet way′ i m) t others)
       (λ q A B z.
       processNonVars-beside i m others
       (λ e n.
@@ -87,12 +87,12 @@ module _ (sheet : Sheet) (way way′ : Way) (C : List Tree) (c : Coupling way wa
       (turn (c .ρ L) (c .ρ L) (addFirstUses (map spanOf names)) (addFirstUses (map spanOf names))
       (λ q A B z. addFirstUses-beside (c .ρ L) (c .again L) (map spanOf names) (map spanOf names) refl q A B z)
       (turn (c .ρ L) (c .ρ L)
-      (λ t. addDefinitions (map (λ (w : Row). define i (w .name) (allUsedBy sheet way [] m collection t)) names) t)
-      (λ t. addDefinitions (map (λ (w : Row). define i (w .name) (allUsedBy sheet way′ [] m collection t)) names) t)
+      (λ t. addDefinitions (map (λ (w : Row). define i (w .name) (allUsed sheet way [] m collection t)) names) t)
+      (λ t. addDefinitions (map (λ (w : Row). define i (w .name) (allUsed sheet way′ [] m collection t)) names) t)
       (λ q A B z.
       addDefinitions-beside (c .ρ L) (c .again L)
-      (map (λ (w : Row). define i (w .name) (allUsedBy sheet way [] m collection (stateOf q A))) names)
-      (map (λ (w : Row). define i (w .name) (allUsedBy sheet way′ [] m collection (stateOf q B))) names)
+      (map (λ (w : Row). define i (w .name) (allUsed sheet way [] m collection (stateOf q A))) names)
+      (map (λ (w : Row). define i (w .name) (allUsed sheet way′ [] m collection (stateOf q B))) names)
       (ap (λ (l : List ℕ). map (λ (w : Row). define i (w .name) l) names)
       (allUsed-same sheet way way′ C c [] m collection L (mem-left cs K) q A B z)) q A B z)
       (useExpr-good sheet way way′ C c i [] m collection (within-append (comprs collection) (m .comprs) C h k) K o T U r))))))

@@ -12,9 +12,10 @@ use Rattle.trees.specs.Statements.{Literal, someVars, someIn, expr, notExpr, ev
 use Rattle.scopes.specs.Scopes.{Scope, noScope, addLocal, addUnscoped}
 use Rattle.analysis.specs.States.{QuerySchedule, State, setScope, inTurn}
 use Rattle.analysis.specs.Using.{gatherUsedVars, checkFirstUse, recordEach, atLeastOne}
-use Rattle.analysis.specs.Comprs.{Mods}
-use Rattle.analysis.specs.Statements.{modsOf}
-use Rattle.repeats.specs.Ways.{Way, allUsedBy, useExprBy, processExtraArgBy, processCallBy, processEveryBy, processLiteralBy, processStmtBy, processStmtsBy}
+use Rattle.analysis.specs.Comprs.{Mods, allUsed, useExpr}
+use Rattle.analysis.specs.Statements.{modsOf, processEvery, processLiteral, processStmt, processStmts}
+use Rattle.analysis.specs.Ways.{Way}
+use Rattle.analysis.specs.Exprs.{processExtraArg, processCall}
 use Rattle.repeats.specs.Members.{Within, mem-left, mem-right, within-append}
 use Rattle.repeats.specs.Places.{callComprs, literalComprs, stmtComprs, bodyOf}
 use Rattle.repeats.specs.Beside.{Own, stateOf, Tables, Beside, going, Good, turn, beside-map, fold-beside, gatherUsedVars-good, checkFirstUse-beside, recordEach-beside, atLeastOne-good}
@@ -45,9 +46,9 @@ module _ (sheet : Sheet) (way way′ : Way) (extras : (arg : Tree) → way .extr
     extraArg-beside : (i : ℕ) (m : Mods) (e : Tree) (xs : List ℕ) → Within (comprs e) C → Within (m .comprs) C
         → (o : Own) (T U : List QuerySchedule) → ((sc : Scope) → c .ρ [] sc T U)
         → Beside (c .ρ [])
-        (inTurn (useExprBy sheet way i xs m e ∷ (λ t. recordEach i xs (λ x. allUsedBy sheet way xs m e t) t) ∷ [])
+        (inTurn (useExpr sheet way i xs m e ∷ (λ t. recordEach i xs (λ x. allUsed sheet way xs m e t) t) ∷ [])
         (setScope (foldl addUnscoped (o .scope) xs) (stateOf o T)))
-        (inTurn (useExprBy sheet way′ i xs m e ∷ (λ t. recordEach i xs (λ x. allUsedBy sheet way′ xs m e t) t) ∷ [])
+        (inTurn (useExpr sheet way′ i xs m e ∷ (λ t. recordEach i xs (λ x. allUsed sheet way′ xs m e t) t) ∷ [])
         (setScope (foldl addUnscoped (o .scope) xs) (stateOf o U)))
     unfolding setScope
     extraArg-beside i m e xs h k o T U r =
@@ -56,24 +57,24 @@ module _ (sheet : Sheet) (way way′ : Way) (extras : (arg : Tree) → way .extr
         let sc = foldl addUnscoped (o .scope) xs in
         let p : Own = record { scope = sc; firstUses = o .firstUses; definitions = o .definitions } in
         forget sheet way way′ C c cs []
-        (turn (c .ρ L) (c .ρ L) (λ t. recordEach i xs (λ x. allUsedBy sheet way xs m e t) t)
-        (λ t. recordEach i xs (λ x. allUsedBy sheet way′ xs m e t) t)
+        (turn (c .ρ L) (c .ρ L) (λ t. recordEach i xs (λ x. allUsed sheet way xs m e t) t)
+        (λ t. recordEach i xs (λ x. allUsed sheet way′ xs m e t) t)
         (λ q A B z.
-        recordEach-beside (c .ρ L) (c .again L) i xs (λ x. allUsedBy sheet way xs m e (stateOf q A)) (λ x. allUsedBy sheet way′ xs m e (stateOf q B))
+        recordEach-beside (c .ρ L) (c .again L) i xs (λ x. allUsed sheet way xs m e (stateOf q A)) (λ x. allUsed sheet way′ xs m e (stateOf q B))
         (ap {B = ℕ → List ℕ} (λ (l : List ℕ) (x : ℕ). l) (allUsed-same sheet way way′ C c xs m e L (mem-left cs []) q A B z)) q A B z)
         (useExpr-good sheet way way′ C c i xs m e (within-append (comprs e) (m .comprs) C h k) [] p T U (r sc)))
 
     -- An expression, with its extra argument if it has one.
     processCall-beside : (arg : Option Tree) (i : ℕ) (m : Mods) (e : Tree) → Within (callComprs arg e) C → Within (m .comprs) C
         → (o : Own) (T U : List QuerySchedule) → ((sc : Scope) → c .ρ [] sc T U)
-        → Beside (c .ρ []) (processCallBy sheet way arg i m e (stateOf o T)) (processCallBy sheet way′ arg i m e (stateOf o U))
-    unfolding processCallBy processExtraArgBy
+        → Beside (c .ρ []) (processCall sheet way arg i m e (stateOf o T)) (processCall sheet way′ arg i m e (stateOf o U))
+    unfolding processCall processExtraArg
     processCall-beside none i m e h k o T U r = processExpr-good sheet way way′ C c i m e h k [] o T U (r (o .scope))
     processCall-beside (some arg) i m e h k o T U r =
         let F : List ℕ → State = λ xs.
-        inTurn (useExprBy sheet way′ i xs m e ∷ (λ t. recordEach i xs (λ x. allUsedBy sheet way′ xs m e t) t) ∷ [])
+        inTurn (useExpr sheet way′ i xs m e ∷ (λ t. recordEach i xs (λ x. allUsed sheet way′ xs m e t) t) ∷ [])
         (setScope (foldl addUnscoped (o .scope) xs) (stateOf o U)) in
-        subst (λ (xs : List ℕ). Beside (c .ρ []) (processExtraArgBy sheet way i m e arg (stateOf o T)) (F xs)) (extras arg)
+        subst (λ (xs : List ℕ). Beside (c .ρ []) (processExtraArg sheet way i m e arg (stateOf o T)) (F xs)) (extras arg)
         (extraArg-beside i m e (way .extraVars arg) h k o T U r)
 
   module _ (st : Stmt) (before after : Pairs) (c : StmtCoupling sheet way way′ st before after) where
@@ -84,8 +85,8 @@ module _ (sheet : Sheet) (way way′ : Way) (extras : (arg : Tree) → way .extr
     -- A literal.
     processLiteral-good : (i : ℕ) (m : Mods) (l : Literal) → st .literal ≡ l → Within (literalComprs sheet l) (stmtComprs sheet st)
         → Within (m .comprs) (stmtComprs sheet st)
-        → Good (anywhere before) (anywhere after) (processLiteralBy sheet way i m l) (processLiteralBy sheet way′ i m l)
-    unfolding processLiteralBy literalComprs processEveryBy
+        → Good (anywhere before) (anywhere after) (processLiteral sheet way i m l) (processLiteral sheet way′ i m l)
+    unfolding processLiteral literalComprs processEvery
     processLiteral-good i m (someVars vs) e h k o T U r =
         ends (ap bodyOf e)
         (fold-beside (c .coupling .ρ []) checkFirstUse checkFirstUse (vars (chain vs))
@@ -109,14 +110,14 @@ module _ (sheet : Sheet) (way way′ : Way) (extras : (arg : Tree) → way .extr
         (processPlainExpr-good sheet way way′ (stmtComprs sheet st) (c .coupling) i m domain h k [] o T U (c .begin (o .scope) T U r))
 
     -- A statement with its modifiers.
-    processStmt-good : (i : ℕ) → Good (anywhere before) (anywhere after) (processStmtBy sheet way i st) (processStmtBy sheet way′ i st)
-    unfolding processStmtBy modsOf stmtComprs
+    processStmt-good : (i : ℕ) → Good (anywhere before) (anywhere after) (processStmt sheet way i st) (processStmt sheet way′ i st)
+    unfolding processStmt modsOf stmtComprs
     processStmt-good i o T U r =
         let G : State → Tree → State = λ s e. inTurn (gatherUsedVars sheet i [] e ∷ []) s in
         let mods = concatMap comprs (st .withMods) in
         turn (anywhere after) (anywhere after) (atLeastOne i) (atLeastOne i) (atLeastOne-good (anywhere after) (λ a b A B x y. y) i)
-        (turn (anywhere before) (anywhere after) (λ t. processLiteralBy sheet way i (modsOf sheet (t .scope) (st .withMods)) (st .literal) t)
-        (λ t. processLiteralBy sheet way′ i (modsOf sheet (t .scope) (st .withMods)) (st .literal) t)
+        (turn (anywhere before) (anywhere after) (λ t. processLiteral sheet way i (modsOf sheet (t .scope) (st .withMods)) (st .literal) t)
+        (λ t. processLiteral sheet way′ i (modsOf sheet (t .scope) (st .withMods)) (st .literal) t)
         (λ p A B z.
         processLiteral-good i (modsOf sheet (p .scope) (st .withMods)) (st .literal) refl
         (mem-right mods (literalComprs sheet (st .literal))) (mem-left mods (literalComprs sheet (st .literal))) p A B z)
@@ -129,10 +130,10 @@ module _ (sheet : Sheet) (way way′ : Way) (extras : (arg : Tree) → way .extr
   pub processStmts-beside : (Start : List Stmt → Pairs)
       → ((st : Stmt) (stmts : List Stmt) → StmtCoupling sheet way way′ st (Start (st ∷ stmts)) (Start stmts))
       → (stmts : List Stmt) (i : ℕ) {s u : State} → Beside (anywhere (Start stmts)) s u
-      → Beside (anywhere (Start [])) (processStmtsBy sheet way i stmts s) (processStmtsBy sheet way′ i stmts u)
-  unfolding processStmtsBy
+      → Beside (anywhere (Start [])) (processStmts sheet way i stmts s) (processStmts sheet way′ i stmts u)
+  unfolding processStmts
   processStmts-beside Start h [] i b = b
   processStmts-beside Start h (st ∷ stmts) i b =
       processStmts-beside Start h stmts (suc i)
-      (turn (anywhere (Start (st ∷ stmts))) (anywhere (Start stmts)) (processStmtBy sheet way i st) (processStmtBy sheet way′ i st)
+      (turn (anywhere (Start (st ∷ stmts))) (anywhere (Start stmts)) (processStmt sheet way i st) (processStmt sheet way′ i st)
       (processStmt-good st (Start (st ∷ stmts)) (Start stmts) (h st stmts) i) b)

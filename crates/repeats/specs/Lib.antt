@@ -8,10 +8,9 @@ pub mod OnceLists
 pub mod OnceSets
 pub mod BracketRepeats
 pub mod SameOuter
-pub mod Ways
 pub mod MemoWay
 pub mod SameParents
-pub mod RustWay
+pub mod RustSame
 pub mod Beside
 pub mod RustGather
 pub mod Places

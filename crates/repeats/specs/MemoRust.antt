@@ -18,14 +18,14 @@ use Rattle.trees.specs.Statements.{Stmt, stmtsOf}
 use Rattle.scopes.specs.Scopes.{Scope, Span, addUnscoped}
 use Rattle.scopes.specs.NameSets.{insert}
 use Rattle.analysis.specs.States.{Fault, sound, QuerySchedule, Run, State, scheduleOf, scopeIn, setRun}
-use Rattle.analysis.specs.Comprs.{Nested, unlessScheduled, analyzeCompr}
-use Rattle.analysis.specs.Exprs.{extraVars}
-use Rattle.analysis.specs.Queries.{outputScope, analyze}
+use Rattle.once.specs.Comprs.{Nested, unlessScheduled, analyzeCompr}
+use Rattle.once.specs.Exprs.{extraVars}
+use Rattle.analysis.specs.Queries.{outputScope, analyzeQuery}
+use Rattle.once.specs.Queries.{analyzeOnce}
 use Rattle.repeats.specs.SameOuter.{SameOwn}
 use Rattle.repeats.specs.Distinct.{distinct, apart-sym, elem-left, elem-right, distinct-left, distinct-right, distinct-apart, elem-concatMap, distinct-part}
-use Rattle.repeats.specs.Ways.{analyzeQueryBy}
 use Rattle.repeats.specs.MemoWay.{memoWay, analyzeQuery-memo}
-use Rattle.repeats.specs.RustWay.{noRun, take, rustWay, rustAnalyze}
+use Rattle.analysis.specs.RustWay.{noRun, take, rustWay, analyze}
 use Rattle.repeats.specs.Places.{stmtComprs, bodyOf, comprFamily, named, family}
 use Rattle.repeats.specs.Beside.{isSound, Own, stateOf, Tables, Beside, failed, going}
 use Rattle.repeats.specs.CoupledStmts.{StmtCoupling}
@@ -55,9 +55,9 @@ setRun-sound r o T h =
 
 -- A comprehension whose run is held is skipped.
 memo-held : (levels : ℕ) (sheet : Sheet) (parents ps : List Scope) (e : Tree) (o : Own) (T : List QuerySchedule)
-    → Held (rustAnalyze levels sheet ps (rowOf e .third) (outputsOf e)) (rowOf e .third) T
-    → analyzeCompr sheet (λ os q outputs r. analyze levels sheet os q outputs r) parents ps e (stateOf o T) ≡ stateOf o T
-unfolding analyzeCompr analyze setRun
+    → Held (analyze levels sheet ps (rowOf e .third) (outputsOf e)) (rowOf e .third) T
+    → analyzeCompr sheet (λ os q outputs r. analyzeOnce levels sheet os q outputs r) parents ps e (stateOf o T) ≡ stateOf o T
+unfolding analyzeCompr analyzeOnce setRun
 memo-held zero sheet parents ps e o T h = go (scheduleOf T (rowOf e .third))
   where
     go : (a : Option QuerySchedule) → unlessScheduled a (λ t. t) (stateOf o T) ≡ stateOf o T
@@ -66,7 +66,7 @@ memo-held zero sheet parents ps e o T h = go (scheduleOf T (rowOf e .third))
 memo-held (suc levels) sheet parents ps e o T h =
     go (scheduleOf T (rowOf e .third))
     (ap isSome (h .look) ∙ rust-own levels sheet ps (rowOf e .third) (outputsOf e) (h .isSound))
-    (λ t. setRun (analyze (suc levels) sheet ps (rowOf e .third) (outputsOf e) (t .run)) t)
+    (λ t. setRun (analyzeOnce (suc levels) sheet ps (rowOf e .third) (outputsOf e) (t .run)) t)
   where
     go : (a : Option QuerySchedule) → isSome a ≡ true → (f : State → State) → unlessScheduled a f (stateOf o T) ≡ stateOf o T
     go none n f = absurd (not-both n refl)
@@ -94,15 +94,15 @@ own-outputScope a b h =
 module _ (levels : ℕ) (sheet : Sheet)
     (claim : (ps : List Scope) (q : ℕ) (outputs : List Tree) (T : List QuerySchedule) → distinct (family levels sheet q outputs) ≡ true
     → Fresh (family levels sheet q outputs) T
-    → Agree T (analyze levels sheet ps q outputs (record { schedules = T; fault = sound })) (rustAnalyze levels sheet ps q outputs))
+    → Agree T (analyzeOnce levels sheet ps q outputs (record { schedules = T; fault = sound })) (analyze levels sheet ps q outputs))
     (parents : List Scope) (T₀ : List QuerySchedule) where
   -- The definitions' analysis of what is nested.
   abbrev nested : Nested
-  nested os q outputs r = analyze levels sheet os q outputs r
+  nested os q outputs r = analyzeOnce levels sheet os q outputs r
 
   -- The Rust's.
   abbrev answer : List Scope → ℕ → List Tree → Run
-  answer os q outputs = rustAnalyze levels sheet os q outputs
+  answer os q outputs = analyze levels sheet os q outputs
 
   -- The run that the definitions' analysis of a fresh query gives, beside the Rust's.
   entered : (σ : Tables) (ps : List Scope) (q : ℕ) (ts : List Tree) (o : Own) (T U : List QuerySchedule) → distinct (family levels sheet q ts) ≡ true
@@ -247,8 +247,8 @@ module _ (levels : ℕ) (sheet : Sheet)
   -- The claim, one level up.
   agree-more : (q : ℕ) (outputs : List Tree) → distinct (q ∷ named (family levels sheet) sheet (stmtsOf sheet q) outputs) ≡ true
       → Fresh (q ∷ named (family levels sheet) sheet (stmtsOf sheet q) outputs) T₀
-      → Agree T₀ (analyzeQueryBy sheet (memoWay sheet nested parents) q outputs (record { schedules = T₀; fault = sound }))
-      (analyzeQueryBy sheet (rustWay sheet answer parents) q outputs noRun)
+      → Agree T₀ (analyzeQuery sheet (memoWay sheet nested parents) q outputs (record { schedules = T₀; fault = sound }))
+      (analyzeQuery sheet (rustWay sheet answer parents) q outputs noRun)
   unfolding memoWay rustWay extraVars output-coupling
   agree-more q outputs d f =
       let ns = named (family levels sheet) sheet (stmtsOf sheet q) outputs in
@@ -260,12 +260,12 @@ module _ (levels : ℕ) (sheet : Sheet)
 -- The definitions' analysis of a query and the Rust's agree, where each query at and below it stands at one place and has no schedule yet.
 pub analyze-agree : (levels : ℕ) (sheet : Sheet) (ps : List Scope) (q : ℕ) (outputs : List Tree) (T : List QuerySchedule)
     → distinct (family levels sheet q outputs) ≡ true → Fresh (family levels sheet q outputs) T
-    → Agree T (analyze levels sheet ps q outputs (record { schedules = T; fault = sound })) (rustAnalyze levels sheet ps q outputs)
-unfolding analyze rustAnalyze family
+    → Agree T (analyzeOnce levels sheet ps q outputs (record { schedules = T; fault = sound })) (analyze levels sheet ps q outputs)
+unfolding analyzeOnce analyze family
 analyze-agree zero sheet ps q outputs T d f = agreed refl refl (λ x. refl)
 analyze-agree (suc levels) sheet ps q outputs T d f =
     subst
     (λ (g : ℕ → List Tree → Run → Run).
-    Agree T (g q outputs (record { schedules = T; fault = sound })) (rustAnalyze (suc levels) sheet ps q outputs))
-    (sym (analyzeQuery-memo sheet (λ os b ts r. analyze levels sheet os b ts r) ps))
+    Agree T (g q outputs (record { schedules = T; fault = sound })) (analyze (suc levels) sheet ps q outputs))
+    (sym (analyzeQuery-memo sheet (λ os b ts r. analyzeOnce levels sheet os b ts r) ps))
     (agree-more levels sheet (λ os b ts U. analyze-agree levels sheet os b ts U) ps T q outputs d f)

@@ -15,12 +15,17 @@ use Rattle.scopes.specs.Scopes.{Scope}
 use Rattle.scopes.specs.GatherLocals.{gatherLocalVars}
 use Rattle.analysis.specs.States.{State, setRun, ifSound, inTurn}
 use Rattle.analysis.specs.Using.{gatherUsedVars, atLeastOne}
-use Rattle.analysis.specs.Comprs.{Nested, Mods, comprScope, comprInputs, propagate, comprsUse, useCompr, allUsed, analyzeCompr, processCompr, processComprs, useExpr}
-use Rattle.analysis.specs.Exprs.{Pairing, pair, mismatch, pairings, assignOneWay, assignPairing, processAssignExpr, processPlainExpr, processExpr, extraVars, processExtraArg, processCall}
-use Rattle.analysis.specs.SomeIn.{processNonVar, processSomeIn}
-use Rattle.analysis.specs.Statements.{modsOf, processEvery, processLiteral, processStmt, processStmts}
-use Rattle.analysis.specs.Queries.{scheduled, outputCompr, analyzeOutputExpr, analyzeQuery}
-use Rattle.repeats.specs.Ways.{Way, propagateBy, comprsUseBy, useComprBy, allUsedBy, processComprBy, processComprsBy, useExprBy, assignOneWayBy, assignPairingBy, processAssignExprBy, processPlainExprBy, processExprBy, processExtraArgBy, processCallBy, processNonVarBy, processSomeInBy, processEveryBy, processLiteralBy, processStmtBy, processStmtsBy, outputComprBy, analyzeOutputExprBy, analyzeQueryBy}
+use Rattle.analysis.specs.Comprs.{Mods, propagate as propagateBy, comprsUse as comprsUseBy, useCompr as useComprBy, allUsed as allUsedBy, processCompr as processComprBy, processComprs as processComprsBy, useExpr as useExprBy}
+use Rattle.once.specs.Comprs.{Nested, comprScope, comprInputs, propagate, comprsUse, useCompr, allUsed, analyzeCompr, processCompr, processComprs, useExpr}
+use Rattle.analysis.specs.Exprs.{Pairing, pair, mismatch, pairings, assignOneWay as assignOneWayBy, assignPairing as assignPairingBy, processAssignExpr as processAssignExprBy, processPlainExpr as processPlainExprBy, processExpr as processExprBy, processExtraArg as processExtraArgBy, processCall as processCallBy}
+use Rattle.once.specs.Exprs.{assignOneWay, assignPairing, processAssignExpr, processPlainExpr, processExpr, extraVars, processExtraArg, processCall}
+use Rattle.once.specs.SomeIn.{processNonVar, processSomeIn}
+use Rattle.analysis.specs.Statements.{modsOf, processEvery as processEveryBy, processLiteral as processLiteralBy, processStmt as processStmtBy, processStmts as processStmtsBy}
+use Rattle.once.specs.Statements.{processEvery, processLiteral, processStmt, processStmts}
+use Rattle.analysis.specs.Queries.{scheduled, outputCompr as outputComprBy, analyzeOutputExpr as analyzeOutputExprBy, analyzeQuery as analyzeQueryBy}
+use Rattle.once.specs.Queries.{outputCompr, analyzeOutputExpr, analyzeQuery}
+use Rattle.analysis.specs.Ways.{Way}
+use Rattle.analysis.specs.SomeIn.{processNonVar as processNonVarBy, processSomeIn as processSomeInBy}
 
 -- Its steps, from the definitions.
 unfoldable pub memoWay : Sheet → Nested → List Scope → Way

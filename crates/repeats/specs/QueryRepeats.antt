@@ -9,10 +9,10 @@ use Rattle.basics.specs.Truth.{not-both}
 use Rattle.records.specs.Layout.{deepest}
 use Rattle.trees.specs.Sheet.{Sheet}
 use Rattle.analysis.specs.States.{sound, QuerySchedule, scheduleOf}
-use Rattle.analysis.specs.Queries.{analyzeQuerySnippet, scheduleIn}
+use Rattle.once.specs.Queries.{analyzeQuerySnippetOnce, scheduleOnce}
 use Rattle.repeats.specs.Distinct.{distinct}
 use Rattle.repeats.specs.Places.{family}
-use Rattle.repeats.specs.RustWay.{rustAnalyzeQuerySnippet}
+use Rattle.analysis.specs.RustWay.{analyzeQuerySnippet}
 use Rattle.repeats.specs.Beside.{isSound}
 use Rattle.repeats.specs.MemoRust.{Agree, stopped, agreed, analyze-agree}
 
@@ -22,27 +22,27 @@ unfoldable pub queriesOnce : Sheet → Bool
 queriesOnce sheet = distinct (family deepest sheet 1 [])
 
 -- Both analyses of a sheet agree.
-snippet-agree : (sheet : Sheet) → queriesOnce sheet ≡ true → Agree [] (analyzeQuerySnippet sheet) (rustAnalyzeQuerySnippet sheet)
-unfolding queriesOnce analyzeQuerySnippet rustAnalyzeQuerySnippet
+snippet-agree : (sheet : Sheet) → queriesOnce sheet ≡ true → Agree [] (analyzeQuerySnippetOnce sheet) (analyzeQuerySnippet sheet)
+unfolding queriesOnce analyzeQuerySnippetOnce analyzeQuerySnippet
 snippet-agree sheet h = analyze-agree deepest sheet [] 1 [] [] h (λ x m. refl)
 
 -- The Rust's fault is that of the definitions.
-pub rust-fault : (sheet : Sheet) → queriesOnce sheet ≡ true → rustAnalyzeQuerySnippet sheet .fault ≡ analyzeQuerySnippet sheet .fault
+pub rust-fault : (sheet : Sheet) → queriesOnce sheet ≡ true → analyzeQuerySnippet sheet .fault ≡ analyzeQuerySnippetOnce sheet .fault
 rust-fault sheet h = go (snippet-agree sheet h)
   where
-    go : Agree [] (analyzeQuerySnippet sheet) (rustAnalyzeQuerySnippet sheet)
-        → rustAnalyzeQuerySnippet sheet .fault ≡ analyzeQuerySnippet sheet .fault
+    go : Agree [] (analyzeQuerySnippetOnce sheet) (analyzeQuerySnippet sheet)
+        → analyzeQuerySnippet sheet .fault ≡ analyzeQuerySnippetOnce sheet .fault
     go (stopped p q) = sym p
     go (agreed p q same) = q ∙ sym p
 
 -- Without a fault each query's schedule in the Rust's table, the last that it wrote, is that of the definitions: scope, count and definitions.
-pub rust-schedules : (sheet : Sheet) → queriesOnce sheet ≡ true → analyzeQuerySnippet sheet .fault ≡ sound
-    → (q : ℕ) → scheduleOf (rustAnalyzeQuerySnippet sheet .schedules) q ≡ scheduleIn sheet q
-unfolding scheduleIn
+pub rust-schedules : (sheet : Sheet) → queriesOnce sheet ≡ true → analyzeQuerySnippetOnce sheet .fault ≡ sound
+    → (q : ℕ) → scheduleOf (analyzeQuerySnippet sheet .schedules) q ≡ scheduleOnce sheet q
+unfolding scheduleOnce
 rust-schedules sheet h s q = go (snippet-agree sheet h)
   where
-    go : Agree [] (analyzeQuerySnippet sheet) (rustAnalyzeQuerySnippet sheet)
-        → scheduleOf (rustAnalyzeQuerySnippet sheet .schedules) q ≡ scheduleOf (analyzeQuerySnippet sheet .schedules) q
+    go : Agree [] (analyzeQuerySnippetOnce sheet) (analyzeQuerySnippet sheet)
+        → scheduleOf (analyzeQuerySnippet sheet .schedules) q ≡ scheduleOf (analyzeQuerySnippetOnce sheet .schedules) q
     go (stopped p n) = absurd (not-both refl (sym (ap isSound s) ∙ n))
     go (agreed p n same) =
-        ap (λ (l : List QuerySchedule). scheduleOf l q) (sym (append-nil (rustAnalyzeQuerySnippet sheet .schedules))) ∙ sym (same q)
+        ap (λ (l : List QuerySchedule). scheduleOf l q) (sym (append-nil (analyzeQuerySnippet sheet .schedules))) ∙ sym (same q)

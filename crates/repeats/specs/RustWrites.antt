@@ -20,7 +20,7 @@ use Rattle.analysis.specs.States.{Fault, sound, undefined, usedBefore, lengths,
 use Rattle.analysis.specs.Queries.{outputScope}
 use Rattle.repeats.specs.LookUps.{Only, only-append}
 use Rattle.repeats.specs.Distinct.{not-elem, elem-left, elem-right, elem-concatMap}
-use Rattle.repeats.specs.RustWay.{Answer, take, rustWay, rustAnalyze}
+use Rattle.analysis.specs.RustWay.{Answer, take, rustWay, analyze}
 use Rattle.repeats.specs.Places.{stmtComprs, bodyOf, comprFamily, named, family}
 use Rattle.repeats.specs.Beside.{isSound, Own, stateOf, Tables, Beside, failed, going}
 use Rattle.repeats.specs.CoupledComprs.{forget}
@@ -171,14 +171,14 @@ family-has (suc levels) sheet q outputs = or-left (eqb q q) _ (eq-eqb q q refl)
 
 -- What one more level writes.
 writes-more : (levels : ℕ) (sheet : Sheet)
-    → ((ps : List Scope) (q : ℕ) (outputs : List Tree) → rustAnalyze levels sheet ps q outputs .fault ≡ sound
-    → Only (family levels sheet q outputs) (rustAnalyze levels sheet ps q outputs .schedules))
-    → (ps : List Scope) (q : ℕ) (outputs : List Tree) → rustAnalyze (suc levels) sheet ps q outputs .fault ≡ sound
-    → Only (family (suc levels) sheet q outputs) (rustAnalyze (suc levels) sheet ps q outputs .schedules)
-    × (isSome (scheduleOf (rustAnalyze (suc levels) sheet ps q outputs .schedules) q) ≡ true)
-unfolding rustAnalyze family output-coupling
+    → ((ps : List Scope) (q : ℕ) (outputs : List Tree) → analyze levels sheet ps q outputs .fault ≡ sound
+    → Only (family levels sheet q outputs) (analyze levels sheet ps q outputs .schedules))
+    → (ps : List Scope) (q : ℕ) (outputs : List Tree) → analyze (suc levels) sheet ps q outputs .fault ≡ sound
+    → Only (family (suc levels) sheet q outputs) (analyze (suc levels) sheet ps q outputs .schedules)
+    × (isSome (scheduleOf (analyze (suc levels) sheet ps q outputs .schedules) q) ≡ true)
+unfolding analyze family output-coupling
 writes-more levels sheet claim ps q outputs s =
-    let answer : Answer = λ os b ts. rustAnalyze levels sheet os b ts in
+    let answer : Answer = λ os b ts. analyze levels sheet os b ts in
     let below : ℕ → List Tree → List ℕ = λ b ts. family levels sheet b ts in
     let F = family (suc levels) sheet q outputs in
     let way = rustWay sheet answer ps in
@@ -190,14 +190,14 @@ writes-more levels sheet claim ps q outputs s =
     (family-has (suc levels) sheet q outputs) s
 
 -- The Rust's analysis of a query writes schedules of its family alone.
-pub rust-only : (levels : ℕ) (sheet : Sheet) (ps : List Scope) (q : ℕ) (outputs : List Tree) → rustAnalyze levels sheet ps q outputs .fault ≡ sound
-    → Only (family levels sheet q outputs) (rustAnalyze levels sheet ps q outputs .schedules)
-unfolding rustAnalyze
+pub rust-only : (levels : ℕ) (sheet : Sheet) (ps : List Scope) (q : ℕ) (outputs : List Tree) → analyze levels sheet ps q outputs .fault ≡ sound
+    → Only (family levels sheet q outputs) (analyze levels sheet ps q outputs .schedules)
+unfolding analyze
 rust-only zero sheet ps q outputs s x n = refl
 rust-only (suc levels) sheet ps q outputs s x n =
     writes-more levels sheet (λ os b ts h y k. rust-only levels sheet os b ts h y k) ps q outputs s .0 x n
 
 -- With a level left, it writes the query's own.
-pub rust-own : (levels : ℕ) (sheet : Sheet) (ps : List Scope) (q : ℕ) (outputs : List Tree) → rustAnalyze (suc levels) sheet ps q outputs .fault ≡ sound
-    → isSome (scheduleOf (rustAnalyze (suc levels) sheet ps q outputs .schedules) q) ≡ true
+pub rust-own : (levels : ℕ) (sheet : Sheet) (ps : List Scope) (q : ℕ) (outputs : List Tree) → analyze (suc levels) sheet ps q outputs .fault ≡ sound
+    → isSome (scheduleOf (analyze (suc levels) sheet ps q outputs .schedules) q) ≡ true
 rust-own levels sheet ps q outputs s = writes-more levels sheet (rust-only levels sheet) ps q outputs s .1

@@ -8,11 +8,11 @@ use Rattle.trees.specs.Trees.{rowOf, outputsOf}
 use Rattle.scopes.specs.NameSets.{elements}
 use Rattle.scopes.specs.Scopes.{Scope, noScope}
 use Rattle.analysis.specs.States.{scheduleOf, setRun}
-use Rattle.analysis.specs.Comprs.{Nested, comprScope, unlessScheduled, analyzeCompr}
-use Rattle.analysis.specs.Exprs.{extraVars}
-use Rattle.analysis.specs.Queries.{analyze}
+use Rattle.once.specs.Comprs.{Nested, comprScope, unlessScheduled, analyzeCompr}
+use Rattle.once.specs.Exprs.{extraVars}
+use Rattle.once.specs.Queries.{analyzeOnce}
 use Rattle.repeats.specs.SameOuter.{SameOuter, below, same-own, varExists-same, gatherAssignedVars-same, gatherLocalVars-same}
-use Rattle.repeats.specs.Ways.{analyzeQueryBy}
+use Rattle.analysis.specs.Queries.{analyzeQuery}
 use Rattle.repeats.specs.MemoWay.{memoWay, analyzeQuery-memo}
 
 -- The way below such parents is the same, if the analysis of what is nested is.
@@ -34,13 +34,13 @@ memoWay-same sheet nested {ps} {qs} h deeper twice =
     }
 
 -- Under parents with the same locals and unscoped the analysis of a query is the same function of query, outputs and run.
-pub analyze-same : (levels : ℕ) (sheet : Sheet) {ps qs : List Scope} → SameOuter ps qs → analyze levels sheet ps ≡ analyze levels sheet qs
-unfolding analyze
-analyze-same zero sheet h = refl
-analyze-same (suc levels) sheet {ps} {qs} h =
-    let nested : Nested = λ os q outputs r. analyze levels sheet os q outputs r in
+pub analyzeOnce-same : (levels : ℕ) (sheet : Sheet) {ps qs : List Scope} → SameOuter ps qs → analyzeOnce levels sheet ps ≡ analyzeOnce levels sheet qs
+unfolding analyzeOnce
+analyzeOnce-same zero sheet h = refl
+analyzeOnce-same (suc levels) sheet {ps} {qs} h =
+    let nested : Nested = λ os q outputs r. analyzeOnce levels sheet os q outputs r in
     analyzeQuery-memo sheet nested ps
-    ∙ ap (analyzeQueryBy sheet)
-    (memoWay-same sheet nested h (λ sc. analyze-same levels sheet (below (same-own sc) h))
-    (λ inner sc. analyze-same levels sheet (below (same-own inner) (below (same-own sc) h))))
+    ∙ ap (analyzeQuery sheet)
+    (memoWay-same sheet nested h (λ sc. analyzeOnce-same levels sheet (below (same-own sc) h))
+    (λ inner sc. analyzeOnce-same levels sheet (below (same-own inner) (below (same-own sc) h))))
     ∙ sym (analyzeQuery-memo sheet nested qs)

@@ -16,7 +16,7 @@ use Rattle.accepted.specs.Facts.{SheetFacts, sheet-facts}
 use Rattle.trees.specs.Sheet.{nameBound, rowAt, rowsTo, sheetOf}
 use Rattle.branches.specs.Onwards.{name-low}
 use Rattle.scopes.specs.Below.{nameBelow}
-use Rattle.analysis.specs.Named.{NamesBelow}
+use Rattle.once.specs.Named.{NamesBelow}
 use Rattle.records.specs.Rows.{inTables}
 
 -- A test that each of the rows 1 to n passes, all of them pass.

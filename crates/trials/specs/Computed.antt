@@ -37,14 +37,13 @@ use Rattle.uses.specs.Uses.{define, assignedVars, indexVars, readsInput, isUnde
 use Rattle.uses.specs.FirstUses.{addFirstUse}
 use Rattle.analysis.specs.States.{Run, setScope, addFirstUses, addDefinitions, setRun, fail}
 use Rattle.analysis.specs.Using.{gatherUsedVars, checkFirstUse, checkAssigned, recordOne, recordEach, atLeastOne}
-use Rattle.analysis.specs.Comprs.{comprInputs, propagate, comprsUse, useCompr, allUsed, analyzeCompr, processCompr, processComprs, useExpr}
-use Rattle.analysis.specs.Exprs.{pairings, assignOneWay, assignPairing, processAssignExpr, processPlainExpr, processExpr, extraVars, processExtraArg}
+use Rattle.analysis.specs.Comprs.{propagate, comprsUse, useCompr, allUsed, processCompr, processComprs, useExpr}
+use Rattle.analysis.specs.Exprs.{pairings, assignOneWay, assignPairing, processAssignExpr, processPlainExpr, processExpr, processExtraArg, processCall}
 use Rattle.analysis.specs.SomeIn.{someVarsIn, nonVars, processNonVar, processSomeIn}
 use Rattle.analysis.specs.Statements.{modsOf, processEvery, processLiteral, processStmt, processStmts}
-use Rattle.analysis.specs.Queries.{outputScope, scheduled, outputCompr, analyzeOutputExpr, analyzeQuery, analyze, analyzeQuerySnippet, scheduleIn, recorded}
-use Rattle.repeats.specs.Ways.{propagateBy, comprsUseBy, useComprBy, allUsedBy, processComprBy, processComprsBy, useExprBy, assignOneWayBy, assignPairingBy, processAssignExprBy, processPlainExprBy, processExprBy, processExtraArgBy, processCallBy, processNonVarBy, processSomeInBy, processEveryBy, processLiteralBy, processStmtBy, processStmtsBy, outputComprBy, analyzeOutputExprBy, analyzeQueryBy}
-use Rattle.repeats.specs.RustWay.{rustWay, rustAnalyze, rustAnalyzeQuerySnippet}
-use Rattle.repeats.specs.RustWay as rust
+use Rattle.analysis.specs.Queries.{outputScope, scheduled, outputCompr, analyzeOutputExpr, analyzeQuery}
+use Rattle.analysis.specs.RustWay as rust
+use Rattle.analysis.specs.RustWay.{rustWay, analyze, analyzeQuerySnippet, scheduleIn, recorded}
 use Rattle.answers.specs.Rows.{rowsOf}
 use Rattle.writer.specs.Decimal.{digits}
 use Rattle.answers.specs.Text.{section, answerText, refusalText}
@@ -66,22 +65,16 @@ unfolding range resolves round placements bytes isInput isSpecial decode treeAt 
     define assignedVars indexVars readsInput isUndefined undefinedVar isUse usedAt usedVars variablesUsed indexDefinitionsAt indexDefinitions
     addFirstUse setScope addFirstUses addDefinitions setRun fail
     gatherUsedVars checkFirstUse checkAssigned recordOne recordEach atLeastOne
-    comprInputs propagate comprsUse useCompr allUsed analyzeCompr processCompr processComprs useExpr
-    pairings assignOneWay assignPairing processAssignExpr processPlainExpr processExpr extraVars processExtraArg
+    propagate comprsUse useCompr allUsed processCompr processComprs useExpr
+    pairings assignOneWay assignPairing processAssignExpr processPlainExpr processExpr processExtraArg processCall
     someVarsIn nonVars processNonVar processSomeIn modsOf processEvery processLiteral processStmt processStmts
-    outputScope scheduled outputCompr analyzeOutputExpr analyzeQuery analyze analyzeQuerySnippet scheduleIn recorded
-    rowsOf digits section answerText refusalText analysed
+    outputScope scheduled outputCompr analyzeOutputExpr analyzeQuery
+    rust.take rustWay analyze analyzeQuerySnippet scheduleIn recorded rowsOf digits section answerText refusalText analysed
 analysedSheet s = analyzeQuerySnippet s
-
--- The same in the Rust's way.
-unfoldable pub rustAnalysed : Sheet → Run
-unfolding analysedSheet propagateBy comprsUseBy useComprBy allUsedBy processComprBy processComprsBy useExprBy assignOneWayBy assignPairingBy processAssignExprBy processPlainExprBy processExprBy processExtraArgBy processCallBy processNonVarBy processSomeInBy processEveryBy processLiteralBy processStmtBy processStmtsBy
-    outputComprBy analyzeOutputExprBy analyzeQueryBy rust.take rustWay rustAnalyze rustAnalyzeQuerySnippet
-rustAnalysed s = rustAnalyzeQuerySnippet s
 
 -- The whole call.
 unfoldable pub computed : List ℕ → ℕ → ℕ → ℕ → Result
-unfolding sheetRead rustAnalysed before nameFault counts.lineOf overLine noQueryLine countFault formFault namesFault countsFault
+unfolding sheetRead analysedSheet before nameFault counts.lineOf overLine noQueryLine countFault formFault namesFault countsFault
     fieldFrom kinds forms kindFields formFields target placeOf exprEntries statementEntries queryEntries
     namers inChain entryNaming rowNamings byQueries byStatements byExprs namings grown enclosing parent levelIn level
     varsIn endsIn allVars endsOdd fieldFault faults.fieldsFault isNamedSo isMember exprFault statementFault queryFault pathBefore

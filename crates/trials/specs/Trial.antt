@@ -10,7 +10,7 @@ use Rattle.turns.specs.Definitions.{Definition}
 use Rattle.text.specs.Bytes.{bytes}
 use Rattle.trees.specs.Lists.{same, any, concatMap}
 use Rattle.trees.specs.Sheet.{Sheet}
-use Rattle.analysis.specs.Queries.{recorded}
+use Rattle.analysis.specs.RustWay.{recorded}
 use Rattle.trees.specs.Sheet.{sheetIn}
 use Rattle.answers.specs.Call.{Result, refused, answered, result, printed}
 

@@ -17,12 +17,13 @@ use Rattle.trees.specs.TreeRows.{allRows}
 use Rattle.trees.specs.StatementRows.{stmts-rows}
 use Rattle.scopes.specs.Scopes.{Scope}
 use Rattle.scopes.specs.GatherLocals.{gatherLocalVars}
 use Rattle.analysis.specs.States.{Fault, sound, undefined, usedBefore, lengths, indexVariable, QuerySchedule, Run, State, ifSound}
-use Rattle.analysis.specs.Comprs.{Nested}
-use Rattle.analysis.specs.Statements.{processStmts}
-use Rattle.analysis.specs.Queries.{scheduled, analyzeOutputExpr, analyzeQuery, analyze, analyzeQuerySnippet}
-use Rattle.analysis.specs.Steps.{Kept, Holds}
-use Rattle.analysis.specs.StatementSteps.{good-stmts, good-outputs}
+use Rattle.once.specs.Comprs.{Nested}
+use Rattle.once.specs.Statements.{processStmts}
+use Rattle.analysis.specs.Queries.{scheduled}
+use Rattle.once.specs.Queries.{analyzeOutputExpr, analyzeQuery, analyzeOnce, analyzeQuerySnippetOnce}
+use Rattle.once.specs.Steps.{Kept, Holds}
+use Rattle.once.specs.StatementSteps.{good-stmts, good-outputs}
 
 -- Each schedule on the list has S.
 abbrev pub Each : (Scope → List Definition → Type 0) → List QuerySchedule → Type 0
@@ -64,12 +65,12 @@ module _ (sheet : Sheet) (test : Row → Bool) (rows : all test (sheet .exprs) �
 
     -- At every level.
     pub analyze-keeps : (n : ℕ) (parents : List Scope) (q : ℕ) (outputs : List Tree) (r : Run) → all (allRows test) outputs ≡ true → Each S (r .schedules)
-        → Each S (analyze n sheet parents q outputs r .schedules)
-    unfolding analyze
+        → Each S (analyzeOnce n sheet parents q outputs r .schedules)
+    unfolding analyzeOnce
     analyze-keeps zero parents q outputs r h e = e
     analyze-keeps (suc n) parents q outputs r h e =
-        query-keeps (λ ps q outs r. analyze n sheet ps q outs r) (λ ps q outs r g d. analyze-keeps n ps q outs r g d) parents q outputs r h e
+        query-keeps (λ ps q outs r. analyzeOnce n sheet ps q outs r) (λ ps q outs r g d. analyze-keeps n ps q outs r g d) parents q outputs r h e
 
-    pub every-schedule : Each S (analyzeQuerySnippet sheet .schedules)
-    unfolding analyzeQuerySnippet
+    pub every-schedule : Each S (analyzeQuerySnippetOnce sheet .schedules)
+    unfolding analyzeQuerySnippetOnce
     every-schedule = analyze-keeps deepest [] 1 [] (record { schedules = []; fault = sound }) refl (λ a m. absurd (List·Memᴰ·not-nil m))

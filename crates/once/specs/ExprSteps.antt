@@ -21,12 +21,14 @@ use Rattle.trees.specs.TreeRows.{allRows, parts, alone, comprs-rows, outputs-ro
 use Rattle.scopes.specs.NameSets.{NameSet, contains, elements}
 use Rattle.scopes.specs.Scopes.{Scope, owns, addUnscoped}
 use Rattle.uses.specs.Uses.{assignedVars}
 use Rattle.analysis.specs.States.{lengths, QuerySchedule, Run, State, scheduleOf, setScope, setRun, fail}
 use Rattle.analysis.specs.Using.{gatherUsedVars, checkAssigned, recordOne, recordEach}
-use Rattle.analysis.specs.Comprs.{Nested, Mods, propagate, useCompr, allUsed, unlessScheduled, analyzeCompr, processCompr, processComprs, useExpr}
-use Rattle.analysis.specs.Exprs.{Pairing, pair, mismatch, pairings, assignOneWay, assignPairing, processAssignExpr, processPlainExpr, processExpr, extraVars, processExtraArg, processCall}
-use Rattle.analysis.specs.Own.{Grows, grows-unscoped, all-unscoped, assigned-own, all-used-own}
-use Rattle.analysis.specs.Steps.{Kept, Keeps, Good, good-same, good-end, good-then, good-fold, good-run, good-fail, good-scope, extras-kept, good-used, good-propagate, good-use-compr, good-one, good-each, good-check-assigned}
+use Rattle.analysis.specs.Comprs.{Mods}
+use Rattle.once.specs.Comprs.{Nested, propagate, useCompr, allUsed, unlessScheduled, analyzeCompr, processCompr, processComprs, useExpr}
+use Rattle.analysis.specs.Exprs.{Pairing, pair, mismatch, pairings}
+use Rattle.once.specs.Exprs.{assignOneWay, assignPairing, processAssignExpr, processPlainExpr, processExpr, extraVars, processExtraArg, processCall}
+use Rattle.once.specs.Own.{Grows, grows-unscoped, all-unscoped, assigned-own, all-used-own}
+use Rattle.once.specs.Steps.{Kept, Keeps, Good, good-same, good-end, good-then, good-fold, good-run, good-fail, good-scope, extras-kept, good-used, good-propagate, good-use-compr, good-one, good-each, good-check-assigned}
 
 -- Names that a set lists lie below the bound.
 pub elements-below : (s : NameSet) → all (λ x. ltb x nameBound) (elements s) ≡ true

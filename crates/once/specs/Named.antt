@@ -17,12 +17,13 @@ use Rattle.trees.specs.Statements.{stmtsOf}
 use Rattle.trees.specs.StatementRows.{stmts-rows}
 use Rattle.scopes.specs.Scopes.{Scope, owns}
 use Rattle.scopes.specs.Below.{nameBelow, Below, unscoped-below, input-below, flag-below, gathered-below}
 use Rattle.analysis.specs.States.{QuerySchedule, scheduleOf}
-use Rattle.analysis.specs.Queries.{analyzeQuerySnippet, scheduleIn, definitionsIn, recorded}
-use Rattle.analysis.specs.Own.{ownDefinition}
-use Rattle.analysis.specs.Steps.{Kept}
-use Rattle.analysis.specs.Schedules.{Each, every-schedule}
-use Rattle.analysis.specs.OwnNames.{own-names}
+use Rattle.analysis.specs.Queries.{definitionsIn}
+use Rattle.once.specs.Queries.{analyzeQuerySnippetOnce, scheduleOnce, recordedOnce}
+use Rattle.once.specs.Own.{ownDefinition}
+use Rattle.once.specs.Steps.{Kept}
+use Rattle.once.specs.Schedules.{Each, every-schedule}
+use Rattle.once.specs.OwnNames.{own-names}
 
 -- The names of all rows lie below the bound.
 abbrev pub NamesBelow : Sheet → Type 0
@@ -58,18 +59,18 @@ found-in (b ∷ l) q a e = go (bool-cases (eqb (b .query) q)) (λ g. found-in l 
     go (inr h) ih = List·Memᴰ·tail (ih (rw h at e))
 
 module _ (sheet : Sheet) (names : NamesBelow sheet) where
-  below : Each (λ sc defs. Below sc) (analyzeQuerySnippet sheet .schedules)
+  below : Each (λ sc defs. Below sc) (analyzeQuerySnippetOnce sheet .schedules)
   below =
       every-schedule sheet nameBelow names refl (λ sc defs. Below sc) below-kept
       (λ parents q outputs h. gathered-below sheet parents (stmtsOf sheet q) (stmts-rows nameBelow sheet names refl q) outputs h)
 
   -- Every name that a query defines is below the bound.
-  pub recorded-named : (q : ℕ) → Named (recorded sheet q) nameBound
-  unfolding recorded scheduleIn
-  recorded-named q = go (scheduleOf (analyzeQuerySnippet sheet .schedules) q) refl
+  pub recorded-named : (q : ℕ) → Named (recordedOnce sheet q) nameBound
+  unfolding recordedOnce scheduleOnce
+  recorded-named q = go (scheduleOf (analyzeQuerySnippetOnce sheet .schedules) q) refl
     where
-      go : (o : Option QuerySchedule) → scheduleOf (analyzeQuerySnippet sheet .schedules) q ≡ o → Named (definitionsIn o) nameBound
+      go : (o : Option QuerySchedule) → scheduleOf (analyzeQuerySnippetOnce sheet .schedules) q ≡ o → Named (definitionsIn o) nameBound
       go none e d m = absurd (List·Memᴰ·not-nil m)
       go (some a) e d m =
-          let i = found-in (analyzeQuerySnippet sheet .schedules) q a e in
+          let i = found-in (analyzeQuerySnippetOnce sheet .schedules) q a e in
           own-below (a .scope) (below a i) d (all-mem (ownDefinition (a .scope)) (a .definitions) (own-names sheet a i) m)

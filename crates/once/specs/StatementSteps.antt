@@ -20,16 +20,20 @@ use Rattle.trees.specs.TreeRows.{allRows, leaves-rows, comprs-rows}
 use Rattle.trees.specs.StatementRows.{literalRows, stmtRows}
 use Rattle.scopes.specs.Scopes.{Scope, noScope, spanOf, isLocal, owns, addLocal}
 use Rattle.uses.specs.Uses.{define, indexDefinitions}
 use Rattle.analysis.specs.States.{indexVariable, QuerySchedule, Run, State, addFirstUses, addDefinitions, setRun, inTurn}
 use Rattle.analysis.specs.Using.{gatherUsedVars, recordOne, atLeastOne}
-use Rattle.analysis.specs.Comprs.{Nested, Mods, propagate, allUsed, analyzeCompr, processComprs, useExpr}
-use Rattle.analysis.specs.Exprs.{processPlainExpr}
-use Rattle.analysis.specs.SomeIn.{someVarsIn, nonVars, failIfSome, processNonVar, processSomeIn}
-use Rattle.analysis.specs.Statements.{modsOf, processEvery, processLiteral, processStmt, processStmts}
-use Rattle.analysis.specs.Queries.{outputScope, outputCompr, analyzeOutputExpr}
-use Rattle.analysis.specs.Own.{define-own, local-own, all-used-own, mods-own}
-use Rattle.analysis.specs.Steps.{Kept, Holds, Keeps, Good, good-same, good-end, good-then, good-fold, good-first-uses, good-run, good-fail, good-definitions, good-used, good-propagate, good-one, good-at-least-one, good-checks}
-use Rattle.analysis.specs.ExprSteps.{good-compr, good-comprs, good-expr, good-plain, good-process-expr, good-call}
+use Rattle.analysis.specs.Comprs.{Mods}
+use Rattle.once.specs.Comprs.{Nested, propagate, allUsed, analyzeCompr, processComprs, useExpr}
+use Rattle.once.specs.Exprs.{processPlainExpr}
+use Rattle.analysis.specs.SomeIn.{someVarsIn, nonVars, failIfSome}
+use Rattle.once.specs.SomeIn.{processNonVar, processSomeIn}
+use Rattle.analysis.specs.Statements.{modsOf}
+use Rattle.once.specs.Statements.{processEvery, processLiteral, processStmt, processStmts}
+use Rattle.analysis.specs.Queries.{outputScope}
+use Rattle.once.specs.Queries.{outputCompr, analyzeOutputExpr}
+use Rattle.once.specs.Own.{define-own, local-own, all-used-own, mods-own}
+use Rattle.once.specs.Steps.{Kept, Holds, Keeps, Good, good-same, good-end, good-then, good-fold, good-first-uses, good-run, good-fail, good-definitions, good-used, good-propagate, good-one, good-at-least-one, good-checks}
+use Rattle.once.specs.ExprSteps.{good-compr, good-comprs, good-expr, good-plain, good-process-expr, good-call}
 
 -- The names of a some-in pattern are locals.
 some-local : (sheet : Sheet) (sc : Scope) (ls : List Tree)

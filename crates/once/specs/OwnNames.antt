@@ -8,10 +8,10 @@ use Rattle.trees.specs.ListLaws.{all-append, all-weaken, all-always}
 use Rattle.records.specs.declared.Row.{Row}
 use Rattle.trees.specs.Sheet.{Sheet}
 use Rattle.scopes.specs.Scopes.{Scope, addUnscoped, addInput, useInput}
-use Rattle.analysis.specs.Queries.{analyzeQuerySnippet}
-use Rattle.analysis.specs.Own.{ownDefinition, Grows, own-grows, grows-flag, grows-input, grows-one}
-use Rattle.analysis.specs.Steps.{Kept}
-use Rattle.analysis.specs.Schedules.{Each, every-schedule}
+use Rattle.once.specs.Queries.{analyzeQuerySnippetOnce}
+use Rattle.once.specs.Own.{ownDefinition, Grows, own-grows, grows-flag, grows-input, grows-one}
+use Rattle.once.specs.Steps.{Kept}
+use Rattle.once.specs.Schedules.{Each, every-schedule}
 
 -- All definitions are of the scope's own names.
 abbrev pub OwnNames : Scope → List Definition → Type 0
@@ -29,6 +29,6 @@ own-kept = record {
 }
 
 -- Of every sheet, and every query that is analysed.
-pub own-names : (sheet : Sheet) → Each OwnNames (analyzeQuerySnippet sheet .schedules)
+pub own-names : (sheet : Sheet) → Each OwnNames (analyzeQuerySnippetOnce sheet .schedules)
 own-names sheet =
     every-schedule sheet (λ w. true) (all-always (λ (w : Row). true) (λ w. refl) (sheet .exprs)) refl OwnNames own-kept (λ parents q outputs h. refl)

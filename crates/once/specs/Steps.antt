@@ -16,10 +16,10 @@ use Rattle.trees.specs.Trees.{Tree, rowOf}
 use Rattle.trees.specs.Traverse.{leaves, vars}
 use Rattle.scopes.specs.Scopes.{Scope, Span, spanOf, spanIn, isLocal, owns, addUnscoped, addInput, useInput}
 use Rattle.uses.specs.Uses.{define, readsInput, undefinedVar, variablesUsed, indexDefinitions}
 use Rattle.analysis.specs.States.{Fault, sound, undefined, usedBefore, lengths, indexVariable, QuerySchedule, Run, State, setScope, addFirstUses, addDefinitions, setRun, fail, ifSound, inTurn, failOr}
 use Rattle.analysis.specs.Using.{undefinedAt, gatherUsedVars, usedBeforeAt, checkFirstUse, checkAssigned, recordOne, recordEach, unlessSome, atLeastOne}
-use Rattle.analysis.specs.Comprs.{comprScope, comprInputs, comprsUse, propagate, useCompr}
-use Rattle.analysis.specs.Own.{ownDefinition, Grows, own-grows, define-own, grows-flag, grows-inputs, index-own}
+use Rattle.once.specs.Comprs.{comprScope, comprInputs, comprsUse, propagate, useCompr}
+use Rattle.once.specs.Own.{ownDefinition, Grows, own-grows, define-own, grows-flag, grows-inputs, index-own}
 
 -- Each change keeps S: names are added to the inputs or, from an extra argument, to unscoped; the flag is set; own definitions are recorded.
 pub record Kept (S : Scope → List Definition → Type 0) : Type 0 where

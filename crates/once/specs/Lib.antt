@@ -1,0 +1,13 @@
+pub mod Comprs
+pub mod Exprs
+pub mod SomeIn
+pub mod Statements
+pub mod Queries
+pub mod Own
+pub mod Steps
+pub mod ExprSteps
+pub mod StatementSteps
+pub mod Schedules
+pub mod OwnNames
+pub mod Named
+pub mod PlainWalks
