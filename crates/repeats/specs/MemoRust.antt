@@ -83,7 +83,7 @@ own-addUnscoped (x ∷ xs) a b h =
     (record { locals = h .locals; unscoped = ap (λ (s : ℕ → Bool). insert s x) (h .unscoped) })
 
 -- So the scope of outputs depends on locals and unscoped alone, as far as these go.
-own-outputScope : (a b : Scope) → SameOwn a b → SameOwn (outputScope a) (outputScope b)
+pub own-outputScope : (a b : Scope) → SameOwn a b → SameOwn (outputScope a) (outputScope b)
 unfolding outputScope
 own-outputScope a b h =
     subst (λ (l : List Span). SameOwn (outputScope a) (foldl addUnscoped b (map (λ (p : Span). p .name) l))) (h .locals)

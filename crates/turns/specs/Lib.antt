@@ -12,3 +12,4 @@ pub mod OrderRounds
 pub mod Relisting
 pub mod Theorems
 pub mod Trials
+pub mod Shared

@@ -1,0 +1,3 @@
+pub mod MoreLevels
+pub mod LyingTrees
+pub mod LevelsSuffice
