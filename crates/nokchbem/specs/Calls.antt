@@ -1,7 +1,7 @@
 -- What each exported call returns and leaves in the lent buffers.
 use mathlib.Core.Path.{_≡_}
 use mathlib.Core.List.{List}
-use Prim.Native.Nat.{ℕ}
+use Prim.Native.Nat.{ℕ, _≤_}
 use lib.ListN.{replicate}
 use Rattle.schedule.specs.Call.{refusal, number, result, orderBuffer, reachedBuffer}
 use Rattle.definitions.specs.declared.Definition.{Definition}
@@ -35,9 +35,12 @@ pub record ReadCall (sheet : List ℕ) (room long r : ℕ) (tablesAfter workAfte
 abbrev pub leftNumber : Left → ℕ
 leftNumber l = refusal (l .number) (l .line) (l .col)
 
--- `nokchbem_analyze`: that number, and every element of the tables, of work and of the answer, whatever stood in them before.
+-- `nokchbem_analyze`: that number, whose parts can be read back since line and column fit 16 bits; and every element of the tables, of work and
+-- of the answer, whatever stood in them before.
 pub record AnalyzeCall (sheet : List ℕ) (room long most r : ℕ) (tablesAfter workAfter answerAfter : List ℕ) : Type 0 where
   pub returned : r ≡ leftNumber (left sheet room long most)
+  pub line-fits : left sheet room long most .line ≤ 65535
+  pub col-fits : left sheet room long most .col ≤ 65535
   pub tabled : tablesAfter ≡ left sheet room long most .tables
   pub worked : workAfter ≡ left sheet room long most .work
   pub answered : answerAfter ≡ left sheet room long most .answer

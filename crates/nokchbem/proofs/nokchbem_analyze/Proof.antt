@@ -1,5 +1,6 @@
 -- What `analyze` leaves, with its reply as a number. The parts of a reply fit, so nothing wraps.
 use mathlib.Core.Path.{ap, _∙_}
+use native.Mathlib.Omega.{arith}
 use borrow.Author.Needs.{needs}
 use Rattle.answers.specs.Call.{Left}
 use Rattle.nokchbem.specs.Calls.{leftNumber}
@@ -35,6 +36,8 @@ returns c =
     let left = c .before .before .before .before .before .before .before .before .before .before .analyze .ensures in
     record {
       returned = c .pack .ensures ∙ ap leftNumber left;
+      line-fits = omega (arith, ap (λ (l : Left). l .line) left);
+      col-fits = omega (arith, ap (λ (l : Left). l .col) left);
       tabled = ap (λ (l : Left). l .tables) left;
       worked = ap (λ (l : Left). l .work) left;
       answered = ap (λ (l : Left). l .answer) left;

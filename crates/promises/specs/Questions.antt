@@ -1,0 +1,91 @@
+-- The questions of document 01 put to an input of `nokchbem_analyze`, as a list in their order.
+use mathlib.Core.Path.{_≡_, refl}
+use mathlib.Core.Bool.{Bool, true, false, cond, _&&_}
+use mathlib.Core.List.{List, [], _∷_}
+use Prim.Native.Nat.{ℕ}
+use lib.Dec.{eqb, leb}
+use lib.ListN.{length}
+use Rattle.text.specs.Limits as limits
+use Rattle.text.specs.Questions.{shortEnough, formFault, namesFault, countsFault}
+use Rattle.sheet.specs.declared.Outcome.{Outcome}
+use Rattle.sheet.specs.declared.Outcome.the-variants.{Read, NoRoom, TooLong, BadForm, BadName, BadCount, BadField}
+use Rattle.sheet.specs.Verdict.{fieldsFault, asked, verdict}
+use Rattle.trees.specs.Sheet.{sheetIn}
+use Rattle.analysis.specs.States.{Fault, sound, undefined, usedBefore, lengths, indexVariable, Run}
+use Rattle.analysis.specs.RustWay.{analyzeQuerySnippet}
+use Rattle.answers.specs.Text.{answerText}
+use Rattle.answers.specs.Call.{Result, refused, answered, finished, analysed, afterReading, result}
+
+-- Is the answer yes? And the refusal where it is no.
+pub record Question : Type 0 where
+  pub yes : Bool
+  pub number : ℕ
+  pub line : ℕ
+  pub col : ℕ
+
+abbrev pub ask : Bool → ℕ → ℕ → ℕ → Question
+ask b n l c = record { yes = b; number = n; line = l; col = c }
+
+-- Does the walk finish without an error?
+abbrev pub finishes : Fault → Question
+finishes sound = ask true 0 0 0
+finishes (undefined l c) = ask false 11 l c
+finishes (usedBefore l c) = ask false 12 l c
+finishes (lengths l c) = ask false 13 l c
+finishes indexVariable = ask false 14 0 0
+
+-- What the first question says whose answer is no; if there is none, the text.
+unfoldable pub firstNo : List Question → List ℕ → Result
+firstNo [] text = answered text
+firstNo (q ∷ questions) text = cond (q .yes) (firstNo questions text) (refused (q .number) (q .line) (q .col))
+
+-- The sheet s, with so many entries of tables, words of work and bytes for the answer.
+module _ (s : List ℕ) (tables work room : ℕ) where
+  -- The text of the answer, where the walk finishes.
+  abbrev pub text : List ℕ
+  text = answerText (length (sheetIn s .queries)) (analyzeQuerySnippet (sheetIn s) .schedules)
+
+  abbrev pub questions : List Question
+  questions =
+      ask (leb limits.tables tables && leb limits.work work) 1 0 0
+      ∷ ask (shortEnough s) 2 0 0
+      ∷ ask (eqb (formFault s) 0) 3 (formFault s) 0
+      ∷ ask (eqb (namesFault s) 0) 4 (namesFault s) 0
+      ∷ ask (eqb (countsFault s) 0) 5 (countsFault s) 0
+      ∷ ask (eqb (fieldsFault s) 0) 6 (fieldsFault s) 0
+      ∷ finishes (analyzeQuerySnippet (sheetIn s) .fault)
+      ∷ ask (leb (length text) room) 7 0 0
+      ∷ []
+
+  -- ---- the definition of the call asks them
+
+  last-two : (f : Fault)
+      → finished (length (sheetIn s .queries)) room (analyzeQuerySnippet (sheetIn s)) f ≡ firstNo (finishes f ∷ ask (leb (length text) room) 7 0 0 ∷ []) text
+  unfolding firstNo
+  last-two sound = refl
+  last-two (undefined l c) = refl
+  last-two (usedBefore l c) = refl
+  last-two (lengths l c) = refl
+  last-two indexVariable = refl
+
+  pub asked-in-turn : result s tables work room ≡ firstNo questions text
+  unfolding result verdict asked analysed firstNo
+  asked-in-turn =
+      go (leb limits.tables tables && leb limits.work work) (shortEnough s) (eqb (formFault s) 0) (eqb (namesFault s) 0) (eqb (countsFault s) 0)
+      (eqb (fieldsFault s) 0)
+    where
+      go : (a b c d e f : Bool)
+          → afterReading s room
+          (cond a (cond b (cond c (cond d (cond e (cond f Read (BadField (fieldsFault s))) (BadCount (countsFault s))) (BadName (namesFault s))) (BadForm (formFault s))) TooLong)
+          NoRoom)
+          ≡ firstNo
+          (ask a 1 0 0 ∷ ask b 2 0 0 ∷ ask c 3 (formFault s) 0 ∷ ask d 4 (namesFault s) 0 ∷ ask e 5 (countsFault s) 0 ∷ ask f 6 (fieldsFault s) 0
+          ∷ finishes (analyzeQuerySnippet (sheetIn s) .fault) ∷ ask (leb (length text) room) 7 0 0 ∷ [])
+          text
+      go false b c d e f = refl
+      go true false c d e f = refl
+      go true true false d e f = refl
+      go true true true false e f = refl
+      go true true true true false f = refl
+      go true true true true true false = refl
+      go true true true true true true = last-two (analyzeQuerySnippet (sheetIn s) .fault)

@@ -1,0 +1,1 @@
+// Laws alone: see specs/.
