@@ -2,6 +2,4 @@ pub mod Rows
 pub mod Text
 pub mod Call
 pub mod Once
-pub mod ReadNames
-pub mod NeverAnalysed
 pub mod Decimals

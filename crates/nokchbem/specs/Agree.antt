@@ -25,7 +25,7 @@ pub record Leaves (accepted : Bool) (defs : List Turns.Definition) (n room marks
   pub marked : m ≡ cond accepted (map (λ i. mark (reached defs n 128 i)) (range 0 n) ++ replicate (marks - n) 0) (replicate marks 0)
 
 module _ (n room marks : ℕ) {r : ℕ} {o m : List ℕ} where
-  flat-leaves : (ws : List ℕ) → ScheduleCall ws n room marks r o m → Leaves (accepts ws n room marks) (definitions ws) n room marks r o m
+  pub flat-leaves : (ws : List ℕ) → ScheduleCall ws n room marks r o m → Leaves (accepts ws n room marks) (definitions ws) n room marks r o m
   flat-leaves ws s = record { returned = s .returned; ordered = s .ordered; marked = s .marked }
 
   -- The call over records, in terms of the records alone.

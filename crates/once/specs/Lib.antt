@@ -10,4 +10,3 @@ pub mod StatementSteps
 pub mod Schedules
 pub mod OwnNames
 pub mod Named
-pub mod PlainWalks

@@ -47,7 +47,7 @@ own-below sc b d h =
     (or-cases (eqb (d .var) 0) (owns sc (d .var)) (and-left (eqb (d .var) 0 || owns sc (d .var)) (all (owns sc) (d .used)) h)))
 
 -- The schedule found for a query stands in the table.
-found-in : (l : List QuerySchedule) (q : ℕ) (a : QuerySchedule) → scheduleOf l q ≡ some a → List·Memᴰ a l
+pub found-in : (l : List QuerySchedule) (q : ℕ) (a : QuerySchedule) → scheduleOf l q ≡ some a → List·Memᴰ a l
 found-in [] q a e = absurd (none-some a e)
   where
     none-some : (a : QuerySchedule) → none ≡ some a → ⊥
@@ -59,8 +59,9 @@ found-in (b ∷ l) q a e = go (bool-cases (eqb (b .query) q)) (λ g. found-in l 
     go (inr h) ih = List·Memᴰ·tail (ih (rw h at e))
 
 module _ (sheet : Sheet) (names : NamesBelow sheet) where
-  below : Each (λ sc defs. Below sc) (analyzeQuerySnippetOnce sheet .schedules)
-  below =
+  -- The own names of every scope lie below the bound.
+  pub scopes-below : Each (λ sc defs. Below sc) (analyzeQuerySnippetOnce sheet .schedules)
+  scopes-below =
       every-schedule sheet nameBelow names refl (λ sc defs. Below sc) below-kept
       (λ parents q outputs h. gathered-below sheet parents (stmtsOf sheet q) (stmts-rows nameBelow sheet names refl q) outputs h)
 
@@ -73,4 +74,4 @@ module _ (sheet : Sheet) (names : NamesBelow sheet) where
       go none e d m = absurd (List·Memᴰ·not-nil m)
       go (some a) e d m =
           let i = found-in (analyzeQuerySnippetOnce sheet .schedules) q a e in
-          own-below (a .scope) (below a i) d (all-mem (ownDefinition (a .scope)) (a .definitions) (own-names sheet a i) m)
+          own-below (a .scope) (scopes-below a i) d (all-mem (ownDefinition (a .scope)) (a .definitions) (own-names sheet a i) m)

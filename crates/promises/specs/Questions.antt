@@ -39,12 +39,12 @@ unfoldable pub firstNo : List Question → List ℕ → Result
 firstNo [] text = answered text
 firstNo (q ∷ questions) text = cond (q .yes) (firstNo questions text) (refused (q .number) (q .line) (q .col))
 
+-- The text of the answer to the sheet s, where the walk finishes.
+abbrev pub text : List ℕ → List ℕ
+text s = answerText (length (sheetIn s .queries)) (analyzeQuerySnippet (sheetIn s) .schedules)
+
 -- The sheet s, with so many entries of tables, words of work and bytes for the answer.
 module _ (s : List ℕ) (tables work room : ℕ) where
-  -- The text of the answer, where the walk finishes.
-  abbrev pub text : List ℕ
-  text = answerText (length (sheetIn s .queries)) (analyzeQuerySnippet (sheetIn s) .schedules)
-
   abbrev pub questions : List Question
   questions =
       ask (leb limits.tables tables && leb limits.work work) 1 0 0
@@ -54,13 +54,13 @@ module _ (s : List ℕ) (tables work room : ℕ) where
       ∷ ask (eqb (countsFault s) 0) 5 (countsFault s) 0
       ∷ ask (eqb (fieldsFault s) 0) 6 (fieldsFault s) 0
       ∷ finishes (analyzeQuerySnippet (sheetIn s) .fault)
-      ∷ ask (leb (length text) room) 7 0 0
+      ∷ ask (leb (length (text s)) room) 7 0 0
       ∷ []
 
   -- ---- the definition of the call asks them
 
   last-two : (f : Fault)
-      → finished (length (sheetIn s .queries)) room (analyzeQuerySnippet (sheetIn s)) f ≡ firstNo (finishes f ∷ ask (leb (length text) room) 7 0 0 ∷ []) text
+      → finished (length (sheetIn s .queries)) room (analyzeQuerySnippet (sheetIn s)) f ≡ firstNo (finishes f ∷ ask (leb (length (text s)) room) 7 0 0 ∷ []) (text s)
   unfolding firstNo
   last-two sound = refl
   last-two (undefined l c) = refl
@@ -68,7 +68,7 @@ module _ (s : List ℕ) (tables work room : ℕ) where
   last-two (lengths l c) = refl
   last-two indexVariable = refl
 
-  pub asked-in-turn : result s tables work room ≡ firstNo questions text
+  pub asked-in-turn : result s tables work room ≡ firstNo questions (text s)
   unfolding result verdict asked analysed firstNo
   asked-in-turn =
       go (leb limits.tables tables && leb limits.work work) (shortEnough s) (eqb (formFault s) 0) (eqb (namesFault s) 0) (eqb (countsFault s) 0)
@@ -80,8 +80,8 @@ module _ (s : List ℕ) (tables work room : ℕ) where
           NoRoom)
           ≡ firstNo
           (ask a 1 0 0 ∷ ask b 2 0 0 ∷ ask c 3 (formFault s) 0 ∷ ask d 4 (namesFault s) 0 ∷ ask e 5 (countsFault s) 0 ∷ ask f 6 (fieldsFault s) 0
-          ∷ finishes (analyzeQuerySnippet (sheetIn s) .fault) ∷ ask (leb (length text) room) 7 0 0 ∷ [])
-          text
+          ∷ finishes (analyzeQuerySnippet (sheetIn s) .fault) ∷ ask (leb (length (text s)) room) 7 0 0 ∷ [])
+          (text s)
       go false b c d e f = refl
       go true false c d e f = refl
       go true true false d e f = refl

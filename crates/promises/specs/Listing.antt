@@ -1,0 +1,73 @@
+-- How the rows of an answer are read, and that own names are listed in them.
+use mathlib.Core.Path.{_≡_, refl, ap, ap₂, _∙_}
+use mathlib.Core.Bool.{true}
+use mathlib.Core.List.{List, [], _∷_, _++_, map, List·Memᴰ, List·Memᴰ·head, Memᴰ·map}
+use mathlib.Core.Logic.{_⊎_, inl, inr, ⊎-elim}
+use mathlib.Core.Option.{Option, none, some}
+use Prim.Native.Nat.{ℕ, suc, _+_, _-_, _<_}
+use native.Mathlib.Omega.{arith}
+use lib.ListN.{length, getD}
+use borrow.Author.Tests.{ltb-true}
+use Rattle.basics.specs.Truth.{not-both, or-cases}
+use Rattle.basics.specs.Members.{elem-mem, mem-filter}
+use Rattle.basics.specs.Ranges.{counted, range, elem-range}
+use Rattle.trees.specs.Lists.{concatMap, isSome}
+use Rattle.trees.specs.Sheet.{nameBound}
+use Rattle.scopes.specs.NameSets.{contains, elements}
+use Rattle.scopes.specs.Scopes.{Span, spanIn, isLocal, owns}
+use Rattle.scopes.specs.Below.{Below}
+use Rattle.analysis.specs.States.{QuerySchedule}
+use Rattle.repeats.specs.Members.{mem-left, mem-right, mem-concatMap}
+use Rattle.answers.specs.Rows.{localRow, setRows}
+
+-- The mark placed, in the row `query placed input` of a query.
+abbrev pub placedIn : List (List ℕ) → ℕ
+placedIn rows = getD (getD rows 0 []) 1 0
+
+-- The order, in the rows `query place index reached` of a query: their indexes.
+abbrev pub orderIn : List (List ℕ) → List ℕ
+orderIn rows = map (λ row. getD row 2 0) rows
+
+-- The rows `query set name line col` of query q list x as a local or as unscoped.
+abbrev pub Listed : ℕ → ℕ → List (List ℕ) → Type 0
+Listed q x rows =
+    ((l c : ℕ) × List·Memᴰ (q ∷ 1 ∷ x ∷ l ∷ c ∷ []) rows) ⊎ List·Memᴰ (q ∷ 2 ∷ x ∷ 0 ∷ 0 ∷ []) rows
+
+-- ---- own names
+
+module _ (q : ℕ) (a : QuerySchedule) (low : Below (a .scope)) where
+  local-listed : (x : ℕ) → x < nameBound → (o : Option Span) → spanIn (a .scope .locals) x ≡ o → isSome o ≡ true
+      → Listed q x (setRows q (some a))
+  local-listed x l none e h = absurd (not-both h refl)
+  local-listed x l (some p) e h =
+      inl (
+        p .line,
+        p .col,
+        mem-left _ _ _ (mem-concatMap (λ y. localRow q y (spanIn (a .scope .locals) y)) (range 0 nameBound) x
+            (elem-mem x (range 0 nameBound) (elem-range x 0 nameBound (omega arith) l)) _ (rw e (List·Memᴰ·head refl))),
+      )
+
+  pub own-listed : (x : ℕ) → owns (a .scope) x ≡ true → Listed q x (setRows q (some a))
+  unfolding owns elements
+  own-listed x h =
+      let l : x < nameBound = ltb-true x nameBound (low x h) in
+      ⊎-elim (λ (p : isLocal (a .scope) x ≡ true). local-listed x l (spanIn (a .scope .locals) x) refl p)
+      (λ (p : contains (a .scope .unscoped) x ≡ true).
+      inr (mem-right (concatMap (λ y. localRow q y (spanIn (a .scope .locals) y)) (range 0 nameBound)) _ _
+      (mem-left _ _ _ (Memᴰ·map (λ y. q ∷ 2 ∷ y ∷ 0 ∷ 0 ∷ [])
+      (mem-filter (contains (a .scope .unscoped)) (range 0 nameBound) (elem-mem x (range 0 nameBound) (elem-range x 0 nameBound (omega arith) l)) p)))))
+      (or-cases _ _ h)
+
+-- ---- a list by its places
+
+counted-list : (f : ℕ → ℕ) (l : List ℕ) (k : ℕ) → ((n : ℕ) → n < length l → f (k + n) ≡ getD l n 0) → map f (counted k (length l)) ≡ l
+counted-list f [] k h = refl
+counted-list f (x ∷ l) k h =
+    ap₂ _∷_ (ap f (omega arith) ∙ h 0 (omega arith)) (counted-list f l (suc k) (λ n b. ap f (omega arith) ∙ h (suc n) (omega arith)))
+
+pub by-places : (l : List ℕ) (n : ℕ) → length l ≡ n → map (λ k. getD l k 0) (range 0 n) ≡ l
+unfolding range
+by-places l n e =
+    let m : n - 0 ≡ length l = omega arith in
+    ap (λ (k : ℕ). map (λ j. getD l j 0) (counted 0 k)) m
+    ∙ counted-list (λ k. getD l k 0) l 0 (λ k b. let z : 0 + k ≡ k = omega arith in ap (λ (j : ℕ). getD l j 0) z)

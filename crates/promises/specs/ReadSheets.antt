@@ -1,0 +1,31 @@
+-- A sheet that passes questions 1 to 6: its names lie below the bound, and what the analysis leaves of a query is what the form that analyses
+-- each query once leaves of it.
+use mathlib.Core.Path.{_≡_, sym, _∙_, subst}
+use mathlib.Core.List.{List}
+use mathlib.Core.Option.{Option, some}
+use Prim.Native.Nat.{ℕ}
+use Rattle.trees.specs.Sheet.{Sheet, sheetIn, sheetOf}
+use Rattle.sheet.specs.declared.Outcome.the-variants.{Read}
+use Rattle.sheet.specs.Verdict.{countsOf, specialOf, readTables, verdict}
+use Rattle.sheet.specs.Passed.{verdict-read}
+use Rattle.analysis.specs.States.{sound, QuerySchedule}
+use Rattle.analysis.specs.RustWay.{analyzeQuerySnippet, scheduleIn}
+use Rattle.once.specs.Queries.{scheduleOnce}
+use Rattle.once.specs.Named.{NamesBelow}
+use Rattle.sizes.specs.LowNames.{low-names}
+use Rattle.repeats.specs.Accepted.{accepted-fault, accepted-schedules}
+
+module _ (s : List ℕ) (tables work : ℕ) (read : verdict s tables work ≡ Read) where
+  pub read-names : NamesBelow (sheetIn s)
+  read-names =
+      let p = verdict-read s tables work read in
+      subst NamesBelow (p .sheet-is) (low-names (countsOf s) (specialOf s) (readTables s) (p .few) (p .fine))
+
+  pub read-schedules : analyzeQuerySnippet (sheetIn s) .fault ≡ sound → (q : ℕ) → scheduleIn (sheetIn s) q ≡ scheduleOnce (sheetIn s) q
+  unfolding scheduleIn
+  read-schedules =
+      let p = verdict-read s tables work read in
+      subst (λ (sheet : Sheet). analyzeQuerySnippet sheet .fault ≡ sound → (q : ℕ) → scheduleIn sheet q ≡ scheduleOnce sheet q) (p .sheet-is)
+      (λ h q.
+      accepted-schedules (countsOf s) (specialOf s) (readTables s) (p .few) (p .fine)
+      (sym (accepted-fault (countsOf s) (specialOf s) (readTables s) (p .few) (p .fine)) ∙ h) q)

@@ -1,0 +1,141 @@
+-- The scheduler's calls, over a list of definitions as rows of words or as records: refusal 8 and zeros, or what demand 3 says of the list.
+use mathlib.Core.Path.{_≡_, refl, sym, ap, _∙_, subst}
+use mathlib.Core.Bool.{Bool, true, false, cond, _&&_}
+use mathlib.Core.List.{List, _++_, map, List·Memᴰ}
+use mathlib.Core.Logic.{_↔_}
+use Prim.Native.Nat.{ℕ, _-_, _<_, _%_, _*_, _/_}
+use native.Mathlib.Omega.{arith}
+use lib.Dec.{eqb, ltb, leb}
+use lib.ListN.{length, replicate}
+use borrow.Author.Tests.{leb-true}
+use Rattle.basics.specs.Truth.{and-left, and-right}
+use Rattle.basics.specs.Lists.{elem, all}
+use Rattle.basics.specs.Members.{all-mem}
+use Rattle.basics.specs.Ranges.{range}
+use Rattle.turns.specs.Definitions as turns
+use Rattle.turns.specs.Definitions.{Named}
+use Rattle.turns.specs.PlainWalk.{plainWalk, WalkEnded, canBeWalked}
+use Rattle.turns.specs.Turns.{statements, placements, placed, order, reached}
+use Rattle.turns.specs.Relisting.{Bijection, Permutes, Relisted}
+use Rattle.turns.specs.Theorems.{OrderOfAll}
+use Rattle.turns.specs.Shared.{plain-walks}
+use Rattle.rows.specs.Rows.{rowCount, definitions}
+use Rattle.bounds.specs.Question.{within, accepts}
+use Rattle.schedule.specs.Call.{number, outcome, mark}
+use Rattle.definitions.specs.declared.Definition.{Definition}
+use Rattle.definitions.specs.Rows.{definitionOf}
+use Rattle.definitions.specs.Question.{acceptsRecords}
+use Rattle.nokchbem.specs.Calls.{ScheduleCall, RecordsCall}
+use Rattle.nokchbem.specs.Agree.{Leaves, flat-leaves, records-leave}
+use Rattle.promises.specs.Demand1.{Parts}
+
+-- A list out of bounds: 8 at 0 0, and every entry of both buffers is 0.
+pub record Refused (room marks r : ℕ) (o m : List ℕ) : Type 0 where
+  pub parts : Parts r 8 0 0
+  pub no-order : o ≡ replicate room 0
+  pub no-marks : m ≡ replicate marks 0
+
+-- n statements with these definitions: the mark placed r, the order o and the marks m.
+pub record Meaning (defs : List turns.Definition) (n room marks r : ℕ) (o m : List ℕ) : Type 0 where
+  -- However the statements are relisted by π, the names exchanged one to one by ρ, the definitions listed and repeated, and whatever is picked until
+  -- nothing can be taken: the marks are those of the statements that the plain walk over the exchanged list took, with zeros behind them.
+  pub marked : (π ρ : Bijection) (others : List turns.Definition) → Permutes n π → Relisted (π .to) (ρ .to) defs others
+      → (picks : List ℕ) → WalkEnded others n (plainWalk others n picks)
+      → m ≡ map (λ i. mark (elem (π .to i) (plainWalk others n picks))) (range 0 n) ++ replicate (marks - n) 0
+  -- 1 is returned exactly when some order of all statements, each once, can be walked; otherwise 0.
+  pub placed-exactly : (r ≡ 1) ↔ ((q : List ℕ) × OrderOfAll n q × (canBeWalked defs n q ≡ true))
+  pub no-other : (r ≡ 1 → ⊥) → r ≡ 0
+  -- The order is then such a one, that of the turns, with zeros behind it.
+  pub order-of-turns : r ≡ 1
+      → (o ≡ statements (placements defs n 128) ++ replicate (room - n) 0)
+      × OrderOfAll n (statements (placements defs n 128))
+      × (canBeWalked defs n (statements (placements defs n 128)) ≡ true)
+  -- Otherwise it is the written one.
+  pub order-as-written : r ≡ 0 → o ≡ range 0 n ++ replicate (room - n) 0
+
+-- ---- of any list
+
+named-below : (n : ℕ) (defs : List turns.Definition) → all (within n) defs ≡ true → Named defs 128
+named-below n defs h d m =
+    let v = leb-true (d .var) 127 (and-right (ltb (d .statement) n) (leb (d .var) 127) (all-mem (within n) defs h m)) in
+    omega arith
+
+placed-number : (b : Bool) → (number (outcome true b) ≡ 1 → b ≡ true) × (b ≡ true → number (outcome true b) ≡ 1)
+placed-number true = (λ e. refl, λ e. refl)
+placed-number false = (λ e. absurd (omega arith), λ e. absurd (never e))
+  where
+    never : false ≡ true → ⊥
+    never e = let z : _≡_ {A = ℕ} 0 1 = cc in omega arith
+
+unplaced-number : (b : Bool) → number (outcome true b) ≡ 0 → b ≡ false
+unplaced-number true e = absurd (omega arith)
+unplaced-number false e = refl
+
+one-or-none : (b : Bool) → (number (outcome true b) ≡ 1 → ⊥) → number (outcome true b) ≡ 0
+one-or-none true e = absurd (e refl)
+one-or-none false e = refl
+
+module _ (defs : List turns.Definition) (n room marks : ℕ) {r : ℕ} {o m : List ℕ} where
+  refused : Leaves false defs n room marks r o m → Refused room marks r o m
+  refused l = record {
+    parts = record { the-number = rw (l .returned); the-line = rw (l .returned); the-col = rw (l .returned) };
+    no-order = l .ordered;
+    no-marks = l .marked;
+  }
+
+  meaning : Named defs 128 → Leaves true defs n room marks r o m → Meaning defs n room marks r o m
+  meaning named l =
+      let p = plain-walks defs n 128 named in
+      let is = placed-number (placed defs n 128) in
+      let has : r ≡ 1 → placed defs n 128 ≡ true = λ e. is .0 (sym (l .returned) ∙ e) in
+      let behind : List ℕ → List ℕ = λ q. q ++ replicate (room - n) 0 in
+      record {
+        marked = λ π ρ others perm moved picks ended.
+            l .marked
+            ∙ ap (λ (g : ℕ → Bool). map (λ i. mark (g i)) (range 0 n) ++ replicate (marks - n) 0)
+            (λ d i. p .shared π ρ others perm moved picks ended i d);
+        placed-exactly = (λ e. p .walkable .0 (has e), λ q. l .returned ∙ is .1 (p .walkable .1 q));
+        no-other = λ e. l .returned ∙ one-or-none (placed defs n 128) (λ f. e (l .returned ∙ f));
+        order-of-turns = λ e.
+            let t = p .in-turns (has e) in
+            let h = p .order-placed (has e) in
+            (l .ordered ∙ ap behind t, rw t at (h .0), rw t at (h .1));
+        order-as-written = λ e. l .ordered ∙ ap behind (p .order-unplaced (unplaced-number (placed defs n 128) (sym (l .returned) ∙ e)));
+      }
+
+-- ---- `nokchbem_schedule`
+
+module _ {ws : List ℕ} {n room marks r : ℕ} {o m : List ℕ} (call : ScheduleCall ws n room marks r o m) where
+  -- Exactly the lists that the question refuses are refused.
+  pub schedule-refuses : accepts ws n room marks ≡ false → Refused room marks r o m
+  schedule-refuses h =
+      refused (definitions ws) n room marks
+      (subst (λ (b : Bool). Leaves b (definitions ws) n room marks r o m) h (flat-leaves n room marks ws call))
+
+  -- Every other list has its meaning.
+  pub schedule-means : accepts ws n room marks ≡ true → Meaning (definitions ws) n room marks r o m
+  unfolding accepts
+  schedule-means h =
+      meaning (definitions ws) n room marks (named-below n (definitions ws) (asked h))
+      (subst (λ (b : Bool). Leaves b (definitions ws) n room marks r o m) h (flat-leaves n room marks ws call))
+    where
+      asked : accepts ws n room marks ≡ true → all (within n) (definitions ws) ≡ true
+      asked a =
+          and-right (leb n marks) _ (and-right (leb n room) _ (and-right (leb (rowCount ws) 640) _ (and-right (leb n 128) _ (and-right (eqb (length ws % 4) 0) _ a))))
+
+-- ---- `nokchbem_schedule_records`
+
+module _ (ds : List Definition) {n room marks r : ℕ} {o m : List ℕ} (call : RecordsCall ds n room marks r o m) where
+  pub records-refuse : acceptsRecords ds n room marks ≡ false → Refused room marks r o m
+  records-refuse h =
+      refused (map definitionOf ds) n room marks
+      (subst (λ (b : Bool). Leaves b (map definitionOf ds) n room marks r o m) h (records-leave n room marks ds call))
+
+  pub records-mean : acceptsRecords ds n room marks ≡ true → Meaning (map definitionOf ds) n room marks r o m
+  unfolding acceptsRecords
+  records-mean h =
+      meaning (map definitionOf ds) n room marks (named-below n (map definitionOf ds) (asked h))
+      (subst (λ (b : Bool). Leaves b (map definitionOf ds) n room marks r o m) h (records-leave n room marks ds call))
+    where
+      asked : acceptsRecords ds n room marks ≡ true → all (within n) (map definitionOf ds) ≡ true
+      asked a = and-right (leb n marks) _ (and-right (leb n room) _ (and-right (leb (length ds) 640) _ (and-right (leb n 128) _ a)))
