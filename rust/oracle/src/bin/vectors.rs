@@ -2,6 +2,9 @@
 //!
 //! First the worked example and the trial queries, then the smallest generated sheets that
 //! together show each feature with each outcome a few times, then some large ones.
+//!
+//! `vectors FILE COUNT [SEED]`: writes COUNT generated sheets instead, as they come from SEED (1) on,
+//! those apart that are too long for the original.
 
 use oracle::{analyze, NotAtHand, Outcome};
 use sheets::answer::{Answer, Placed};
@@ -19,15 +22,21 @@ const TITLE: &str = "Sheets with the original's answers. Made by \
 
 fn main() -> ExitCode {
     let arguments: Vec<String> = std::env::args().skip(1).collect();
-    let [file] = &arguments[..] else {
-        eprintln!("usage: vectors FILE");
+    let numbers: Option<Vec<u64>> = arguments.iter().skip(1).map(|a| a.parse().ok()).collect();
+    let (Some(file), Some(numbers @ ([] | [_] | [_, _]))) = (arguments.first(), numbers.as_deref())
+    else {
+        eprintln!("usage: vectors FILE [COUNT [SEED]]");
         return ExitCode::FAILURE;
     };
-    let written = oracle::on_deep_stack(list)
-        .map_err(|e| e.to_string())
-        .and_then(|list| {
-            std::fs::write(file, vectors::write(TITLE, &list)).map_err(|e| format!("{file}: {e}"))
-        });
+    let (count, seed) = (numbers.first().copied(), numbers.get(1).copied());
+    let written = oracle::on_deep_stack(move || match count {
+        None => list(),
+        Some(count) => generated(count, seed.unwrap_or(1)),
+    })
+    .map_err(|e| e.to_string())
+    .and_then(|list| {
+        std::fs::write(file, vectors::write(TITLE, &list)).map_err(|e| format!("{file}: {e}"))
+    });
     match written {
         Ok(()) => ExitCode::SUCCESS,
         Err(error) => {
@@ -75,6 +84,16 @@ fn list() -> Result<Vec<Vector>, NotAtHand> {
     }
     for (seed, sheet) in &large {
         list.extend(vector(format!("seed {seed}"), sheet)?);
+    }
+    Ok(list)
+}
+
+fn generated(count: u64, seed: u64) -> Result<Vec<Vector>, NotAtHand> {
+    let mut list = Vec::new();
+    let mut seeds = seed..;
+    while (list.len() as u64) < count {
+        let seed = seeds.next().expect("seeds enough");
+        list.extend(vector(format!("seed {seed}"), &generate::sheet(seed))?);
     }
     Ok(list)
 }
