@@ -234,8 +234,9 @@ impl Checker<'_> {
                 let output_query = |r: Row| self.named_query(r);
                 let around = self.references.enclosing(row, &output_query);
                 let not_larger = query == 1 || around.is_some_and(|q| query <= q);
-                let level = self.references.level(query, &output_query, &mut Vec::new());
-                let too_deep = level.is_some_and(|level| level > 8);
+                let level =
+                    around.and_then(|q| self.references.level(q, &output_query, &mut Vec::new()));
+                let too_deep = level.is_some_and(|level| level >= 8);
                 self.fault_if(row, not_larger || too_deep);
             }
         }

@@ -6,6 +6,7 @@ mod counts;
 mod deep;
 mod shapes;
 mod texts;
+mod twice;
 
 use crate::check::Fault;
 use crate::sheet::Sheet;
@@ -29,6 +30,7 @@ pub fn edges() -> Vec<Edge> {
     shapes::add(&mut edges);
     deep::add(&mut edges);
     texts::add(&mut edges);
+    twice::add(&mut edges);
     edges
 }
 

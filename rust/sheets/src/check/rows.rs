@@ -199,7 +199,7 @@ impl Check<'_> {
         }
     }
 
-    /// A nested query's row is larger than its enclosing query's, and its level at most 8.
+    /// A nested query's row is larger than its enclosing query's, and that one's level below 8.
     fn nesting(&mut self, namings: &Namings) {
         for reference in &self.references {
             if reference.refers != Refers::Query {
@@ -208,8 +208,10 @@ impl Check<'_> {
             let enclosing = namings.enclosing(reference.by);
             // Row 1 is larger than no query's, also where the enclosing one is not known.
             let too_small = reference.to == 1 || enclosing.is_some_and(|q| reference.to <= q);
-            let level = namings.level(reference.to);
-            if too_small || level.is_some_and(|level| level > limits::NESTING) {
+            // The level of the query around is known also where the named one is named twice.
+            let level = enclosing.and_then(|q| namings.level(q));
+            let too_deep = level.is_some_and(|level| level >= limits::NESTING);
+            if too_small || too_deep {
                 self.faults.push(reference.by);
             }
         }
