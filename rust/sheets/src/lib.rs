@@ -11,6 +11,7 @@ pub mod layout;
 pub mod lists;
 pub mod positions;
 pub mod read;
+pub mod rego;
 pub mod rng;
 pub mod sheet;
 pub mod shrink;
