@@ -3,9 +3,10 @@
 
 use differential::analyses::parts;
 use differential::comparing::{Difference, Outcome, Tally};
+use sheets::differences::DIFFERENCES;
 use sheets::positions::Style;
 use sheets::small::Kinds;
-use sheets::{edges, examples};
+use sheets::{edges, examples, Sheet};
 
 fn equal(run: Result<Tally, Difference>) -> Tally {
     let tally = run.unwrap_or_else(|difference| panic!("{difference}"));
@@ -28,17 +29,29 @@ fn meets(tally: &Tally, refusals: &[u16]) {
     }
 }
 
+/// What the printing program would write for a sheet with a short answer.
+fn text_of(sheet: &Sheet) -> String {
+    let (mut tables, mut work, mut answer) = (vec![7; 8_192], vec![7; 8_192], vec![7; 300]);
+    let sheet = sheet.text();
+    match nokchbem::analyze(sheet.as_bytes(), &mut tables, &mut work, &mut answer) {
+        Ok(length) => String::from_utf8_lossy(&answer[..length]).into_owned(),
+        Err(r) => format!("refusal line col\n{} {} {}\n\n", r.number, r.line, r.col),
+    }
+}
+
 #[test]
 fn the_trial_queries_come_out_as_specified() {
-    let (mut tables, mut work, mut answer) = (vec![7; 8_192], vec![7; 8_192], vec![7; 300]);
     for example in examples::trials() {
-        let sheet = example.snippet.sheet().text();
-        let result = nokchbem::analyze(sheet.as_bytes(), &mut tables, &mut work, &mut answer);
-        let text = match result {
-            Ok(length) => String::from_utf8_lossy(&answer[..length]).into_owned(),
-            Err(r) => format!("refusal line col\n{} {} {}\n\n", r.number, r.line, r.col),
-        };
+        let text = text_of(&example.snippet.sheet());
         assert_eq!(text, example.answer, "{}", example.label);
+    }
+}
+
+#[test]
+fn the_listed_differences_come_out_as_the_original_has_them() {
+    for difference in DIFFERENCES {
+        let text = text_of(&difference.sheet());
+        assert_eq!(text, difference.answer(), "{}", difference.label());
     }
 }
 

@@ -4,6 +4,7 @@ pub mod answer;
 pub mod census;
 pub mod check;
 pub mod damage;
+pub mod differences;
 pub mod edges;
 pub mod examples;
 pub mod generate;
