@@ -3,14 +3,14 @@ use mathlib.Core.Path.{_≡_, refl, sym, ap, _∙_, subst}
 use mathlib.Core.Bool.{Bool, true, false, not, cond, _&&_, _||_}
 use mathlib.Core.List.{List, List·Memᴰ, List·Memᴰ·head, List·Memᴰ·tail}
 use mathlib.Core.Logic.{_⊎_, inl, inr, ⊎-elim}
-use Prim.Native.Nat.{ℕ, zero, suc, _+_, _/_, _≤_, _<_}
+use Prim.Native.Nat.{ℕ, zero, suc, _+_, _≤_, _<_}
 use native.Mathlib.Omega.{arith}
 use Rattle.basics.specs.Truth.{eq-cases}
 use Rattle.records.specs.declared.Counts.{Counts}
 use Rattle.records.specs.Layout.{Within, deepest}
 use Rattle.records.specs.Rows.{Rows}
 use Rattle.fields.specs.declared.Field.{Field}
-use Rattle.fields.specs.Fields.{expressions, fieldFrom, first, second, third, chainOrNone, statementOrNone, kindFields, formFields, limitOf}
+use Rattle.fields.specs.Fields.{exprSection, limitOf, aChain, aStatement, or0, kindOf, formOf}
 use Rattle.naming.specs.Entries.{Entry, queryRow, statementRow, exprRow, nextField, exprEntry, statementEntry, exprEntries, statementEntries, queryEntries}
 use Rattle.naming.specs.Nesting.{parent, level}
 use Rattle.naming.specs.Faults.{isMember}
@@ -35,17 +35,17 @@ module _ (c : Counts) (t : Rows) where
   -- A field of expression r: what `Fine` says, and that a part comes after its whole.
   pub record Part (r : ℕ) (f : Field) (v : ℕ) : Type 0 where
     pub fine : Fine c t (queryOf c t (exprRow r)) (exprEntry c t r f v)
-    pub later : f .section ≡ expressions → 1 ≤ v → r < v
+    pub later : f .section ≡ exprSection → 1 ≤ v → r < v
 
   -- `Fine` says of each field that it is set where it must be, in range, and, of a query, larger than the one that the row lies in.
   pub record ExprFacts (r : ℕ) : Type 0 where
     pub kind-low : 1 ≤ t .expr r .kind
     pub kind-high : t .expr r .kind ≤ 22
     pub lying : Lying (exprRow r)
-    pub name : Part r (fieldFrom (kindFields (t .expr r .kind))) (t .expr r .name)
-    pub in-first : Part r (fieldFrom (kindFields (t .expr r .kind) / first)) (t .expr r .first)
-    pub in-second : Part r (fieldFrom (kindFields (t .expr r .kind) / second)) (t .expr r .second)
-    pub in-third : Part r (fieldFrom (kindFields (t .expr r .kind) / third)) (t .expr r .third)
+    pub name : Part r (kindOf (t .expr r .kind) .name) (t .expr r .name)
+    pub in-first : Part r (kindOf (t .expr r .kind) .first) (t .expr r .first)
+    pub in-second : Part r (kindOf (t .expr r .kind) .second) (t .expr r .second)
+    pub in-third : Part r (kindOf (t .expr r .kind) .third) (t .expr r .third)
     pub next : Onward (c .exprs) r (t .expr r .next)
 
   -- A field of statement s.
@@ -56,10 +56,10 @@ module _ (c : Counts) (t : Rows) where
     pub form-low : 1 ≤ t .statement s .form
     pub form-high : t .statement s .form ≤ 5
     pub lying : Lying (statementRow s)
-    pub in-query : Whole s (fieldFrom (formFields (t .statement s .form))) (t .statement s .query)
-    pub in-first : Whole s (fieldFrom (formFields (t .statement s .form) / first)) (t .statement s .first)
-    pub in-second : Whole s (fieldFrom (formFields (t .statement s .form) / second)) (t .statement s .second)
-    pub in-third : Whole s (fieldFrom (formFields (t .statement s .form) / third)) (t .statement s .third)
+    pub in-query : Whole s (formOf (t .statement s .form) .query) (t .statement s .query)
+    pub in-first : Whole s (formOf (t .statement s .form) .first) (t .statement s .first)
+    pub in-second : Whole s (formOf (t .statement s .form) .second) (t .statement s .second)
+    pub in-third : Whole s (formOf (t .statement s .form) .third) (t .statement s .third)
     pub in-with : t .statement s .with ≤ c .exprs
     pub next : Onward (c .statements) s (t .statement s .next)
 
@@ -81,8 +81,7 @@ module _ (c : Counts) (t : Rows) where
 
     -- A member's `next` is a field that may be 0, and any other's is 0.
     expr-onward : (b : Bool) (r v : ℕ) → v ≤ limitOf c (nextField b .section)
-        → (nextField b .section ≡ expressions → 1 ≤ v → r < v) → Onward (c .exprs) r v
-    unfolding fieldFrom
+        → (nextField b .section ≡ exprSection → 1 ≤ v → r < v) → Onward (c .exprs) r v
     expr-onward true r v l f = onward (c .exprs) r v l (f refl)
     expr-onward false r v l f = inl (omega arith)
 
@@ -109,7 +108,7 @@ module _ (c : Counts) (t : Rows) where
         }
 
     statement-facts : (s : ℕ) → 1 ≤ s → s ≤ c .statements → StatementFacts s
-    unfolding statementEntries fieldFrom
+    unfolding statementEntries
     statement-facts s a b =
         let row = fine-statement-row c t s (ok .fine-statement s a b) in
         let last = List·Memᴰ·tail (List·Memᴰ·tail (List·Memᴰ·tail (List·Memᴰ·tail (List·Memᴰ·tail (List·Memᴰ·head refl))))) in
@@ -121,15 +120,15 @@ module _ (c : Counts) (t : Rows) where
           in-first = row .fields (List·Memᴰ·tail (List·Memᴰ·head refl));
           in-second = row .fields (List·Memᴰ·tail (List·Memᴰ·tail (List·Memᴰ·head refl)));
           in-third = row .fields (List·Memᴰ·tail (List·Memᴰ·tail (List·Memᴰ·tail (List·Memᴰ·head refl))));
-          in-with = row .fields {e = statementEntry c t s (fieldFrom chainOrNone) (t .statement s .with)}
+          in-with = row .fields {e = statementEntry c t s (or0 aChain) (t .statement s .with)}
               (List·Memᴰ·tail (List·Memᴰ·tail (List·Memᴰ·tail (List·Memᴰ·tail (List·Memᴰ·head refl))))) .in-range;
           next = onward (c .statements) s (t .statement s .next)
-              (row .fields {e = statementEntry c t s (fieldFrom statementOrNone) (t .statement s .next)} last .in-range)
-              (statement-later c t few ok s a b {e = statementEntry c t s (fieldFrom statementOrNone) (t .statement s .next)} last refl);
+              (row .fields {e = statementEntry c t s (or0 aStatement) (t .statement s .next)} last .in-range)
+              (statement-later c t few ok s a b {e = statementEntry c t s (or0 aStatement) (t .statement s .next)} last refl);
         }
 
     query-facts : (q : ℕ) → 1 ≤ q → q ≤ c .queries → QueryFacts q
-    unfolding queryEntries fieldFrom
+    unfolding queryEntries
     query-facts q a b = record {
       in-first = fine-query-row c t q (ok .fine-query q a b) .fields {e = queryEntry q} (List·Memᴰ·head refl) .in-range;
       nested = λ h. query-nested c t few ok q h b;
@@ -137,7 +136,7 @@ module _ (c : Counts) (t : Rows) where
     }
       where
         queryEntry : ℕ → Entry
-        queryEntry q = record { field = fieldFrom statementOrNone; value = t .query q; place = queryRow q }
+        queryEntry q = record { field = or0 aStatement; value = t .query q; place = queryRow q }
 
   -- No line at fault, no row at fault.
   pub sheet-facts : Within c → firstLine c t ≡ 0 → SheetFacts

@@ -10,7 +10,7 @@ use Rattle.basics.specs.Members.{mem-filter}
 use Rattle.records.specs.declared.Counts.{Counts}
 use Rattle.records.specs.Layout.{Within}
 use Rattle.records.specs.Rows.{Rows}
-use Rattle.fields.specs.Fields.{expressions, statements, limitOf}
+use Rattle.fields.specs.Fields.{exprSection, statementSection, limitOf}
 use Rattle.naming.specs.Entries.{Entry, statementRow, exprRow, rowIn, target, exprEntries, statementEntries}
 use Rattle.naming.specs.Namings.{Naming, namers, upwards, namings}
 use Rattle.naming.specs.Faults.{isNamedSo, isMember}
@@ -37,7 +37,7 @@ module _ (c : Counts) (t : Rows) (few : Within c) (ok : Accepted c t) where
       subst (λ (j : ℕ). j < to) by (up-below (x .by) to h up)
 
   pub expr-later : (r : ℕ) → 1 ≤ r → r ≤ c .exprs → {e : Entry} → List·Memᴰ e (exprEntries c t (isMember c t r) r)
-      → e .field .section ≡ expressions → 1 ≤ e .value → r < e .value
+      → e .field .section ≡ exprSection → 1 ≤ e .value → r < e .value
   expr-later r a b {e} m s v =
       let row = fine-expr-row c t r (ok .fine-expr r a b) in
       let high : e .value ≤ c .exprs = subst (λ (k : ℕ). e .value ≤ limitOf c k) s (row .fields m .in-range) in
@@ -53,7 +53,7 @@ module _ (c : Counts) (t : Rows) (few : Within c) (ok : Accepted c t) where
       at-suc (suc r) a b {e} m n = expr-names c t e n r b m
 
   pub statement-later : (s : ℕ) → 1 ≤ s → s ≤ c .statements → {e : Entry} → List·Memᴰ e (statementEntries c t s)
-      → e .field .section ≡ statements → 1 ≤ e .value → s < e .value
+      → e .field .section ≡ statementSection → 1 ≤ e .value → s < e .value
   statement-later s a b {e} m sec v =
       let row = fine-statement-row c t s (ok .fine-statement s a b) in
       let high : e .value ≤ c .statements = subst (λ (k : ℕ). e .value ≤ limitOf c k) sec (row .fields m .in-range) in

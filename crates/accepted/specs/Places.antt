@@ -3,7 +3,7 @@ use mathlib.Core.Path.{_≡_, refl, sym, ap, _∙_, subst}
 use mathlib.Core.Bool.{Bool, true, false, cond, _&&_}
 use mathlib.Core.List.{List, [], _∷_, List·Memᴰ, List·Memᴰ·head, List·Memᴰ·tail, List·Memᴰ·cases-cons, List·Memᴰ·not-nil}
 use mathlib.Core.Logic.{_⊎_, inl, inr, ⊎-elim}
-use Prim.Native.Nat.{ℕ, _+_, _/_, _≤_, _<_}
+use Prim.Native.Nat.{ℕ, _+_, _≤_, _<_}
 use native.Mathlib.Omega.{arith}
 use lib.Dec.{eqb, leb, ltb}
 use borrow.Author.Tests.{le-leb, lt-ltb}
@@ -12,7 +12,8 @@ use Rattle.records.specs.declared.Counts.{Counts}
 use Rattle.records.specs.declared.Statement.{Statement}
 use Rattle.records.specs.Rows.{Rows}
 use Rattle.fields.specs.declared.Field.{Field}
-use Rattle.fields.specs.Fields.{queries, fieldFrom, query, first, second, third, kindFields, limitOf}
+use Rattle.fields.specs.Fields.{querySection, limitOf, aQuery, kindOf}
+use Rattle.fields.specs.Tables.{HoldsQuery}
 use Rattle.naming.specs.Entries.{Entry, queryRow, statementRow, exprRow, target, placeOf, nextField, exprEntry, exprEntries, statementEntries, queryEntries}
 use Rattle.naming.specs.Faults.{isMember}
 use Rattle.naming.specs.PlaceLaws.{each}
@@ -23,39 +24,38 @@ use Rattle.accepted.specs.Kinds.{Termed, termed-name, termed-first, term
 
 module _ (c : Counts) (t : Rows) where
   -- A comprehension's query, if it is set.
-  target-query : (v : ℕ) → 1 ≤ v → v ≤ c .queries → target c (fieldFrom query) v ≡ v
-  unfolding target fieldFrom
+  target-query : (v : ℕ) → 1 ≤ v → v ≤ c .queries → target c aQuery v ≡ v
+  unfolding target
   target-query v a b = rw (lt-ltb 0 v a, le-leb v (c .queries) b)
 
   -- A part lies where its whole does, and a term in the comprehension's query.
   pub record Lies (r : ℕ) (e : Entry) : Type 0 where
     pub part : e .field .term ≡ false → e .place ≡ exprRow r
     pub term : e .field .term ≡ true → (1 ≤ e .place) × (e .place ≤ c .queries)
-    pub no-query : e .field .section ≡ queries → e .field .term ≡ false
+    pub no-query : e .field .section ≡ querySection → e .field .term ≡ false
 
   module _ (r : ℕ) (x : FineExpr c t r) where
     kind : ℕ
     kind = t .expr r .kind
 
     -- Where the third is a query, it is set.
-    third-set : fieldFrom (kindFields kind / third) ≡ fieldFrom query → (1 ≤ t .expr r .third) × (t .expr r .third ≤ c .queries)
-    unfolding kind exprEntries fieldFrom
+    third-set : HoldsQuery (kindOf kind .third) → (1 ≤ t .expr r .third) × (t .expr r .third ≤ c .queries)
+    unfolding kind exprEntries
     third-set e =
-        let f = x .fields {e = exprEntry c t r (fieldFrom (kindFields kind / third)) (t .expr r .third)}
+        let f = x .fields {e = exprEntry c t r (kindOf kind .third) (t .expr r .third)}
         (List·Memᴰ·tail (List·Memᴰ·tail (List·Memᴰ·tail (List·Memᴰ·head refl)))) in
-        let s : fieldFrom (kindFields kind / third) .set ≡ true = ap (λ (g : Field). g .set) e in
-        (f .is-set s, subst (λ (g : Field). t .expr r .third ≤ limitOf c (g .section)) e (f .in-range))
+        (f .is-set (e .1), subst (λ (s : ℕ). t .expr r .third ≤ limitOf c s) (e .0) (f .in-range))
 
-    lies : (n v : ℕ) → Termed kind n → Lies r (exprEntry c t r (fieldFrom n) v)
+    lies : (f : Field) (v : ℕ) → Termed kind f → Lies r (exprEntry c t r f v)
     unfolding placeOf
-    lies n v h = record {
+    lies f v h = record {
       part = λ p. rw p;
       term = λ p. let s = third-set (h .third-is-query p) in rw (p, target-query (t .expr r .third) (s .0) (s .1)) s;
       no-query = h .query-is-no-term;
     }
 
     next-lies : (b : Bool) (v : ℕ) → Lies r (exprEntry c t r (nextField b) v)
-    unfolding placeOf fieldFrom
+    unfolding placeOf
     next-lies true v = record { part = λ p. refl; term = λ p. absurd (not-both p refl); no-query = λ p. refl }
     next-lies false v = record { part = λ p. refl; term = λ p. absurd (not-both p refl); no-query = λ p. refl }
 

@@ -3,7 +3,7 @@ use mathlib.Core.Path.{_≡_, refl, sym, ap, _∙_, subst}
 use mathlib.Core.Bool.{Bool, true, false, cond}
 use mathlib.Core.List.{List, [], _∷_, _++_, map, foldl}
 use mathlib.Core.Logic.{_⊎_, inl, inr}
-use Prim.Native.Nat.{ℕ, suc, _/_, _≤_, _<_}
+use Prim.Native.Nat.{ℕ, suc, _≤_, _<_}
 use native.Mathlib.Omega.{arith}
 use lib.Dec.{eqb}
 use lib.ListN.{getD}
@@ -11,7 +11,7 @@ use borrow.Author.Tests.{eq-eqb}
 use Rattle.basics.specs.Truth.{lt-cases}
 use Rattle.records.specs.declared.Statement.{Statement}
 use Rattle.records.specs.Layout.{statementAt}
-use Rattle.fields.specs.Fields.{fieldFrom, first, forms, formFields}
+use Rattle.fields.specs.Fields.{forms, formOf}
 use Rattle.records.specs.declared.Row.{Row}
 use Rattle.trees.specs.Lists.{concatMap}
 use Rattle.trees.specs.Sheet.{Sheet}
@@ -100,8 +100,8 @@ to-four : (form : ℕ) → form ≤ 5 → (form ≡ 5 → ⊥) → form ≤ 4
 to-four form high five = omega arith
 
 -- The first field of an expression's form is set.
-expr-set : (form : ℕ) → (form ≡ 3) ⊎ (form ≡ 4) → fieldFrom (formFields form / first) .set ≡ true
-unfolding formFields forms fieldFrom
+expr-set : (form : ℕ) → (form ≡ 3) ⊎ (form ≡ 4) → formOf form .first .set ≡ true
+unfolding formOf forms
 expr-set form (inl e) = rw e refl
 expr-set form (inr e) = rw e refl
 

@@ -8,7 +8,7 @@ use native.Mathlib.Omega.{arith}
 use Rattle.basics.specs.Truth.{bool-cases, not-both}
 use Rattle.records.specs.declared.Counts.{Counts}
 use Rattle.records.specs.Layout.{Within, exprAt}
-use Rattle.fields.specs.Fields.{names, limitOf}
+use Rattle.fields.specs.Fields.{nameSection, limitOf}
 use Rattle.fields.specs.Tables.{name-in-kind}
 use Rattle.accepted.specs.Facts.{Part, SheetFacts}
 use Rattle.records.specs.declared.Row.{Row}
@@ -71,8 +71,8 @@ module _ (n r : ℕ) (w : Row) (d : Descends n r w) where
 -- ---- names
 
 module _ (c : Counts) (t : List ℕ) (within : Within c) (facts : SheetFacts c (inTables t)) where
-  low-by : (section v : ℕ) → v ≤ limitOf c section → (section ≡ names) ⊎ (section ≡ 0) → v < 128
-  low-by section v h (inl e) = let l : v ≤ limitOf c names = subst (λ (k : ℕ). v ≤ limitOf c k) e h in omega (arith, within .few-names)
+  low-by : (section v : ℕ) → v ≤ limitOf c section → (section ≡ nameSection) ⊎ (section ≡ 0) → v < 128
+  low-by section v h (inl e) = let l : v ≤ limitOf c nameSection = subst (λ (k : ℕ). v ≤ limitOf c k) e h in omega (arith, within .few-names)
   low-by section v h (inr e) = let l : v ≤ limitOf c 0 = subst (λ (k : ℕ). v ≤ limitOf c k) e h in omega arith
 
   pub name-low : (r : ℕ) → 1 ≤ r → r ≤ c .exprs → rowAt t r .name < 128

@@ -3,14 +3,15 @@ use mathlib.Core.Path.{_≡_, refl, sym, ap, _∙_}
 use mathlib.Core.Bool.{true, false, _&&_}
 use mathlib.Core.List.{List}
 use mathlib.Core.Logic.{_⊎_, inl, inr}
-use Prim.Native.Nat.{ℕ, _/_, _≤_, _<_}
+use Prim.Native.Nat.{ℕ, _≤_, _<_}
 use native.Mathlib.Omega.{arith}
 use lib.Dec.{leb}
 use lib.ListN.{getD}
 use borrow.Author.Tests.{leb-true}
 use Rattle.basics.specs.Truth.{eq-cases, and-left, and-right}
 use Rattle.records.specs.Layout.{exprAt}
-use Rattle.fields.specs.Fields.{queries, fieldFrom, third, kinds, kindFields}
+use Rattle.fields.specs.Fields.{kinds, kindOf}
+use Rattle.fields.specs.Tables.{HoldsQuery}
 use Rattle.records.specs.declared.Row.{Row}
 use Rattle.trees.specs.Sheet.{rowAt}
 use Rattle.trees.specs.Kinds.{isCompr}
@@ -24,15 +25,12 @@ QueryIn w = isCompr w ≡ true → (1 ≤ w .third) × (w .third ≤ 32)
 
 -- ---- in an accepted sheet
 
--- The third field of a kind is a query, and set.
-abbrev HasQuery : ℕ → Type 0
-HasQuery kind = (fieldFrom (kindFields kind / third) .set ≡ true) × (fieldFrom (kindFields kind / third) .section ≡ queries)
-
-query-field : (kind : ℕ) → (leb 10 kind && leb kind 12) ≡ true → HasQuery kind
-unfolding kindFields kinds fieldFrom
+-- The third field of a comprehension's kind.
+query-field : (kind : ℕ) → (leb 10 kind && leb kind 12) ≡ true → HoldsQuery (kindOf kind .third)
+unfolding kindOf kinds
 query-field kind h = go (eq-cases kind 10) (eq-cases kind 11)
   where
-    go : ((kind ≡ 10) ⊎ (kind ≡ 10 → ⊥)) → ((kind ≡ 11) ⊎ (kind ≡ 11 → ⊥)) → HasQuery kind
+    go : ((kind ≡ 10) ⊎ (kind ≡ 10 → ⊥)) → ((kind ≡ 11) ⊎ (kind ≡ 11 → ⊥)) → HoldsQuery (kindOf kind .third)
     go (inl p) q = rw p (refl, refl)
     go (inr p) (inl q) = rw q (refl, refl)
     go (inr p) (inr q) =
@@ -44,13 +42,13 @@ query-field kind h = go (eq-cases kind 10) (eq-cases kind 11)
 module _ (t : List ℕ) (ok : Accepted t) (r : ℕ) (from : 1 ≤ r) (to : r ≤ getD t 2 0) (is : isCompr (rowAt t r) ≡ true) where
   pub query-from : 1 ≤ rowAt t r .third
   unfolding rowAt
-  query-from = ok .facts .expr r from to .in-third .fine .is-set (query-field (exprAt t r .kind) is .0)
+  query-from = ok .facts .expr r from to .in-third .fine .is-set (query-field (exprAt t r .kind) is .1)
 
   pub query-to : rowAt t r .third ≤ getD t 4 0
   unfolding rowAt
   query-to =
       let h = ok .facts .expr r from to .in-third .fine .in-range in
-      rw (query-field (exprAt t r .kind) is .1) at h
+      rw (query-field (exprAt t r .kind) is .0) at h
 
   pub query-low : rowAt t r .third ≤ 32
   query-low = omega (arith, query-to, ok .within .few-queries)

@@ -1,155 +1,145 @@
--- What the fields of a row hold, by its kind or form. A field that is not listed holds nothing, and an unknown kind or form lists none.
-use mathlib.Core.Bool.{cond}
+-- What the fields of a row hold, by its kind or form. An unknown kind or form lists none.
+use mathlib.Core.Bool.{true, false, cond}
 use mathlib.Core.List.{List, [], _∷_}
-use Prim.Native.Nat.{ℕ, _+_, _*_, _/_, _%_}
+use Prim.Native.Nat.{ℕ}
 use lib.Dec.{eqb}
 use lib.ListN.{getD}
 use Rattle.records.specs.declared.Counts.{Counts}
 use Rattle.fields.specs.declared.Field.{Field}
 
--- ---- what a field holds, as one number
+-- ---- the section whose rows a field's numbers stand for; 0 where the field is not listed
 
--- The section whose rows its numbers stand for; 0 where the field is not listed.
-abbrev pub names : ℕ
-names = 1
+abbrev pub nameSection : ℕ
+nameSection = 1
 
-abbrev pub expressions : ℕ
-expressions = 2
+abbrev pub exprSection : ℕ
+exprSection = 2
 
-abbrev pub statements : ℕ
-statements = 3
+abbrev pub statementSection : ℕ
+statementSection = 3
 
-abbrev pub queries : ℕ
-queries = 4
-
--- And what is asked of it besides, a bit each. It may not be 0.
-abbrev pub set : ℕ
-set = 8
-
--- It is a comprehension's term, key or value, which lies in the comprehension's query.
-abbrev pub term : ℕ
-term = 16
-
--- It is the first row of a chain.
-abbrev pub chain : ℕ
-chain = 32
-
--- It, or every member of the chain, is a Var.
-abbrev pub var : ℕ
-var = 64
-
--- The chain alternates key and value.
-abbrev pub pairs : ℕ
-pairs = 128
-
--- The field that a number describes.
-unfoldable pub fieldFrom : ℕ → Field
-fieldFrom n = record {
-  section = n % 8;
-  set = eqb (n / 8 % 2) 1;
-  term = eqb (n / 16 % 2) 1;
-  chain = eqb (n / 32 % 2) 1;
-  var = eqb (n / 64 % 2) 1;
-  pairs = eqb (n / 128 % 2) 1;
-}
-
--- ---- what is in the tables
-
-abbrev pub name : ℕ
-name = names + set
-
-abbrev pub nameOrNone : ℕ
-nameOrNone = names
-
--- An expression in the query that its whole lies in.
-abbrev pub part : ℕ
-part = expressions + set
-
-abbrev pub partOrNone : ℕ
-partOrNone = expressions
-
-abbrev pub aTerm : ℕ
-aTerm = expressions + set + term
-
-abbrev pub aVar : ℕ
-aVar = expressions + set + var
-
-abbrev pub aVarOrNone : ℕ
-aVarOrNone = expressions + var
-
--- So is a statement's `with`, and the `next` of a chain's member.
-abbrev pub chainOrNone : ℕ
-chainOrNone = expressions + chain
-
-abbrev pub chainOfVars : ℕ
-chainOfVars = expressions + set + chain + var
-
-abbrev pub chainOfPairs : ℕ
-chainOfPairs = expressions + chain + pairs
-
-abbrev pub query : ℕ
-query = queries + set
-
--- A query's first statement, or a statement's `next`.
-abbrev pub statementOrNone : ℕ
-statementOrNone = statements
-
--- ---- the tables: four bytes a row, one for a kind's `name` or a form's `query`, then one each for these
-
-abbrev pub first : ℕ
-first = 256
-
-abbrev pub second : ℕ
-second = 65536
-
-abbrev pub third : ℕ
-third = 16777216
-
-unfoldable pub kinds : List ℕ
-kinds =
-    0
-    ∷ nameOrNone  -- 1 String
-    ∷ 0  -- 2 RawString
-    ∷ 0  -- 3 Number
-    ∷ 0  -- 4 Bool
-    ∷ 0  -- 5 Null
-    ∷ name  -- 6 Var
-    ∷ chainOrNone * first  -- 7 Array
-    ∷ chainOrNone * first  -- 8 Set
-    ∷ chainOfPairs * first  -- 9 Object
-    ∷ (aTerm * first + query * third)  -- 10 ArrayCompr
-    ∷ (aTerm * first + query * third)  -- 11 SetCompr
-    ∷ (aTerm * first + aTerm * second + query * third)  -- 12 ObjectCompr
-    ∷ (part * first + chainOrNone * second)  -- 13 Call
-    ∷ part * first  -- 14 UnaryExpr
-    ∷ (name + part * first)  -- 15 RefDot
-    ∷ (part * first + part * second)  -- 16 RefBrack
-    ∷ (part * first + part * second)  -- 17 BinExpr
-    ∷ (part * first + part * second)  -- 18 BoolExpr
-    ∷ (part * first + part * second)  -- 19 ArithExpr
-    ∷ (part * first + part * second)  -- 20 AssignExpr `Eq`
-    ∷ (part * first + part * second)  -- 21 AssignExpr `ColEq`
-    ∷ (partOrNone * first + part * second + part * third)  -- 22 Membership
-    ∷ []
-
-unfoldable pub forms : List ℕ
-forms =
-    0
-    ∷ chainOfVars * first  -- 1 SomeVars
-    ∷ (partOrNone * first + part * second + part * third)  -- 2 SomeIn
-    ∷ part * first  -- 3 Expr
-    ∷ part * first  -- 4 NotExpr
-    ∷ (query + aVarOrNone * first + aVar * second + part * third)  -- 5 Every
-    ∷ []
-
-unfoldable pub kindFields : ℕ → ℕ
-kindFields kind = getD kinds kind 0
-
-unfoldable pub formFields : ℕ → ℕ
-formFields form = getD forms form 0
+abbrev pub querySection : ℕ
+querySection = 4
 
 -- How many rows a section has. Nothing has none.
 abbrev pub limitOf : Counts → ℕ → ℕ
 limitOf c s =
-    cond (eqb s names) (c .names)
-    (cond (eqb s expressions) (c .exprs) (cond (eqb s statements) (c .statements) (cond (eqb s queries) (c .queries) 0)))
+    cond (eqb s nameSection) (c .names)
+    (cond (eqb s exprSection) (c .exprs) (cond (eqb s statementSection) (c .statements) (cond (eqb s querySection) (c .queries) 0)))
+
+-- ---- what a field holds
+
+-- Nothing: the field is not listed, and is 0.
+abbrev pub absent : Field
+absent = record { section = 0; set = false; term = false; chain = false; var = false; pairs = false }
+
+-- A row of a section; it is set.
+abbrev pub aRow : ℕ → Field
+aRow s = record { section = s; set = true; term = false; chain = false; var = false; pairs = false }
+
+abbrev pub aName : Field
+aName = aRow nameSection
+
+-- An expression that lies where its whole does.
+abbrev pub aPart : Field
+aPart = aRow exprSection
+
+-- A comprehension's term, key or value, which lies in the comprehension's query.
+abbrev pub aTerm : Field
+aTerm = record { section = exprSection; set = true; term = true; chain = false; var = false; pairs = false }
+
+abbrev pub aVar : Field
+aVar = record { section = exprSection; set = true; term = false; chain = false; var = true; pairs = false }
+
+-- The first row of a chain; of a chain of Var; of one that alternates key and value.
+abbrev pub aChain : Field
+aChain = record { section = exprSection; set = true; term = false; chain = true; var = false; pairs = false }
+
+abbrev pub aChainOfVars : Field
+aChainOfVars = record { section = exprSection; set = true; term = false; chain = true; var = true; pairs = false }
+
+abbrev pub aChainOfPairs : Field
+aChainOfPairs = record { section = exprSection; set = true; term = false; chain = true; var = false; pairs = true }
+
+abbrev pub aStatement : Field
+aStatement = aRow statementSection
+
+abbrev pub aQuery : Field
+aQuery = aRow querySection
+
+-- The same, or 0.
+abbrev pub or0 : Field → Field
+or0 f = record { section = f .section; set = false; term = f .term; chain = f .chain; var = f .var; pairs = f .pairs }
+
+-- ---- the kinds
+
+pub record KindFields : Type 0 where
+  pub name : Field
+  pub first : Field
+  pub second : Field
+  pub third : Field
+
+abbrev kind : Field → Field → Field → Field → KindFields
+kind n f s t = record { name = n; first = f; second = s; third = t }
+
+abbrev pub noKind : KindFields
+noKind = kind absent absent absent absent
+
+-- Name, first, second, third.
+unfoldable pub kinds : List KindFields
+kinds =
+    noKind  -- 0
+    ∷ kind (or0 aName) absent absent absent  -- 1 String
+    ∷ kind absent absent absent absent  -- 2 RawString
+    ∷ kind absent absent absent absent  -- 3 Number
+    ∷ kind absent absent absent absent  -- 4 Bool
+    ∷ kind absent absent absent absent  -- 5 Null
+    ∷ kind aName absent absent absent  -- 6 Var
+    ∷ kind absent (or0 aChain) absent absent  -- 7 Array
+    ∷ kind absent (or0 aChain) absent absent  -- 8 Set
+    ∷ kind absent (or0 aChainOfPairs) absent absent  -- 9 Object
+    ∷ kind absent aTerm absent aQuery  -- 10 ArrayCompr
+    ∷ kind absent aTerm absent aQuery  -- 11 SetCompr
+    ∷ kind absent aTerm aTerm aQuery  -- 12 ObjectCompr
+    ∷ kind absent aPart (or0 aChain) absent  -- 13 Call
+    ∷ kind absent aPart absent absent  -- 14 UnaryExpr
+    ∷ kind aName aPart absent absent  -- 15 RefDot
+    ∷ kind absent aPart aPart absent  -- 16 RefBrack
+    ∷ kind absent aPart aPart absent  -- 17 BinExpr
+    ∷ kind absent aPart aPart absent  -- 18 BoolExpr
+    ∷ kind absent aPart aPart absent  -- 19 ArithExpr
+    ∷ kind absent aPart aPart absent  -- 20 AssignExpr `Eq`
+    ∷ kind absent aPart aPart absent  -- 21 AssignExpr `ColEq`
+    ∷ kind absent (or0 aPart) aPart aPart  -- 22 Membership
+    ∷ []
+
+unfoldable pub kindOf : ℕ → KindFields
+kindOf k = getD kinds k noKind
+
+-- ---- the forms
+
+pub record FormFields : Type 0 where
+  pub first : Field
+  pub second : Field
+  pub third : Field
+  pub query : Field
+
+abbrev form : Field → Field → Field → Field → FormFields
+form f s t q = record { first = f; second = s; third = t; query = q }
+
+abbrev pub noForm : FormFields
+noForm = form absent absent absent absent
+
+-- First, second, third, query. `with` and `next` are every form's.
+unfoldable pub forms : List FormFields
+forms =
+    noForm  -- 0
+    ∷ form aChainOfVars absent absent absent  -- 1 SomeVars
+    ∷ form (or0 aPart) aPart aPart absent  -- 2 SomeIn
+    ∷ form aPart absent absent absent  -- 3 Expr
+    ∷ form aPart absent absent absent  -- 4 NotExpr
+    ∷ form (or0 aVar) aVar aPart aQuery  -- 5 Every
+    ∷ []
+
+unfoldable pub formOf : ℕ → FormFields
+formOf f = getD forms f noForm

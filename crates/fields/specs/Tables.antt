@@ -1,6 +1,6 @@
 -- What is proved of the tables once.
 use mathlib.Core.Path.{_≡_, refl, sym}
-use mathlib.Core.Bool.{Bool, true, _||_}
+use mathlib.Core.Bool.{Bool, true, _&&_, _||_}
 use mathlib.Core.List.{List, [], _∷_}
 use mathlib.Core.Logic.{_⊎_, inl, inr, ⊎-elim}
 use Prim.Native.Nat.{ℕ, zero, suc, _≤_}
@@ -10,7 +10,8 @@ use lib.ListN.{length, getD, List·getD-eq-default}
 use borrow.Author.Tests.{eqb-true}
 use Rattle.basics.specs.Truth.{and-left, and-right, or-cases}
 use Rattle.basics.specs.Lists.{all}
-use Rattle.fields.specs.Fields.{names, fieldFrom, kinds, kindFields}
+use Rattle.fields.specs.declared.Field.{Field}
+use Rattle.fields.specs.Fields.{nameSection, querySection, KindFields, noKind, kinds, kindOf}
 
 -- ---- a `match` that has an arm for each number of a table from 1 on
 
@@ -35,22 +36,33 @@ left-over l n (suc k) short z h =
 
 -- ---- what all numbers of a table have in common
 
-pub all-getD : (f : ℕ → Bool) (l : List ℕ) (d : ℕ) → all f l ≡ true → f d ≡ true → (k : ℕ) → f (getD l k d) ≡ true
+pub all-getD : {A : Type 0} (f : A → Bool) (l : List A) (d : A) → all f l ≡ true → f d ≡ true → (k : ℕ) → f (getD l k d) ≡ true
 all-getD f [] d h p k = p
 all-getD f (x ∷ l) d h p zero = and-left (f x) (all f l) h
 all-getD f (x ∷ l) d h p (suc k) = all-getD f l d (and-right (f x) (all f l) h) p k
 
-nameOrNothing : ℕ → Bool
-nameOrNothing fs = eqb (fieldFrom fs .section) names || eqb (fieldFrom fs .section) 0
+nameOrNothing : KindFields → Bool
+nameOrNothing k = eqb (k .name .section) nameSection || eqb (k .name .section) 0
 
 names-in-kinds : all nameOrNothing kinds ≡ true
-unfolding nameOrNothing kinds fieldFrom
+unfolding nameOrNothing kinds
 names-in-kinds = refl
 
 -- The `name` of a row is a name, or nothing.
-pub name-in-kind : (kind : ℕ) → (fieldFrom (kindFields kind) .section ≡ names) ⊎ (fieldFrom (kindFields kind) .section ≡ 0)
-unfolding kindFields nameOrNothing fieldFrom
+pub name-in-kind : (kind : ℕ) → (kindOf kind .name .section ≡ nameSection) ⊎ (kindOf kind .name .section ≡ 0)
+unfolding kindOf nameOrNothing
 name-in-kind kind =
-    let section = fieldFrom (kindFields kind) .section in
-    ⊎-elim (λ p. inl (eqb-true section names p)) (λ p. inr (eqb-true section 0 p))
-    (or-cases (eqb section names) (eqb section 0) (all-getD nameOrNothing kinds 0 names-in-kinds refl kind))
+    let section = kindOf kind .name .section in
+    ⊎-elim (λ p. inl (eqb-true section nameSection p)) (λ p. inr (eqb-true section 0 p))
+    (or-cases (eqb section nameSection) (eqb section 0) (all-getD nameOrNothing kinds noKind names-in-kinds refl kind))
+
+-- ---- a query, and set
+
+abbrev pub HoldsQuery : Field → Type 0
+HoldsQuery f = (f .section ≡ querySection) × (f .set ≡ true)
+
+abbrev pub holdsQuery : Field → Bool
+holdsQuery f = eqb (f .section) querySection && f .set
+
+pub holds-query : (f : Field) → holdsQuery f ≡ true → HoldsQuery f
+holds-query f h = (eqb-true (f .section) querySection (and-left (eqb (f .section) querySection) _ h), and-right (eqb (f .section) querySection) _ h)

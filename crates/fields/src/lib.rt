@@ -2,7 +2,8 @@
 
 use records::Counts;
 ghost use mathlib.Core.Path.{_≡_};
-ghost use Rattle.fields.specs.Fields.{kindFields, formFields, fieldFrom, limitOf};
+ghost use Rattle.fields.specs.Fields.{limitOf};
+ghost use Rattle.fields.specs.Packed.{kindFields, formFields, fieldFrom};
 
 // What a field holds, as one number: the section whose rows its numbers stand for, 0 where the field is not listed ..
 pub const NAMES: u32 = 1;

@@ -3,7 +3,7 @@ use mathlib.Core.Path.{_≡_, refl, sym, ap, _∙_, subst}
 use mathlib.Core.Bool.{Bool, true, false, _&&_, _||_}
 use mathlib.Core.List.{List, [], _∷_, _++_, foldl, foldl-append}
 use mathlib.Core.Logic.{_⊎_, inl, inr, ⊎-elim}
-use Prim.Native.Nat.{ℕ, zero, suc, _+_, _/_, _≤_, _<_}
+use Prim.Native.Nat.{ℕ, zero, suc, _+_, _≤_, _<_}
 use native.Mathlib.Omega.{arith}
 use lib.Dec.{eqb}
 use lib.ListN.{length, getD}
@@ -12,7 +12,8 @@ use Rattle.basics.specs.Truth.{and-left, and-right, or-cases}
 use Rattle.basics.specs.Lists.{all}
 use Rattle.records.specs.declared.Statement.{Statement}
 use Rattle.records.specs.Layout.{statementAt, firstAt}
-use Rattle.fields.specs.Fields.{expressions, first, second, third, fieldFrom, forms, formFields, limitOf}
+use Rattle.fields.specs.declared.Field.{Field}
+use Rattle.fields.specs.Fields.{exprSection, limitOf, FormFields, noForm, forms, formOf}
 use Rattle.fields.specs.Tables.{all-getD}
 use Rattle.trees.specs.Sheet.{sheetOf, noStatement}
 use Rattle.trees.specs.Trees.{treeAt, chain}
@@ -33,34 +34,34 @@ use Rattle.gather.specs.Statements.{Named, StmtStep}
 
 -- ---- what the table of forms says: the first three fields are expressions
 
-exprField : ℕ → Bool
-exprField n = eqb (fieldFrom n .section) 0 || eqb (fieldFrom n .section) expressions
+exprField : Field → Bool
+exprField f = eqb (f .section) 0 || eqb (f .section) exprSection
 
-exprFields : ℕ → Bool
-exprFields fs = exprField (fs / first) && (exprField (fs / second) && exprField (fs / third))
+exprFields : FormFields → Bool
+exprFields fs = exprField (fs .first) && (exprField (fs .second) && exprField (fs .third))
 
 forms-have : all exprFields forms ≡ true
-unfolding exprFields exprField forms fieldFrom
+unfolding exprFields exprField forms
 forms-have = refl
 
-none-have : exprFields 0 ≡ true
-unfolding exprFields exprField fieldFrom
+none-have : exprFields noForm ≡ true
+unfolding exprFields exprField
 none-have = refl
 
-form-has : (form : ℕ) → exprFields (formFields form) ≡ true
-unfolding formFields
-form-has form = all-getD exprFields forms 0 forms-have none-have form
+form-has : (form : ℕ) → exprFields (formOf form) ≡ true
+unfolding formOf
+form-has form = all-getD exprFields forms noForm forms-have none-have form
 
 module _ (t : List ℕ) where
-  expr-low : (n v : ℕ) → exprField n ≡ true → v ≤ limitOf (countsAt t) (fieldFrom n .section) → v ≤ getD t 2 0
+  expr-low : (f : Field) (v : ℕ) → exprField f ≡ true → v ≤ limitOf (countsAt t) (f .section) → v ≤ getD t 2 0
   unfolding exprField
-  expr-low n v p h = ⊎-elim none-low some-low (or-cases (eqb (fieldFrom n .section) 0) (eqb (fieldFrom n .section) expressions) p)
+  expr-low f v p h = ⊎-elim none-low some-low (or-cases (eqb (f .section) 0) (eqb (f .section) exprSection) p)
     where
-      none-low : eqb (fieldFrom n .section) 0 ≡ true → v ≤ getD t 2 0
-      none-low q = let low : v ≤ limitOf (countsAt t) 0 = rw (eqb-true (fieldFrom n .section) 0 q) at h in omega arith
+      none-low : eqb (f .section) 0 ≡ true → v ≤ getD t 2 0
+      none-low q = let low : v ≤ limitOf (countsAt t) 0 = rw (eqb-true (f .section) 0 q) at h in omega arith
 
-      some-low : eqb (fieldFrom n .section) expressions ≡ true → v ≤ getD t 2 0
-      some-low q = let low : v ≤ limitOf (countsAt t) expressions = rw (eqb-true (fieldFrom n .section) expressions q) at h in low
+      some-low : eqb (f .section) exprSection ≡ true → v ≤ getD t 2 0
+      some-low q = let low : v ≤ limitOf (countsAt t) exprSection = rw (eqb-true (f .section) exprSection q) at h in low
 
   -- The statement at a row.
   abbrev pub stmtAt : ℕ → Stmt
@@ -77,13 +78,13 @@ module _ (t : List ℕ) where
     unfolding exprFields
     named-at row there high =
         let k = ok .facts .statement row (omega arith) high in
-        let fs = formFields (statementAt t row .form) in
+        let fs = formOf (statementAt t row .form) in
         let p = form-has (statementAt t row .form) in
-        let q = and-right (exprField (fs / first)) _ p in
+        let q = and-right (exprField (fs .first)) _ p in
         record {
-          first = expr-low (fs / first) _ (and-left (exprField (fs / first)) _ p) (k .in-first .in-range);
-          second = expr-low (fs / second) _ (and-left (exprField (fs / second)) _ q) (k .in-second .in-range);
-          third = expr-low (fs / third) _ (and-right (exprField (fs / second)) _ q) (k .in-third .in-range);
+          first = expr-low (fs .first) _ (and-left (exprField (fs .first)) _ p) (k .in-first .in-range);
+          second = expr-low (fs .second) _ (and-left (exprField (fs .second)) _ q) (k .in-second .in-range);
+          third = expr-low (fs .third) _ (and-right (exprField (fs .second)) _ q) (k .in-third .in-range);
           with = k .in-with;
         }
 

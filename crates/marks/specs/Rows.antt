@@ -15,7 +15,9 @@ use Rattle.records.specs.declared.Expr.{Expr}
 use Rattle.records.specs.declared.Statement.{Statement}
 use Rattle.records.specs.Layout.{Within, exprAt, statementAt}
 use Rattle.fields.specs.declared.Field.{Field}
-use Rattle.fields.specs.Fields.{fieldFrom, chainOrNone, statementOrNone, query, first, second, third, kindFields, formFields}
+use Rattle.fields.specs.Fields.{aChain, aStatement, aQuery, or0, kindOf, formOf}
+use Rattle.fields.specs.Packed.{fieldFrom, first, second, third, kindFields, formFields, chainOrNone, statementOrNone}
+use Rattle.fields.specs.Packed.{kind-first, kind-second, kind-third, form-first, form-second, form-third, form-query, nothing-held, chain-held, statement-held}
 use Rattle.fields.specs.Tables.{name-in-kind}
 use Rattle.naming.specs.Entries.{Entry, queryRow, statementRow, exprRow, placeOf, nextField, exprEntries, statementEntries, queryEntries}
 use Rattle.naming.specs.Namings.{namers, inChain, byQueries, byStatements, byExprs}
@@ -29,11 +31,11 @@ fieldOf r f v = record { field = f; value = v; place = statementRow r }
 
 abbrev pub fieldsOf : Statement → ℕ → List Entry
 fieldsOf x r =
-    fieldOf r (fieldFrom (formFields (x .form))) (x .query)
-    ∷ fieldOf r (fieldFrom (formFields (x .form) / first)) (x .first)
-    ∷ fieldOf r (fieldFrom (formFields (x .form) / second)) (x .second)
-    ∷ fieldOf r (fieldFrom (formFields (x .form) / third)) (x .third)
-    ∷ fieldOf r (fieldFrom chainOrNone) (x .with) ∷ fieldOf r (fieldFrom statementOrNone) (x .next) ∷ []
+    fieldOf r (formOf (x .form) .query) (x .query)
+    ∷ fieldOf r (formOf (x .form) .first) (x .first)
+    ∷ fieldOf r (formOf (x .form) .second) (x .second)
+    ∷ fieldOf r (formOf (x .form) .third) (x .third)
+    ∷ fieldOf r (or0 aChain) (x .with) ∷ fieldOf r (or0 aStatement) (x .next) ∷ []
 
 module _ (c : Counts) where
   abbrev pub partOf : Expr → ℕ → Field → ℕ → Entry
@@ -41,10 +43,10 @@ module _ (c : Counts) where
 
   abbrev pub partsOf : Bool → Expr → ℕ → List Entry
   partsOf member x r =
-      partOf x r (fieldFrom (kindFields (x .kind))) (x .name)
-      ∷ partOf x r (fieldFrom (kindFields (x .kind) / first)) (x .first)
-      ∷ partOf x r (fieldFrom (kindFields (x .kind) / second)) (x .second)
-      ∷ partOf x r (fieldFrom (kindFields (x .kind) / third)) (x .third)
+      partOf x r (kindOf (x .kind) .name) (x .name)
+      ∷ partOf x r (kindOf (x .kind) .first) (x .first)
+      ∷ partOf x r (kindOf (x .kind) .second) (x .second)
+      ∷ partOf x r (kindOf (x .kind) .third) (x .third)
       ∷ partOf x r (nextField member) (x .next) ∷ []
 
   module _ (t : List ℕ) where
@@ -87,7 +89,7 @@ unfolding placeOf
 place-bound c within f x r h = go (bool-cases (f .term))
   where
     go : (f .term ≡ true) ⊎ (f .term ≡ false) → placeOf c f (x .third) r ≤ 672
-    go (inl p) = rw p (target-bound c within (fieldFrom query) (x .third))
+    go (inl p) = rw p (target-bound c within aQuery (x .third))
     go (inr p) = rw p (omega arith)
 
 -- ---- the fields of a row one after the other
@@ -101,7 +103,13 @@ pub fields-work : (c : Counts) (x : Statement) (r fs : ℕ) (w u v y z a b : Lis
     → b ≡ nameWork c (statementRow r) (fieldOf r (fieldFrom statementOrNone) (x .next)) a
     → b ≡ rowWork c (statementRow r) (fieldsOf x r) w
 unfolding rowWork
-fields-work c x r fs w u v y z a b e p q s t m n = rw (n, m, t, s, q, p, e)
+fields-work c x r fs w u v y z a b e p q s t m n =
+    let f = x .form in rw (n, m, t, s, q, p, e, form-query f, form-first f, form-second f, form-third f, chain-held, statement-held)
+
+-- What the code reads of a row's `next`.
+pub next-held : (member : Bool) → fieldFrom (cond member chainOrNone 0) ≡ nextField member
+next-held true = chain-held
+next-held false = nothing-held
 
 -- The `name` comes first, and names no row.
 pub parts-work : (c : Counts) (x : Expr) (r : ℕ) (member : Bool) (fs next : ℕ) (w v y z a : List ℕ)
@@ -113,10 +121,11 @@ pub parts-work : (c : Counts) (x : Expr) (r : ℕ) (member : Bool) (fs next : �
     → a ≡ rowWork c (exprRow r) (partsOf c member x r) w
 unfolding rowWork
 parts-work c x r member fs next w v y z a e f q s t m =
-    let named = fieldFrom (kindFields (x .kind)) in
+    let k = x .kind in
+    let named = kindOf k .name in
     let none : w ≡ nameWork c (exprRow r) (partOf c x r named (x .name)) w =
-    name-none c (exprRow r) (partOf c x r named (x .name)) w 0 (target-of-name c named (x .name) (name-in-kind (x .kind))) refl in
-    rw (m, t, s, q, e, f, ← none)
+    name-none c (exprRow r) (partOf c x r named (x .name)) w 0 (target-of-name c named (x .name) (name-in-kind k)) refl in
+    rw (m, t, s, q, e, f, kind-first k, kind-second k, kind-third k, next-held member, ← none)
 
 -- ---- zeros
 

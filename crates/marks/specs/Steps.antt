@@ -11,7 +11,7 @@ use borrow.Author.Tests.{eq-eqb, ne-eqb, le-leb, lt-leb, lt-ltb, le-ltb}
 use Rattle.basics.specs.Truth.{bool-cases}
 use Rattle.records.specs.declared.Counts.{Counts}
 use Rattle.fields.specs.declared.Field.{Field}
-use Rattle.fields.specs.Fields.{names, limitOf}
+use Rattle.fields.specs.Fields.{nameSection, limitOf}
 use Rattle.naming.specs.Entries.{Entry, rowIn, inRange, target}
 use Rattle.naming.specs.Namings.{upwards}
 use Rattle.marks.specs.Codes.{nextCode}
@@ -35,11 +35,11 @@ module _ (c : Counts) (f : Field) (v : ℕ) where
   target-in l r z e h q =
       q ∙ sym (rw (lt-ltb 0 v (omega arith), le-leb v (limitOf c (f .section)) (subst (λ (k : ℕ). v ≤ k) e h)))
 
-  pub target-of-name : (f .section ≡ names) ⊎ (f .section ≡ 0) → 0 ≡ target c f v
+  pub target-of-name : (f .section ≡ nameSection) ⊎ (f .section ≡ 0) → 0 ≡ target c f v
   unfolding target
   target-of-name h = go (bool-cases (inRange c f v)) h
     where
-      go : (inRange c f v ≡ true) ⊎ (inRange c f v ≡ false) → (f .section ≡ names) ⊎ (f .section ≡ 0) → 0 ≡ target c f v
+      go : (inRange c f v ≡ true) ⊎ (inRange c f v ≡ false) → (f .section ≡ nameSection) ⊎ (f .section ≡ 0) → 0 ≡ target c f v
       go (inl p) (inl e) = sym (rw (p, e))
       go (inl p) (inr e) = sym (rw (p, e))
       go (inr p) e = sym (rw p)

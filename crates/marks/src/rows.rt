@@ -27,7 +27,7 @@ ghost use Prim.Native.Nat.{_≤_};
 ghost use lib.ListN.{length};
 ghost use Rattle.records.specs.Layout.{Within};
 ghost use Rattle.naming.specs.Entries.{queryRow, statementRow, exprRow, placeOf, queryEntries};
-ghost use Rattle.fields.specs.Fields.{fieldFrom, chainOrNone};
+ghost use Rattle.fields.specs.Packed.{fieldFrom, chainOrNone};
 ghost use mathlib.Core.Bool.{cond};
 ghost use Rattle.naming.specs.Namings.{byQueries, byStatements, namings};
 ghost use Rattle.marks.specs.Marks.{Marks, nameWork, rowWork};

@@ -12,7 +12,7 @@ use Rattle.records.specs.declared.Counts.{Counts}
 use Rattle.records.specs.Layout.{Within}
 use Rattle.records.specs.Rows.{Rows}
 use Rattle.fields.specs.declared.Field.{Field}
-use Rattle.fields.specs.Fields.{fieldFrom, query}
+use Rattle.fields.specs.Fields.{aQuery}
 use Rattle.naming.specs.Entries.{Entry, queryRow, statementRow, exprRow, inRange, target, placeOf, exprEntries, statementEntries, queryEntries}
 use Rattle.naming.specs.Namings.{Naming}
 use Rattle.naming.specs.Origins.{Made, Origin, by-query, by-statement, by-expr}
@@ -37,8 +37,8 @@ module _ (c : Counts) (t : Rows) where
   statement-place s m = each (λ e. e .place ≡ statementRow s) _ (refl, (refl, (refl, (refl, (refl, (refl, tt)))))) m
 
   -- A comprehension's query, or 0.
-  query-small : (v : ℕ) → target c (fieldFrom query) v ≤ c .queries
-  unfolding target fieldFrom
+  query-small : (v : ℕ) → target c aQuery v ≤ c .queries
+  unfolding target
   query-small v = go (bool-cases (ltb 0 v && leb v (c .queries)))
     where
       go : (ltb 0 v && leb v (c .queries) ≡ true) ⊎ (ltb 0 v && leb v (c .queries) ≡ false) → cond (ltb 0 v && leb v (c .queries)) v 0 ≤ c .queries
@@ -49,7 +49,7 @@ module _ (c : Counts) (t : Rows) where
   unfolding placeOf
   part-below few r f = go (f .term)
     where
-      go : (b : Bool) → cond b (target c (fieldFrom query) (t .expr r .third)) (exprRow r) ≤ exprRow r
+      go : (b : Bool) → cond b (target c aQuery (t .expr r .third)) (exprRow r) ≤ exprRow r
       go true = let s = query-small (t .expr r .third) in let q = few .few-queries in omega arith
       go false = omega arith
 

@@ -3,7 +3,7 @@ use mathlib.Core.Path.{_≡_, refl, ap, _∙_, subst}
 use mathlib.Core.Bool.{Bool, true, false, cond, not, _&&_, _||_}
 use mathlib.Core.List.{List, List·Memᴰ·head, List·Memᴰ·tail}
 use mathlib.Core.Logic.{_⊎_, inl, inr, ⊎-elim}
-use Prim.Native.Nat.{ℕ, suc, _+_, _-_, _/_, _≤_}
+use Prim.Native.Nat.{ℕ, suc, _+_, _-_, _≤_}
 use native.Mathlib.Omega.{arith}
 use lib.Dec.{eqb}
 use borrow.Author.Tests.{eqb-true, not-true}
@@ -12,7 +12,9 @@ use Rattle.basics.specs.Lists.{all, all-elem}
 use Rattle.basics.specs.Ranges.{range, elem-range}
 use Rattle.records.specs.declared.Counts.{Counts}
 use Rattle.records.specs.Layout.{exprAt, statementAt}
-use Rattle.fields.specs.Fields.{queries, fieldFrom, third, kinds, forms, kindFields, formFields, limitOf}
+use Rattle.fields.specs.declared.Field.{Field}
+use Rattle.fields.specs.Fields.{limitOf, kinds, kindOf, forms, formOf}
+use Rattle.fields.specs.Tables.{HoldsQuery, holdsQuery, holds-query}
 use Rattle.naming.specs.Entries.{Entry, statementRow, exprRow, rowIn, exprEntry, statementEntry, exprEntries, statementEntries}
 use Rattle.naming.specs.Namings.{entryNaming}
 use Rattle.naming.specs.Origins.{targetOf}
@@ -27,33 +29,28 @@ use Rattle.records.specs.Rows.{inTables}
 
 -- ---- the tables of kinds and forms
 
--- A query, and not none.
-abbrev HoldsQuery : ℕ → Type 0
-HoldsQuery n = (fieldFrom n .section ≡ queries) × (fieldFrom n .set ≡ true)
-
 -- Is the third field of this kind a query, if it is a comprehension's?
 kindTest : ℕ → Bool
-kindTest kind = not (comprKind kind) || (eqb (fieldFrom (kindFields kind / third) .section) queries && fieldFrom (kindFields kind / third) .set)
+kindTest kind = not (comprKind kind) || holdsQuery (kindOf kind .third)
 
 -- So it is of every kind.
 kinds-pass : all kindTest (range 0 23) ≡ true
-unfolding kindTest range kindFields kinds fieldFrom
+unfolding kindTest range kindOf kinds
 kinds-pass = refl
 
 -- A comprehension's third field holds a query.
-compr-holds : (kind : ℕ) → kind ≤ 22 → comprKind kind ≡ true → HoldsQuery (kindFields kind / third)
+compr-holds : (kind : ℕ) → kind ≤ 22 → comprKind kind ≡ true → HoldsQuery (kindOf kind .third)
 unfolding kindTest
 compr-holds kind l p =
-    let f = fieldFrom (kindFields kind / third) in
+    let f = kindOf kind .third in
     let h = all-elem kindTest (range 0 23) kinds-pass kind (elem-range kind 0 23 (omega arith) (omega arith)) in
     ⊎-elim (λ (n : not (comprKind kind) ≡ true). absurd (not-both p (not-true _ n)))
-    (λ (b : eqb (f .section) queries && f .set ≡ true).
-    (eqb-true (f .section) queries (and-left (eqb (f .section) queries) _ b), and-right (eqb (f .section) queries) _ b))
+    (λ (b : holdsQuery f ≡ true). holds-query f b)
     (or-cases (not (comprKind kind)) _ h)
 
 -- An `every` holds one.
-every-holds : HoldsQuery (formFields 5)
-unfolding formFields forms fieldFrom
+every-holds : HoldsQuery (formOf 5 .query)
+unfolding formOf forms
 every-holds = (refl, refl)
 
 -- ---- the fields
@@ -65,11 +62,11 @@ module _ (c : Counts) (g : ℕ → ℕ) where
 
   module _ (t : List ℕ) where
     -- A field that holds a query.
-    query-field : (k q n v place : ℕ) → let e : Entry = record { field = fieldFrom n; value = v; place = place } in
-        Fine c (inTables t) q e → HoldsQuery n → g v ≤ worth queryValue (entryNaming c k e)
+    query-field : (k q : ℕ) (f : Field) (v place : ℕ) → let e : Entry = record { field = f; value = v; place = place } in
+        Fine c (inTables t) q e → HoldsQuery f → g v ≤ worth queryValue (entryNaming c k e)
     unfolding queryValue
-    query-field k q n v place fine h =
-        let e : Entry = record { field = fieldFrom n; value = v; place = place } in
+    query-field k q f v place fine h =
+        let e : Entry = record { field = f; value = v; place = place } in
         let low = fine .is-set (h .1) in
         let more = fine .nests low (h .0) .not-first in
         let high : v ≤ c .queries = subst (λ (i : ℕ). v ≤ limitOf c i) (h .0) (fine .in-range) in
@@ -93,12 +90,12 @@ module _ (c : Counts) (g : ℕ → ℕ) where
               → cond (comprKind (exprAt t r .kind)) (g (exprAt t r .third)) 0 ≤ exprWorth c queryValue t r
           go (inl p) =
               let row = fine-expr-row c (inTables t) r (ok .fine-expr r low high) in
-              let n = kindFields (exprAt t r .kind) / third in
+              let f = kindOf (exprAt t r .kind) .third in
               rw p
               (omega (
                 arith,
-                query-field (exprRow r) _ n (exprAt t r .third) _
-                    (row .fields {e = exprEntry c (inTables t) r (fieldFrom n) (exprAt t r .third)}
+                query-field (exprRow r) _ f (exprAt t r .third) _
+                    (row .fields {e = exprEntry c (inTables t) r f (exprAt t r .third)}
                     (List·Memᴰ·tail (List·Memᴰ·tail (List·Memᴰ·tail (List·Memᴰ·head refl))))) (compr-holds _ (row .kind-high) p),
               ))
           go (inr p) = rw p (omega arith)
@@ -109,10 +106,10 @@ module _ (c : Counts) (g : ℕ → ℕ) where
       unfolding statementWorth rowWorth statementEntries
       every-worth s low high five =
           let row = fine-statement-row c (inTables t) s (ok .fine-statement s low high) in
-          let n = formFields (statementAt t s .form) in
-          let holds : HoldsQuery n = rw five every-holds in
+          let f = formOf (statementAt t s .form) .query in
+          let holds : HoldsQuery f = rw five every-holds in
           omega (
             arith,
-            query-field (statementRow s) _ n (statementAt t s .query) _
-                (row .fields {e = statementEntry c (inTables t) s (fieldFrom n) (statementAt t s .query)} (List·Memᴰ·head refl)) holds,
+            query-field (statementRow s) _ f (statementAt t s .query) _
+                (row .fields {e = statementEntry c (inTables t) s f (statementAt t s .query)} (List·Memᴰ·head refl)) holds,
           )

@@ -18,7 +18,7 @@ use Rattle.text.specs.Questions.{formFault, sectionRows, namesFault, rowOfName,
 use Rattle.text.specs.Trials.{Trial}
 use Rattle.tables.specs.Layout.{areas, areasFrom}
 use Rattle.tables.specs.Tables.{tables, putSections, putRows}
-use Rattle.fields.specs.Fields.{fieldFrom, kinds, forms, kindFields, formFields}
+use Rattle.fields.specs.Fields.{kinds, kindOf, forms, formOf}
 use Rattle.naming.specs.Entries.{target, placeOf, exprEntries, statementEntries, queryEntries}
 use Rattle.naming.specs.Namings.{namers, inChain, entryNaming, rowNamings, byQueries, byStatements, byExprs, namings}
 use Rattle.naming.specs.Nesting.{grown, enclosing, parent, levelIn, level}
@@ -109,7 +109,7 @@ trials =
 pub trials-pass : all passes trials ≡ true
 unfolding bytes lines numbers.words numbers.value numbers.number numbers.numbers numbers.values sections block sheet form faultOf rowsIn before nameFault
     nameRow rowOfName counts.lineOf overLine noQueryLine countFault formFault sectionRows namesFault countsFault
-    tables putSections putRows areas areasFrom fieldFrom kinds forms kindFields formFields
+    tables putSections putRows areas areasFrom kinds forms kindOf formOf
     target placeOf exprEntries statementEntries queryEntries namers inChain entryNaming rowNamings byQueries byStatements byExprs namings
     grown enclosing parent levelIn level varsIn endsIn allVars endsOdd
     fieldFault faults.fieldsFault isNamedSo isMember exprFault statementFault queryFault pathBefore builtinFault

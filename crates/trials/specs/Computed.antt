@@ -15,7 +15,7 @@ use Rattle.text.specs.Counts as counts
 use Rattle.text.specs.Questions.{formFault, sectionRows, namesFault, countsFault, rowOfName}
 use Rattle.tables.specs.Layout.{areas, areasFrom}
 use Rattle.tables.specs.Tables.{tables, putSections, putRows}
-use Rattle.fields.specs.Fields.{fieldFrom, kinds, forms, kindFields, formFields}
+use Rattle.fields.specs.Fields.{kinds, kindOf, forms, formOf}
 use Rattle.naming.specs.Entries.{target, placeOf, exprEntries, statementEntries, queryEntries}
 use Rattle.naming.specs.Namings.{namers, inChain, entryNaming, rowNamings, byQueries, byStatements, byExprs, namings}
 use Rattle.naming.specs.Nesting.{grown, enclosing, parent, levelIn, level}
@@ -75,7 +75,7 @@ analysedSheet s = analyzeQuerySnippet s
 -- The whole call.
 unfoldable pub computed : List ℕ → ℕ → ℕ → ℕ → Result
 unfolding sheetRead analysedSheet before nameFault counts.lineOf overLine noQueryLine countFault formFault namesFault countsFault
-    fieldFrom kinds forms kindFields formFields target placeOf exprEntries statementEntries queryEntries
+    kinds forms kindOf formOf target placeOf exprEntries statementEntries queryEntries
     namers inChain entryNaming rowNamings byQueries byStatements byExprs namings grown enclosing parent levelIn level
     varsIn endsIn allVars endsOdd fieldFault faults.fieldsFault isNamedSo isMember exprFault statementFault queryFault pathBefore
     builtinFault lineOf firstOf firstLine questions.fieldsFault questions.asked questions.verdict result

@@ -1,7 +1,7 @@
 -- The code reads the bits as the definition does.
 use mathlib.Core.Path.{refl}
 use borrow.Author.Needs.{needs}
-use Rattle.fields.specs.Fields.{fieldFrom}
+use Rattle.fields.specs.Packed.{fieldFrom}
 use Rattle.fields.proofs.field_from.Statement.{statement}
 use Rattle.fields.proofs.field_from.Tie as tie
 

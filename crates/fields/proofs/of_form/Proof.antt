@@ -1,9 +1,11 @@
 -- In each arm the number is known, and the definition computes; past the table's end a form lists nothing.
 use mathlib.Core.Path.{_≡_, refl, sym, ap}
+use mathlib.Core.List.{map}
 use Prim.Native.Nat.{ℕ}
 use native.Mathlib.Omega.{arith}
 use Rattle.fields.specs.Tables.{left-over}
-use Rattle.fields.specs.Fields.{forms, formFields}
+use Rattle.fields.specs.Fields.{forms}
+use Rattle.fields.specs.Packed.{packedForm, formFields}
 use Rattle.fields.proofs.of_form.Statement.{statement}
 use Rattle.fields.proofs.of_form.Tie as tie
 
@@ -12,7 +14,7 @@ known e = ap formFields (sym e)
 
 rest : tie.Need-returns-6
 unfolding forms formFields
-rest c = left-over forms 5 (c .before .args .form) (omega arith) refl (c .match .rest)
+rest c = left-over (map packedForm forms) 5 (c .before .args .form) (omega arith) refl (c .match .rest)
 
 pub of-form-spec : {M : Type 1} → statement M
 unfolding forms formFields

@@ -1,9 +1,11 @@
 -- In each arm the number is known, and the definition computes; past the table's end a kind lists nothing.
 use mathlib.Core.Path.{_≡_, refl, sym, ap}
+use mathlib.Core.List.{map}
 use Prim.Native.Nat.{ℕ}
 use native.Mathlib.Omega.{arith}
 use Rattle.fields.specs.Tables.{left-over}
-use Rattle.fields.specs.Fields.{kinds, kindFields}
+use Rattle.fields.specs.Fields.{kinds}
+use Rattle.fields.specs.Packed.{packedKind, kindFields}
 use Rattle.fields.proofs.of_kind.Statement.{statement}
 use Rattle.fields.proofs.of_kind.Tie as tie
 
@@ -12,7 +14,7 @@ known e = ap kindFields (sym e)
 
 rest : tie.Need-returns-23
 unfolding kinds kindFields
-rest c = left-over kinds 22 (c .before .args .kind) (omega arith) refl (c .match .rest)
+rest c = left-over (map packedKind kinds) 22 (c .before .args .kind) (omega arith) refl (c .match .rest)
 
 pub of-kind-spec : {M : Type 1} → statement M
 unfolding kinds kindFields

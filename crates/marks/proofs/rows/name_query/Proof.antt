@@ -1,7 +1,7 @@
 -- One field.
 use mathlib.Core.Path.{_≡_, ap, _∙_}
 use Prim.Native.Nat.{ℕ}
-use Rattle.fields.specs.Fields.{fieldFrom, statementOrNone}
+use Rattle.fields.specs.Packed.{fieldFrom, statementOrNone}
 use Rattle.naming.specs.Entries.{queryEntries}
 use Rattle.marks.specs.Marks.{nameWork, rowWork}
 use borrow.Author.Needs.{needs}
@@ -18,7 +18,7 @@ same-length : tie.Need-same-length
 same-length c = search needs
 
 returns : tie.Need-returns
-unfolding rowWork queryEntries
+unfolding rowWork queryEntries fieldFrom
 returns c =
     let a = c .before .before .before .before .before .before .before .args in c .before .before .name-from .ensures ∙ ap (λ (v : ℕ). nameWork (a .counts) (a .row) (record { field = fieldFrom statementOrNone; value = v; place = a .row }) (a .work .now)) (c .before .before .before .before .first-at .ensures)
 

@@ -3,6 +3,7 @@ use Rattle.naming.specs.Entries.{placeOf, target}
 use Rattle.records.specs.declared.Counts.{Counts}
 use mathlib.Core.Path.{ap, _∙_}
 use Rattle.fields.specs.declared.Field.{Field}
+use Rattle.fields.specs.Packed.{fieldFrom}
 use borrow.Author.Needs.{needs}
 use Rattle.marks.proofs.rows.place_of.Statement.{statement}
 use Rattle.marks.proofs.rows.place_of.Tie as tie
@@ -14,7 +15,7 @@ named-by-requires : tie.Need-named-by-requires
 named-by-requires c κs = search needs
 
 returns : tie.Need-returns
-unfolding placeOf
+unfolding placeOf fieldFrom
 returns c =
     let a = c .before .before .before .args in rw (c .before .before .if1 .taken) (c .named-by .ensures ∙ ap (λ (f : Field). target (a .counts) f (a .x .third)) (c .before .field-from .ensures))
 
