@@ -8,10 +8,12 @@ use native.Mathlib.Omega.{arith}
 use lib.Dec.{eqb}
 use borrow.Author.Tests.{eqb-true, eqb-false}
 use Rattle.basics.specs.Truth.{bool-cases, eq-cases}
+use Rattle.text.specs.Sections.{builtInsAt, exprsAt, statementsAt, queriesAt, lineOf, lineOr}
+use Rattle.text.specs.SectionLaws.{line-some}
 use Rattle.records.specs.declared.Counts.{Counts}
 use Rattle.records.specs.Rows.{Rows}
 use Rattle.naming.specs.Faults.{builtinFault, exprFault, statementFault, queryFault}
-use Rattle.naming.specs.Lines.{Block, builtins, exprs, statements, queries, firstOf, heading, lineOf, orElse, firstLine}
+use Rattle.naming.specs.Lines.{firstAtFault, listed, firstLine}
 
 pub record Accepted (c : Counts) (t : Rows) : Type 0 where
   pub fine-builtin : (r : ℕ) → 1 ≤ r → r ≤ c .builtins → builtinFault c t r ≡ false
@@ -19,37 +21,36 @@ pub record Accepted (c : Counts) (t : Rows) : Type 0 where
   pub fine-statement : (s : ℕ) → 1 ≤ s → s ≤ c .statements → statementFault c t s ≡ false
   pub fine-query : (q : ℕ) → 1 ≤ q → q ≤ c .queries → queryFault c t q ≡ false
 
-none-of : (fault : ℕ → Bool) (r n : ℕ) → 0 < r → firstOf fault r n ≡ 0 → (j : ℕ) → r ≤ j → j < r + n → fault j ≡ false
-unfolding firstOf
+none-of : (fault : ℕ → Bool) (r n : ℕ) → 0 < r → firstAtFault fault r n ≡ 0 → (j : ℕ) → r ≤ j → j < r + n → fault j ≡ false
+unfolding firstAtFault
 none-of fault r zero p h j a b = absurd (omega arith)
 none-of fault r (suc n) p h j a b = go (bool-cases (fault r)) (λ e. none-of fault (suc r) n (omega arith) e)
   where
     go : (fault r ≡ true) ⊎ (fault r ≡ false)
-        → (firstOf fault (suc r) n ≡ 0 → (j : ℕ) → suc r ≤ j → j < suc r + n → fault j ≡ false) → fault j ≡ false
+        → (firstAtFault fault (suc r) n ≡ 0 → (j : ℕ) → suc r ≤ j → j < suc r + n → fault j ≡ false) → fault j ≡ false
     go (inl q) rest = let z : r ≡ 0 = rw q at h in absurd (omega arith)
     go (inr q) rest =
         ⊎-elim (λ (e : r ≡ j). subst (λ (i : ℕ). fault i ≡ false) e q)
         (λ (ne : r ≡ j → ⊥). rest (rw q at h) j (omega arith) (omega arith)) (eq-cases r j)
 
-none-from-1 : (fault : ℕ → Bool) (n : ℕ) → firstOf fault 1 n ≡ 0 → (j : ℕ) → 1 ≤ j → j ≤ n → fault j ≡ false
+none-from-1 : (fault : ℕ → Bool) (n : ℕ) → firstAtFault fault 1 n ≡ 0 → (j : ℕ) → 1 ≤ j → j ≤ n → fault j ≡ false
 none-from-1 fault n h j a b = none-of fault 1 n (omega arith) h j a (omega arith)
 
 module _ (c : Counts) where
-  no-line : (b : Block) (r other : ℕ) → orElse c b r other ≡ 0 → (r ≡ 0) × (other ≡ 0)
-  unfolding lineOf
-  no-line b r other h = go (bool-cases (eqb r 0))
+  no-line : (k r other : ℕ) → lineOr (listed c) k r other ≡ 0 → (r ≡ 0) × (other ≡ 0)
+  no-line k r other h = go (bool-cases (eqb r 0))
     where
       go : (eqb r 0 ≡ true) ⊎ (eqb r 0 ≡ false) → (r ≡ 0) × (other ≡ 0)
       go (inl q) = (eqb-true r 0 q, rw q at h)
-      go (inr q) = let ne = eqb-false r 0 q in let z : heading c b + r ≡ 0 = rw q at h in absurd (omega arith)
+      go (inr q) = let z : lineOf (listed c) k r ≡ 0 = rw q at h in absurd (omega (arith, line-some (listed c) k r))
 
   pub accepted : (t : Rows) → firstLine c t ≡ 0 → Accepted c t
   unfolding firstLine
   accepted t h =
-      let a = no-line builtins _ _ h in
-      let b = no-line exprs _ _ (a .1) in
-      let d = no-line statements _ _ (b .1) in
-      let e = no-line queries _ _ (d .1) in
+      let a = no-line builtInsAt _ _ h in
+      let b = no-line exprsAt _ _ (a .1) in
+      let d = no-line statementsAt _ _ (b .1) in
+      let e = no-line queriesAt _ _ (d .1) in
       record {
         fine-builtin = none-from-1 (builtinFault c t) (c .builtins) (a .0);
         fine-expr = none-from-1 (exprFault c t) (c .exprs) (b .0);

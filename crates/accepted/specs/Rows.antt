@@ -10,7 +10,7 @@ use Rattle.records.specs.declared.Counts.{Counts}
 use Rattle.records.specs.Rows.{Rows}
 use Rattle.naming.specs.Entries.{Entry, queryRow, statementRow, exprRow, exprEntries, statementEntries, queryEntries}
 use Rattle.naming.specs.EnclosingLaws.{queryOf}
-use Rattle.naming.specs.Faults.{fieldsFault, isNamedSo, isMember, exprFault, statementFault, queryFault}
+use Rattle.naming.specs.Faults.{entriesFault, isNamedSo, isMember, exprFault, statementFault, queryFault}
 use Rattle.accepted.specs.Neither.{neither-left, neither-right, not-second}
 use Rattle.accepted.specs.FineFields.{Fine, fine-fields}
 

@@ -4,7 +4,7 @@ use mathlib.Core.List.{List, [], _∷_, _++_, append-assoc}
 use Prim.Native.Nat.{ℕ, _+_, _≤_, _<_}
 use Rattle.text.specs.Bytes.{space}
 use Rattle.writer.specs.Writes.{Puts, put-none, puts-then}
-use Rattle.writer.specs.Decimal.{decimal, line}
+use Rattle.writer.specs.Decimal.{decimal, rowLine}
 use Rattle.answer.specs.Ranges.{texts, texts-none, texts-last, texts-skip}
 
 -- The same text in another form.
@@ -13,10 +13,10 @@ puts-as b at c r k l e p = subst (λ (m : List ℕ). Puts b at m c r) e p
 
 -- A value in front of a line.
 pub line-more : (b : List ℕ) (at x y : ℕ) (row c : List ℕ) (r : ℕ) (d : List ℕ) (s : ℕ)
-    → Puts b at (decimal x ++ (space ∷ [])) c r → Puts c r (line (y ∷ row)) d s → Puts b at (line (x ∷ y ∷ row)) d s
+    → Puts b at (decimal x ++ (space ∷ [])) c r → Puts c r (rowLine (y ∷ row)) d s → Puts b at (rowLine (x ∷ y ∷ row)) d s
 line-more b at x y row c r d s f g =
-    subst (λ (l : List ℕ). Puts b at l d s) (append-assoc (decimal x) (space ∷ []) (line (y ∷ row)))
-    (puts-then b at (decimal x ++ (space ∷ [])) c r (line (y ∷ row)) d s f g)
+    subst (λ (l : List ℕ). Puts b at l d s) (append-assoc (decimal x) (space ∷ []) (rowLine (y ∷ row)))
+    (puts-then b at (decimal x ++ (space ∷ [])) c r (rowLine (y ∷ row)) d s f g)
 
 -- ---- a run of lines
 

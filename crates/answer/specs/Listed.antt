@@ -7,7 +7,7 @@ use native.Mathlib.Omega.{arith}
 use lib.ListN.{getD}
 use Rattle.names.specs.Sets.{member, Next}
 use Rattle.writer.specs.Writes.{Puts}
-use Rattle.writer.specs.Decimal.{line}
+use Rattle.writer.specs.Decimal.{rowLine}
 use Rattle.answer.specs.Stored.{wordAt, setAt}
 use Rattle.answer.specs.Ranges.{texts}
 use Rattle.answer.specs.Lines.{puts-as, run-first, run-next, run-skip}
@@ -58,7 +58,7 @@ module _ (w : List ℕ) (q : ℕ) where
     is-local h = sym (ap (λ (l : List ℕ). member l x) is) ∙ h
 
     pub local-here : member ws x ≡ true
-        → line (q ∷ 1 ∷ x ∷ (wordAt w q (16 + x) / 65536) ∷ (wordAt w q (16 + x) % 65536) ∷ []) ≡ localLine w q x
+        → rowLine (q ∷ 1 ∷ x ∷ (wordAt w q (16 + x) / 65536) ∷ (wordAt w q (16 + x) % 65536) ∷ []) ≡ localLine w q x
     unfolding localLine
     local-here h = rw (is-local h)
 
@@ -67,7 +67,7 @@ module _ (w : List ℕ) (q : ℕ) where
     local-none h = rw (sym (ap (λ (l : List ℕ). member l x) is) ∙ h)
 
   module _ (set : ℕ) (ws : List ℕ) (is : ws ≡ setAt w q (2 * set + 1)) (x : ℕ) where
-    pub name-here : member ws x ≡ true → line (q ∷ set ∷ x ∷ 0 ∷ 0 ∷ []) ≡ nameLine w q set x
+    pub name-here : member ws x ≡ true → rowLine (q ∷ set ∷ x ∷ 0 ∷ 0 ∷ []) ≡ nameLine w q set x
     unfolding nameLine
     name-here h = rw (sym (ap (λ (l : List ℕ). member l x) is) ∙ h)
 

@@ -9,10 +9,10 @@ use native.Mathlib.Numerals.{add-one}
 use Rattle.basics.specs.Ranges.{range}
 use Rattle.text.specs.Bytes.{newline, bytes}
 use Rattle.writer.specs.Writes.{Puts, puts-then}
-use Rattle.writer.specs.Decimal.{line}
+use Rattle.writer.specs.Decimal.{rowLine}
 use Rattle.trees.specs.Lists.{concatMap}
 use Rattle.analysis.specs.States.{QuerySchedule, scheduleOf}
-use Rattle.answers.specs.Rows.{queryRows, placeRows, setRows, rowsOf}
+use Rattle.answers.specs.Rows.{queryRows, placeRows, setRows, allRows}
 use Rattle.answers.specs.Text.{section, answerText}
 use Rattle.answer.specs.Stored.{StoredAt, Stored}
 use Rattle.answer.specs.Ranges.{texts, texts-same, concat-concat}
@@ -21,27 +21,27 @@ use Rattle.answer.specs.Lines.{puts-as}
 -- ---- a section
 
 module _ (rows : ℕ → Option QuerySchedule → List (List ℕ)) (f : ℕ → List ℕ) (heading : String) (n : ℕ) (schedules : List QuerySchedule) where
-  section-same : ((q : ℕ) → 1 ≤ q → q ≤ n → concatMap line (rows q (scheduleOf schedules q)) ≡ f q)
-      → (bytes heading ++ (newline ∷ [])) ++ (texts f 1 (n + 1) ++ (newline ∷ [])) ≡ section heading (rowsOf rows n schedules)
-  unfolding section rowsOf texts
+  section-same : ((q : ℕ) → 1 ≤ q → q ≤ n → concatMap rowLine (rows q (scheduleOf schedules q)) ≡ f q)
+      → (bytes heading ++ (newline ∷ [])) ++ (texts f 1 (n + 1) ++ (newline ∷ [])) ≡ section heading (allRows rows n schedules)
+  unfolding section allRows texts
   section-same same =
       append-assoc (bytes heading) (newline ∷ []) (texts f 1 (n + 1) ++ (newline ∷ []))
       ∙ ap (λ (l : List ℕ). bytes heading ++ (newline ∷ (l ++ (newline ∷ []))))
-      (sym (concat-concat line _ (range 1 (suc n)) ∙ ap (texts _ 1) (sym (add-one n)) ∙ texts-same _ f 1 (n + 1) (λ q l u. same q l (omega arith))))
+      (sym (concat-concat rowLine _ (range 1 (suc n)) ∙ ap (texts _ 1) (sym (add-one n)) ∙ texts-same _ f 1 (n + 1) (λ q l u. same q l (omega arith))))
 
 -- What a call that writes a section ensures.
 abbrev pub PutsSection : (ℕ → Option QuerySchedule → List (List ℕ)) → String → List ℕ → ℕ → List ℕ → ℕ → List ℕ → ℕ → Type 0
 PutsSection rows heading w n b at c r =
-    (schedules : List QuerySchedule) → Stored w schedules → Puts b at (section heading (rowsOf rows n schedules)) c r
+    (schedules : List QuerySchedule) → Stored w schedules → Puts b at (section heading (allRows rows n schedules)) c r
 
 module _ (w : List ℕ) (n : ℕ) (few : n ≤ 32) (b : List ℕ) (at : ℕ) (c : List ℕ) (r : ℕ) where
   -- The heading, the lines of the queries, and an empty line.
   pub put-section : (rows : ℕ → Option QuerySchedule → List (List ℕ)) (f : ℕ → List ℕ) (heading : String)
-      → ((q : ℕ) (o : Option QuerySchedule) → StoredAt w q o → concatMap line (rows q o) ≡ f q)
+      → ((q : ℕ) (o : Option QuerySchedule) → StoredAt w q o → concatMap rowLine (rows q o) ≡ f q)
       → (d : List ℕ) (s : ℕ) → Puts b at (bytes heading ++ (newline ∷ [])) d s
       → (e : List ℕ) (t k : ℕ) → k ≡ n + 1 → Puts d s (texts f 1 k) e t → Puts e t (newline ∷ []) c r → PutsSection rows heading w n b at c r
   put-section rows f heading same d s first e t k is lines last schedules stored =
-      puts-as b at c r _ (section heading (rowsOf rows n schedules))
+      puts-as b at c r _ (section heading (allRows rows n schedules))
       (ap (λ (m : ℕ). (bytes heading ++ (newline ∷ [])) ++ (texts f 1 m ++ (newline ∷ []))) is
       ∙ section-same rows f heading n schedules (λ q l u. same q (scheduleOf schedules q) (stored q l (omega arith))))
       (puts-then b at (bytes heading ++ (newline ∷ [])) d s _ c r first (puts-then d s (texts f 1 k) e t (newline ∷ []) c r lines last))

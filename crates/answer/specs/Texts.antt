@@ -6,7 +6,7 @@ use Prim.Native.Nat.{ℕ, _+_, _-_, _*_, _/_, _%_}
 use lib.Dec.{eqb}
 use borrow.Author.Tests.{eq-eqb, ne-eqb}
 use Rattle.names.specs.Sets.{member}
-use Rattle.writer.specs.Decimal.{line}
+use Rattle.writer.specs.Decimal.{rowLine}
 use Rattle.answer.specs.Stored.{wordAt, setAt, placeAt}
 use Rattle.answer.specs.Ranges.{texts}
 
@@ -16,10 +16,10 @@ module _ (w : List ℕ) (q : ℕ) where
   analysed never once = cond (eqb (wordAt w q 0) 0) never once
 
   unfoldable pub queryText : List ℕ
-  queryText = analysed (line (q ∷ 2 ∷ 0 ∷ [])) (line (q ∷ (wordAt w q 0 - 1) ∷ wordAt w q 1 ∷ []))
+  queryText = analysed (rowLine (q ∷ 2 ∷ 0 ∷ [])) (rowLine (q ∷ (wordAt w q 0 - 1) ∷ wordAt w q 1 ∷ []))
 
   unfoldable pub placeLine : ℕ → List ℕ
-  placeLine k = line (q ∷ k ∷ (placeAt w q k / 2) ∷ (placeAt w q k % 2) ∷ [])
+  placeLine k = rowLine (q ∷ k ∷ (placeAt w q k / 2) ∷ (placeAt w q k % 2) ∷ [])
 
   unfoldable pub placesText : List ℕ
   placesText = analysed [] (texts placeLine 0 (wordAt w q 2))
@@ -27,11 +27,11 @@ module _ (w : List ℕ) (q : ℕ) where
   -- Nothing at a name that is no local.
   unfoldable pub localLine : ℕ → List ℕ
   localLine x =
-      cond (member (setAt w q 3) x) (line (q ∷ 1 ∷ x ∷ (wordAt w q (16 + x) / 65536) ∷ (wordAt w q (16 + x) % 65536) ∷ [])) []
+      cond (member (setAt w q 3) x) (rowLine (q ∷ 1 ∷ x ∷ (wordAt w q (16 + x) / 65536) ∷ (wordAt w q (16 + x) % 65536) ∷ [])) []
 
   -- Nothing at a name that is not in the set.
   unfoldable pub nameLine : ℕ → ℕ → List ℕ
-  nameLine set x = cond (member (setAt w q (2 * set + 1)) x) (line (q ∷ set ∷ x ∷ 0 ∷ 0 ∷ [])) []
+  nameLine set x = cond (member (setAt w q (2 * set + 1)) x) (rowLine (q ∷ set ∷ x ∷ 0 ∷ 0 ∷ [])) []
 
   unfoldable pub setsText : List ℕ
   setsText = analysed [] (texts localLine 0 128 ++ (texts (nameLine 2) 0 128 ++ texts (nameLine 3) 0 128))
@@ -39,7 +39,7 @@ module _ (w : List ℕ) (q : ℕ) where
   -- ---- by the first word
 
   module _ (never : wordAt w q 0 ≡ 0) where
-    pub query-never : queryText ≡ line (q ∷ 2 ∷ 0 ∷ [])
+    pub query-never : queryText ≡ rowLine (q ∷ 2 ∷ 0 ∷ [])
     unfolding queryText
     query-never = rw (eq-eqb (wordAt w q 0) 0 never)
 
@@ -52,7 +52,7 @@ module _ (w : List ℕ) (q : ℕ) where
     sets-never = rw (eq-eqb (wordAt w q 0) 0 never)
 
   module _ (once : wordAt w q 0 ≡ 0 → ⊥) where
-    pub query-once : queryText ≡ line (q ∷ (wordAt w q 0 - 1) ∷ wordAt w q 1 ∷ [])
+    pub query-once : queryText ≡ rowLine (q ∷ (wordAt w q 0 - 1) ∷ wordAt w q 1 ∷ [])
     unfolding queryText
     query-once = rw (ne-eqb (wordAt w q 0) 0 once)
 

@@ -4,11 +4,11 @@ use writer::put_value;
 ghost use mathlib.Core.List.{[], _∷_};
 ghost use Prim.Native.Nat.{_≤_};
 ghost use Rattle.writer.specs.Writes.{Puts};
-ghost use Rattle.writer.specs.Decimal.{line};
+ghost use Rattle.writer.specs.Decimal.{rowLine};
 
 pub fn put_three(answer: &mut [u8], at: usize, a: usize, b: usize, c: usize) -> usize
     requires { ⌜ (a ≤ 65535) × (b ≤ 65535) × (c ≤ 65535) ⌝ }
-    ensures { λ r. ⌜ Puts (now (answer .entry)) at (line (a ∷ b ∷ c ∷ [])) (now (answer .exit)) r ⌝ }
+    ensures { λ r. ⌜ Puts (now (answer .entry)) at (rowLine (a ∷ b ∷ c ∷ [])) (now (answer .exit)) r ⌝ }
 {
     let second = put_value(answer, at, a, b' ');
     let third = put_value(answer, second, b, b' ');
@@ -17,7 +17,7 @@ pub fn put_three(answer: &mut [u8], at: usize, a: usize, b: usize, c: usize) -> 
 
 pub fn put_four(answer: &mut [u8], at: usize, a: usize, b: usize, c: usize, d: usize) -> usize
     requires { ⌜ (a ≤ 65535) × (b ≤ 65535) × (c ≤ 65535) × (d ≤ 65535) ⌝ }
-    ensures { λ r. ⌜ Puts (now (answer .entry)) at (line (a ∷ b ∷ c ∷ d ∷ [])) (now (answer .exit)) r ⌝ }
+    ensures { λ r. ⌜ Puts (now (answer .entry)) at (rowLine (a ∷ b ∷ c ∷ d ∷ [])) (now (answer .exit)) r ⌝ }
 {
     let second = put_value(answer, at, a, b' ');
     put_three(answer, second, b, c, d)
@@ -33,7 +33,7 @@ pub fn put_five(
     e: usize,
 ) -> usize
     requires { ⌜ (a ≤ 65535) × (b ≤ 65535) × (c ≤ 65535) × (d ≤ 65535) × (e ≤ 65535) ⌝ }
-    ensures { λ r. ⌜ Puts (now (answer .entry)) at (line (a ∷ b ∷ c ∷ d ∷ e ∷ [])) (now (answer .exit)) r ⌝ }
+    ensures { λ r. ⌜ Puts (now (answer .entry)) at (rowLine (a ∷ b ∷ c ∷ d ∷ e ∷ [])) (now (answer .exit)) r ⌝ }
 {
     let second = put_value(answer, at, a, b' ');
     put_four(answer, second, b, c, d, e)

@@ -42,5 +42,5 @@ setRows q (some a) =
     ++ map (λ x. q ∷ 3 ∷ x ∷ 0 ∷ 0 ∷ []) (elements (a .scope .inputs)))
 
 -- The rows of all n queries.
-unfoldable pub rowsOf : (ℕ → Option QuerySchedule → List (List ℕ)) → ℕ → List QuerySchedule → List (List ℕ)
-rowsOf rows n schedules = concatMap (λ q. rows q (scheduleOf schedules q)) (range 1 (suc n))
+unfoldable pub allRows : (ℕ → Option QuerySchedule → List (List ℕ)) → ℕ → List QuerySchedule → List (List ℕ)
+allRows rows n schedules = concatMap (λ q. rows q (scheduleOf schedules q)) (range 1 (suc n))

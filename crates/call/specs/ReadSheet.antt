@@ -18,29 +18,29 @@ use Rattle.records.specs.Rows.{inTables}
 use Rattle.naming.specs.Lines.{firstLine}
 use Rattle.accepted.specs.Facts.{sheet-facts}
 use Rattle.sheet.specs.declared.Outcome.the-variants.{Read, NoRoom}
-use Rattle.sheet.specs.Verdict.{blank, headOf, countsOf, specialOf, readTables, verdict}
+use Rattle.sheet.specs.Verdict.{emptyTables, headOf, readCounts, readSpecial, readTables, verdict}
 use Rattle.sheet.specs.Passed.{verdict-read}
 use Rattle.trees.specs.Sheet.{sheetIn, sheetOf}
 use Rattle.gather.specs.Sheets.{countsAt, sheetAt, Accepted}
 
 module _ (s : List ℕ) where
-  rows-long : length (tables s blank) ≡ 8192
-  unfolding tables blank
-  rows-long = length-putSections _ _ blank ∙ length-replicate {A = ℕ} 8192 0
+  rows-long : length (tables s emptyTables) ≡ 8192
+  unfolding tables emptyTables
+  rows-long = length-putSections _ _ emptyTables ∙ length-replicate {A = ℕ} 8192 0
 
   pub tables-long : length (readTables s) ≡ 8192
   unfolding readTables
-  tables-long = length-sets (tables s blank) 0 (headOf (countsOf s) (specialOf s)) ∙ rows-long
+  tables-long = length-sets (tables s emptyTables) 0 (headOf (readCounts s) (readSpecial s)) ∙ rows-long
 
-  headed : readTables s ≡ headOf (countsOf s) (specialOf s) ++ drop 8 (tables s blank)
+  headed : readTables s ≡ headOf (readCounts s) (readSpecial s) ++ drop 8 (tables s emptyTables)
   unfolding readTables
-  headed = sets-eq (headOf (countsOf s) (specialOf s)) (tables s blank) 0 (omega (arith, rows-long))
+  headed = sets-eq (headOf (readCounts s) (readSpecial s)) (tables s emptyTables) 0 (omega (arith, rows-long))
 
-  counts-same : countsAt (readTables s) ≡ countsOf s
+  counts-same : countsAt (readTables s) ≡ readCounts s
   counts-same = ap countsAt headed
 
   -- The head says how many rows there are, and the special names.
-  at-head : sheetAt (readTables s) ≡ sheetOf (countsOf s) (specialOf s) (readTables s)
+  at-head : sheetAt (readTables s) ≡ sheetOf (readCounts s) (readSpecial s) (readTables s)
   unfolding sheetAt
   at-head = rw headed
 

@@ -17,7 +17,7 @@ use Rattle.frame.specs.Faults.{isSound, meaning}
 use Rattle.call.specs.declared.replies.Reply.{Reply}
 
 abbrev pub outcomeReply : Outcome → Reply
-outcomeReply r = record { number = questions.number r; line = questions.line r; col = 0 }
+outcomeReply r = record { number = questions.number r; line = questions.faultLine r; col = 0 }
 
 abbrev pub faultReply : Fault → Reply
 faultReply Sound = record { number = 0; line = 0; col = 0 }

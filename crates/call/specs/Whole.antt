@@ -40,8 +40,8 @@ read-number (BadCount l) h = absurd (omega arith)
 read-number (BadField l) h = absurd (omega arith)
 
 module _ (s : List ℕ) (room long : ℕ) (o : Outcome) (t : List ℕ) (k : SheetTaken s room long o t) where
-  pub line-low : questions.line o ≤ 65535
-  line-low = subst (λ (x : Outcome). questions.line x ≤ 65535) (sym (k .came-to)) (line-fits s room long)
+  pub line-low : questions.faultLine o ≤ 65535
+  line-low = subst (λ (x : Outcome). questions.faultLine x ≤ 65535) (sym (k .came-to)) (line-fits s room long)
 
   -- One of the questions 1 to 6 refuses the sheet.
   pub refuses : (most : ℕ) → (questions.number o ≡ 0 → ⊥) → (r : Reply) → r ≡ outcomeReply o → (a : List ℕ) → a ≡ replicate most 0

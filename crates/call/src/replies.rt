@@ -4,7 +4,7 @@ use frame::Fault;
 use sheet::Outcome;
 ghost use mathlib.Core.Path.{_≡_};
 ghost use Prim.Native.Nat.{_≤_};
-ghost use Rattle.sheet.specs.Verdict.{line};
+ghost use Rattle.sheet.specs.Verdict.{faultLine};
 ghost use Rattle.call.specs.Replies.{outcomeReply, faultReply};
 
 pub struct Reply {
@@ -15,7 +15,7 @@ pub struct Reply {
 
 // Questions 1 to 6.
 pub fn of_outcome(outcome: Outcome) -> Reply
-    requires { ⌜ line outcome ≤ 65535 ⌝ }
+    requires { ⌜ faultLine outcome ≤ 65535 ⌝ }
     ensures { λ r. ⌜ r ≡ outcomeReply outcome ⌝ }
 {
     Reply {

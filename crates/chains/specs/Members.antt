@@ -9,7 +9,7 @@ use borrow.Author.Tests.{ltb-true, leb-true}
 use Rattle.basics.specs.Truth.{and-left, and-right}
 use Rattle.records.specs.declared.Counts.{Counts}
 use Rattle.records.specs.Layout.{exprAt}
-use Rattle.naming.specs.Chains.{isVar, goesOn, varsIn, endsIn, allVars, endsOdd}
+use Rattle.naming.specs.Chains.{isVarAt, goesOn, varsIn, endsIn, allVars, endsOdd}
 use Rattle.records.specs.Rows.{inTables}
 
 -- Does the chain end, after an odd number of members? With `false`: an even number.
@@ -48,11 +48,11 @@ module _ (c : Counts) (t : List ℕ) where
   vars-enough : (n m r : ℕ) → c .exprs ≤ n + r → c .exprs ≤ m + r → varsIn c (inTables t) (suc n) r ≡ varsIn c (inTables t) (suc m) r
   unfolding varsIn
   vars-enough zero m r h k =
-      ap (λ (b : Bool). isVar c (inTables t) r && b) (or-on (goesOn c (inTables t) r) _ _ (λ g. absurd (omega (arith, later r g, inside r g))))
+      ap (λ (b : Bool). isVarAt c (inTables t) r && b) (or-on (goesOn c (inTables t) r) _ _ (λ g. absurd (omega (arith, later r g, inside r g))))
   vars-enough (suc n) zero r h k =
-      ap (λ (b : Bool). isVar c (inTables t) r && b) (or-on (goesOn c (inTables t) r) _ _ (λ g. absurd (omega (arith, later r g, inside r g))))
+      ap (λ (b : Bool). isVarAt c (inTables t) r && b) (or-on (goesOn c (inTables t) r) _ _ (λ g. absurd (omega (arith, later r g, inside r g))))
   vars-enough (suc n) (suc m) r h k =
-      ap (λ (b : Bool). isVar c (inTables t) r && b)
+      ap (λ (b : Bool). isVarAt c (inTables t) r && b)
       (or-on (goesOn c (inTables t) r) _ _ (λ g. vars-enough n m (exprAt t r .next) (omega (arith, later r g)) (omega (arith, later r g))))
 
   ends-enough : (n m r : ℕ) (odd : Bool) → c .exprs ≤ n + r → c .exprs ≤ m + r → endsIn c (inTables t) (suc n) odd r ≡ endsIn c (inTables t) (suc m) odd r
@@ -74,12 +74,12 @@ module _ (c : Counts) (t : List ℕ) where
       ap (λ (n : ℕ). varsIn c (inTables t) n (exprAt t r .next)) e
       ∙ vars-enough (c .exprs - 1) (c .exprs) (exprAt t r .next) (omega (arith, later r g)) (omega arith)
 
-  vars-open : (r : ℕ) → allVars c (inTables t) r ≡ (isVar c (inTables t) r && (not (goesOn c (inTables t) r) || varsIn c (inTables t) (c .exprs) (exprAt t r .next)))
+  vars-open : (r : ℕ) → allVars c (inTables t) r ≡ (isVarAt c (inTables t) r && (not (goesOn c (inTables t) r) || varsIn c (inTables t) (c .exprs) (exprAt t r .next)))
   unfolding allVars varsIn
   vars-open r = refl
 
-  pub vars-first : (r : ℕ) → allVars c (inTables t) r ≡ (isVar c (inTables t) r && restVars c t r)
-  vars-first r = vars-open r ∙ ap (λ (b : Bool). isVar c (inTables t) r && b) (or-on (goesOn c (inTables t) r) _ _ (vars-next r))
+  pub vars-first : (r : ℕ) → allVars c (inTables t) r ≡ (isVarAt c (inTables t) r && restVars c t r)
+  vars-first r = vars-open r ∙ ap (λ (b : Bool). isVarAt c (inTables t) r && b) (or-on (goesOn c (inTables t) r) _ _ (vars-next r))
 
   ends-next : (odd : Bool) (r : ℕ) → goesOn c (inTables t) r ≡ true
       → endsIn c (inTables t) (c .exprs) odd (exprAt t r .next) ≡ endsSo c t odd (exprAt t r .next)

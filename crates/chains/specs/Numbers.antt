@@ -13,7 +13,7 @@ use borrow.Author.Tests.{eqb-true}
 use Rattle.basics.specs.Truth.{bool-cases, eq-cases}
 use Rattle.records.specs.declared.Counts.{Counts}
 use Rattle.records.specs.Layout.{exprAt}
-use Rattle.naming.specs.Chains.{isVar, goesOn, allVars, endsOdd}
+use Rattle.naming.specs.Chains.{isVarAt, goesOn, allVars, endsOdd}
 use Rattle.chains.specs.Members.{endsSo, odd-is, restVars, restEnds, later, inside, vars-first, ends-first}
 use Rattle.records.specs.Rows.{inTables}
 
@@ -77,7 +77,7 @@ unfoldable pub restBy : Counts → List ℕ → ℕ → ℕ → ℕ
 restBy c w r next = cond (eqb next 0) 5 (cond (ltb r next && leb next (c .exprs)) (getD w (673 + next) 0) 1)
 
 unfoldable pub numberBy : Counts → List ℕ → List ℕ → ℕ → ℕ
-numberBy c t w r = oneMore (isVar c (inTables t) r) (restBy c w r (exprAt t r .next))
+numberBy c t w r = oneMore (isVarAt c (inTables t) r) (restBy c w r (exprAt t r .next))
 
 -- The rows after row k have their numbers.
 pub record Chained (c : Counts) (t : List ℕ) (k : ℕ) (w : List ℕ) : Type 0 where
@@ -107,7 +107,7 @@ module _ (c : Counts) (t : List ℕ) (k : ℕ) (w : List ℕ) (h : Chained c t k
   unfolding numberBy chainNumber
   number-is r l =
       rw (vars-first c t r, ends-first c t true r, ends-first c t false r)
-      (ap (oneMore (isVar c (inTables t) r)) (rest-is r l) ∙ code-more (isVar c (inTables t) r) (restVars c t r) (restEnds c t false r) (restEnds c t true r))
+      (ap (oneMore (isVarAt c (inTables t) r)) (rest-is r l) ∙ code-more (isVarAt c (inTables t) r) (restVars c t r) (restEnds c t false r) (restEnds c t true r))
 
   -- One row more.
   pub number-more : (v : ℕ) → 1 ≤ k → k ≤ 512 → v ≡ numberBy c t w k → Chained c t (k - 1) (set w (673 + k) v)

@@ -8,7 +8,7 @@ ghost use mathlib.Core.Path.{_≡_};
 ghost use Prim.Native.Nat.{_≤_};
 ghost use lib.ListN.{length};
 ghost use Rattle.records.specs.Layout.{Within};
-ghost use Rattle.naming.specs.Chains.{isVar, allVars, endsOdd};
+ghost use Rattle.naming.specs.Chains.{isVarAt, allVars, endsOdd};
 ghost use Rattle.chains.specs.Numbers.{oneMore, restBy, numberBy, Chained, Followed};
 ghost use Rattle.records.specs.Rows.{inTables};
 
@@ -26,7 +26,7 @@ const NO_END: u64 = 1;
 // Is expression `row` a Var?
 pub fn is_var(tables: &[u16], counts: Counts, row: usize) -> bool
     requires { ⌜ (8192 ≤ length (now tables)) × (row ≤ 512) ⌝ }
-    ensures { λ r. ⌜ r ≡ isVar counts (inTables (now (tables .entry))) row ⌝ }
+    ensures { λ r. ⌜ r ≡ isVarAt counts (inTables (now (tables .entry))) row ⌝ }
 {
     let x = expr_at(tables, row);
     x.kind == VAR

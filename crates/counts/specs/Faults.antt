@@ -5,8 +5,8 @@ use Prim.Native.Nat.{ℕ, _+_, _≤_, _<_}
 use native.Mathlib.Omega.{arith}
 use borrow.Author.Tests.{lt-ltb, le-ltb, eq-eqb, ne-eqb}
 use Rattle.text.specs.Limits as limits
-use Rattle.text.specs.Sections.{sections}
-use Rattle.text.specs.Counts.{lineOf, overLine, noQueryLine, countFault}
+use Rattle.text.specs.Sections.{sections, lineOf}
+use Rattle.text.specs.Counts.{overLine, noQueryLine, countFault}
 
 module _ (a b c d e : ℕ) where
   abbrev ks : List ℕ
@@ -26,40 +26,40 @@ module _ (a b c d e : ℕ) where
   queriesLine = statementsLine + d + 2
 
   -- A section is over its limit, or none is.
-  some-over : (n : ℕ) → overLine 1 sections ks ≡ n + 1 → countFault ks ≡ n + 1
+  some-over : (n : ℕ) → overLine ks 0 sections ≡ n + 1 → countFault ks ≡ n + 1
   unfolding countFault
   some-over n h = rw (h, ne-eqb (n + 1) 0 (λ z. omega arith))
 
-  none-over : overLine 1 sections ks ≡ 0 → countFault ks ≡ noQueryLine ks
+  none-over : overLine ks 0 sections ≡ 0 → countFault ks ≡ noQueryLine ks
   unfolding countFault
   none-over h = rw h
 
   pub names-over : limits.names < a → countFault ks ≡ 1 + limits.names + 1
-  unfolding overLine sections
-  names-over h = some-over (1 + limits.names) (rw (lt-ltb limits.names a h))
+  unfolding overLine sections lineOf
+  names-over h = some-over (1 + limits.names) (rw (lt-ltb limits.names a h) (omega arith))
 
   module _ (p : a ≤ limits.names) where
     pub builtIns-over : limits.builtIns < b → countFault ks ≡ builtInsLine + limits.builtIns + 1
-    unfolding overLine sections
-    builtIns-over h = some-over (builtInsLine + limits.builtIns) (rw (le-ltb limits.names a p, lt-ltb limits.builtIns b h))
+    unfolding overLine sections lineOf
+    builtIns-over h = some-over (builtInsLine + limits.builtIns) (rw (le-ltb limits.names a p, lt-ltb limits.builtIns b h) (omega arith))
 
     module _ (q : b ≤ limits.builtIns) where
       pub expressions-over : limits.expressions < c → countFault ks ≡ expressionsLine + limits.expressions + 1
-      unfolding overLine sections
+      unfolding overLine sections lineOf
       expressions-over h =
           some-over (expressionsLine + limits.expressions)
-          (rw (le-ltb limits.names a p, le-ltb limits.builtIns b q, lt-ltb limits.expressions c h))
+          (rw (le-ltb limits.names a p, le-ltb limits.builtIns b q, lt-ltb limits.expressions c h) (omega arith))
 
       module _ (r : c ≤ limits.expressions) where
         pub statements-over : limits.statements < d → countFault ks ≡ statementsLine + limits.statements + 1
-        unfolding overLine sections
+        unfolding overLine sections lineOf
         statements-over h =
             some-over (statementsLine + limits.statements)
-            (rw (le-ltb limits.names a p, le-ltb limits.builtIns b q, le-ltb limits.expressions c r, lt-ltb limits.statements d h))
+            (rw (le-ltb limits.names a p, le-ltb limits.builtIns b q, le-ltb limits.expressions c r, lt-ltb limits.statements d h) (omega arith))
 
         module _ (s : d ≤ limits.statements) where
           pub queries-over : limits.queries < e → countFault ks ≡ queriesLine + limits.queries + 1
-          unfolding overLine sections
+          unfolding overLine sections lineOf
           queries-over h =
               some-over (queriesLine + limits.queries)
               (rw (
@@ -68,11 +68,11 @@ module _ (a b c d e : ℕ) where
                 le-ltb limits.expressions c r,
                 le-ltb limits.statements d s,
                 lt-ltb limits.queries e h,
-              ))
+              ) (omega arith))
 
           module _ (t : e ≤ limits.queries) where
             in-bounds : countFault ks ≡ noQueryLine ks
-            unfolding overLine sections
+            unfolding overLine sections lineOf
             in-bounds =
                 none-over (rw (
                   le-ltb limits.names a p,

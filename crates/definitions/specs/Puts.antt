@@ -7,7 +7,7 @@ use native.Mathlib.Omega.{arith}
 use lib.ListN.{length, getD, set, take, length-set}
 use lib.Seq.{take-suc-set, take-suc, append-snoc}
 use Rattle.definitions.specs.declared.Definition.{Definition}
-use Rattle.definitions.specs.Rows.{usedWord, rowsOf}
+use Rattle.definitions.specs.Rows.{usedWord, rowsOfRecords}
 use Rattle.definitions.specs.RowLaws.{rows-append}
 use Rattle.definitions.specs.Copies.{noRecord}
 
@@ -43,12 +43,12 @@ module _ (ws : List ℕ) (i : ℕ) (d : Definition) (front : List ℕ) (room : 4
       ∙ four-more front (d .statement) (d .name) (usedWord d 0) (usedWord d 1)
 
 -- The rows of one record more.
-pub rows-next : (all : List Definition) (ws : List ℕ) (i : ℕ) → i < length all → 4 * i + 3 < length ws → take (4 * i) ws ≡ rowsOf (take i all)
-    → take (4 * (i + 1)) (putRow ws i (getD all i noRecord)) ≡ rowsOf (take (i + 1) all)
+pub rows-next : (all : List Definition) (ws : List ℕ) (i : ℕ) → i < length all → 4 * i + 3 < length ws → take (4 * i) ws ≡ rowsOfRecords (take i all)
+    → take (4 * (i + 1)) (putRow ws i (getD all i noRecord)) ≡ rowsOfRecords (take (i + 1) all)
 rows-next all ws i h room e =
     let d = getD all i noRecord in
     let k : 4 * (i + 1) ≡ 4 * i + 4 = omega arith in
-    ap (λ (n : ℕ). take n (putRow ws i d)) k ∙ put-take ws i d (rowsOf (take i all)) room e
+    ap (λ (n : ℕ). take n (putRow ws i d)) k ∙ put-take ws i d (rowsOfRecords (take i all)) room e
     ∙ sym (rows-append (take i all) (d ∷ []))
-    ∙ ap rowsOf (sym (take-suc all i noRecord h))
-    ∙ ap (λ (n : ℕ). rowsOf (take n all)) (sym (add-one i))
+    ∙ ap rowsOfRecords (sym (take-suc all i noRecord h))
+    ∙ ap (λ (n : ℕ). rowsOfRecords (take n all)) (sym (add-one i))

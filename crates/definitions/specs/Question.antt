@@ -16,7 +16,7 @@ use Rattle.schedule.specs.Call.{Scheduled}
 use Rattle.schedule.specs.Leaves.{refused}
 use Rattle.schedule.specs.declared.Outcome.the-variants.{Refused}
 use Rattle.definitions.specs.declared.Definition.{Definition}
-use Rattle.definitions.specs.Rows.{rowsOf, definitionOf}
+use Rattle.definitions.specs.Rows.{rowsOfRecords, definitionOf}
 use Rattle.definitions.specs.RowLaws.{rows-whole, rows-count, rows-define}
 
 -- At most 128 statements and 640 records; every record within; lent buffers, of lengths `room` and `marks`, not shorter than the count.
@@ -26,12 +26,12 @@ acceptsRecords ds n room marks =
 
 module _ (ds : List Definition) (n room marks : ℕ) where
   -- The flat call's question of their rows is the same.
-  pub accepts-rows : accepts (rowsOf ds) n room marks ≡ acceptsRecords ds n room marks
+  pub accepts-rows : accepts (rowsOfRecords ds) n room marks ≡ acceptsRecords ds n room marks
   unfolding accepts acceptsRecords
   accepts-rows = rw (eq-eqb _ 0 (rows-whole ds), rows-count ds, rows-define ds)
 
-  pub too-many : 640 < length ds → Scheduled (rowsOf ds) n room marks Refused (replicate room 0) (replicate marks 0)
+  pub too-many : 640 < length ds → Scheduled (rowsOfRecords ds) n room marks Refused (replicate room 0) (replicate marks 0)
   too-many h =
-      refused (rowsOf ds) n room marks
-      (⊎-elim (λ (a : accepts (rowsOf ds) n room marks ≡ true). absurd (omega (arith, accepted (rowsOf ds) n room marks a .fits, rows-count ds, h)))
-      (λ (f : accepts (rowsOf ds) n room marks ≡ false). f) (bool-cases (accepts (rowsOf ds) n room marks)))
+      refused (rowsOfRecords ds) n room marks
+      (⊎-elim (λ (a : accepts (rowsOfRecords ds) n room marks ≡ true). absurd (omega (arith, accepted (rowsOfRecords ds) n room marks a .fits, rows-count ds, h)))
+      (λ (f : accepts (rowsOfRecords ds) n room marks ≡ false). f) (bool-cases (accepts (rowsOfRecords ds) n room marks)))

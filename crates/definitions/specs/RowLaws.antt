@@ -10,20 +10,20 @@ use Rattle.names.specs.Sets.{members}
 use Rattle.turns.specs.Definitions as Turns
 use Rattle.rows.specs.Rows.{rowCount, definitionAt, definitions}
 use Rattle.definitions.specs.declared.Definition.{Definition}
-use Rattle.definitions.specs.Rows.{usedWord, rowsOf, definitionOf}
+use Rattle.definitions.specs.Rows.{usedWord, rowsOfRecords, definitionOf}
 use Rattle.definitions.specs.Copies.{noRecord}
 
-pub rows-length : (ds : List Definition) → length (rowsOf ds) ≡ 4 * length ds
+pub rows-length : (ds : List Definition) → length (rowsOfRecords ds) ≡ 4 * length ds
 rows-length [] = refl
 rows-length (d ∷ ds) = let l = rows-length ds in omega (arith, l)
 
-pub rows-whole : (ds : List Definition) → length (rowsOf ds) % 4 ≡ 0
+pub rows-whole : (ds : List Definition) → length (rowsOfRecords ds) % 4 ≡ 0
 rows-whole ds = omega (arith, rows-length ds)
 
-pub rows-count : (ds : List Definition) → rowCount (rowsOf ds) ≡ length ds
+pub rows-count : (ds : List Definition) → rowCount (rowsOfRecords ds) ≡ length ds
 rows-count ds = omega (arith, rows-length ds)
 
-pub rows-append : (xs ys : List Definition) → rowsOf (xs ++ ys) ≡ rowsOf xs ++ rowsOf ys
+pub rows-append : (xs ys : List Definition) → rowsOfRecords (xs ++ ys) ≡ rowsOfRecords xs ++ rowsOfRecords ys
 rows-append [] ys = refl
 rows-append (d ∷ xs) ys = ap (λ (t : List ℕ). d .statement ∷ d .name ∷ usedWord d 0 ∷ usedWord d 1 ∷ t) (rows-append xs ys)
 
@@ -51,21 +51,21 @@ row-on a b c d ws k = λ j. record {
     at p q e = ap (λ (x : ℕ). getD (a ∷ b ∷ c ∷ d ∷ ws) x 0) e
 
 -- Row k is record k.
-row-at : (ds : List Definition) (k : ℕ) → k < length ds → definitionAt (rowsOf ds) k ≡ definitionOf (getD ds k noRecord)
+row-at : (ds : List Definition) (k : ℕ) → k < length ds → definitionAt (rowsOfRecords ds) k ≡ definitionOf (getD ds k noRecord)
 row-at [] k h = absurd (omega arith)
 row-at (d ∷ ds) zero h = refl
-row-at (d ∷ ds) (suc k) h = row-on _ _ _ _ (rowsOf ds) k ∙ row-at ds k (omega arith)
+row-at (d ∷ ds) (suc k) h = row-on _ _ _ _ (rowsOfRecords ds) k ∙ row-at ds k (omega arith)
 
 rows-from : (ds : List Definition) (k c : ℕ) → k + c ≤ length ds
-    → map (definitionAt (rowsOf ds)) (counted k c) ≡ map definitionOf (take c (drop k ds))
+    → map (definitionAt (rowsOfRecords ds)) (counted k c) ≡ map definitionOf (take c (drop k ds))
 rows-from ds k zero h = refl
 rows-from ds k (suc c) h =
     ap₂ (λ (d : Turns.Definition) (t : List Turns.Definition). d ∷ t) (row-at ds k (omega arith)) (rows-from ds (suc k) c (omega arith))
     ∙ ap (λ (x : List Definition). map definitionOf (take (suc c) x)) (sym (drop-cons ds k noRecord (omega arith)))
 
-pub rows-define : (ds : List Definition) → definitions (rowsOf ds) ≡ map definitionOf ds
+pub rows-define : (ds : List Definition) → definitions (rowsOfRecords ds) ≡ map definitionOf ds
 unfolding definitions range
 rows-define ds =
-    let n : rowCount (rowsOf ds) - 0 ≡ length ds = omega (arith, rows-length ds) in
-    ap (λ (c : ℕ). map (definitionAt (rowsOf ds)) (counted 0 c)) n ∙ rows-from ds 0 (length ds) (omega arith)
+    let n : rowCount (rowsOfRecords ds) - 0 ≡ length ds = omega (arith, rows-length ds) in
+    ap (λ (c : ℕ). map (definitionAt (rowsOfRecords ds)) (counted 0 c)) n ∙ rows-from ds 0 (length ds) (omega arith)
     ∙ ap (map definitionOf) (take-all (length ds) ds (omega arith))

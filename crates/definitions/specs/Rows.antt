@@ -11,9 +11,9 @@ abbrev pub usedWord : Definition → ℕ → ℕ
 usedWord d k = getD (d .used .words) k 0
 
 -- A row of four words for each record, in their order.
-abbrev pub rowsOf : List Definition → List ℕ
-rowsOf [] = []
-rowsOf (d ∷ ds) = d .statement ∷ d .name ∷ usedWord d 0 ∷ usedWord d 1 ∷ rowsOf ds
+abbrev pub rowsOfRecords : List Definition → List ℕ
+rowsOfRecords [] = []
+rowsOfRecords (d ∷ ds) = d .statement ∷ d .name ∷ usedWord d 0 ∷ usedWord d 1 ∷ rowsOfRecords ds
 
 -- The definition that a record is.
 abbrev pub definitionOf : Definition → Turns.Definition

@@ -11,7 +11,7 @@ ghost use Prim.Native.Nat.{_*_, _<_, _≤_};
 ghost use lib.ListN.{length, take};
 ghost use Rattle.schedule.specs.Call.{Scheduled};
 ghost use Rattle.definitions.specs.declared.Definition.{Definition};
-ghost use Rattle.definitions.specs.Rows.{rowsOf};
+ghost use Rattle.definitions.specs.Rows.{rowsOfRecords};
 ghost use Rattle.definitions.specs.Copies.{CopyOf};
 ghost use Rattle.definitions.specs.Puts.{putRow};
 
@@ -72,7 +72,7 @@ fn put_row(words: &mut [u64; ROWS], i: usize, definition: Definition)
 // The rows of the first `len` records.
 fn rows_of(all: [Definition; DEFINITIONS], len: usize) -> [u64; ROWS]
     requires { ⌜ len ≤ 640 ⌝ }
-    ensures { λ r. ⌜ take (4 * len) r ≡ rowsOf (take len all) ⌝ }
+    ensures { λ r. ⌜ take (4 * len) r ≡ rowsOfRecords (take len all) ⌝ }
 {
     let mut words = [0u64; ROWS];
     let mut i: usize = 0;
@@ -92,7 +92,7 @@ pub fn schedule_copy(
     order: &mut [u16],
     reached: &mut [u16],
 ) -> Outcome
-    ensures { λ r. ⌜ ((records : List Definition) → length records ≡ len → CopyOf all records → Scheduled (rowsOf records) statements (length (now (order .entry))) (length (now (reached .entry))) r (now (order .exit)) (now (reached .exit))) ⌝ }
+    ensures { λ r. ⌜ ((records : List Definition) → length records ≡ len → CopyOf all records → Scheduled (rowsOfRecords records) statements (length (now (order .entry))) (length (now (reached .entry))) r (now (order .exit)) (now (reached .exit))) ⌝ }
 {
     if DEFINITIONS < len {
         buffers::clear(order);

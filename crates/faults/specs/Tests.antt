@@ -22,7 +22,7 @@ use Rattle.fields.specs.Packed.{kind-name, kind-first, kind-second, kind-third,
 use Rattle.naming.specs.Entries.{Entry, queryRow, statementRow, exprRow, exprEntries, statementEntries, queryEntries}
 use Rattle.naming.specs.Namings.{namers, namedSo, inChain, namings}
 use Rattle.naming.specs.Nesting.{enclosing, level}
-use Rattle.naming.specs.Faults.{notVar, unpaired, misnested, fieldFault, fieldsFault, isNamedSo, isMember, exprFault, statementFault, queryFault, pathBefore, builtinFault}
+use Rattle.naming.specs.Faults.{notVar, unpaired, misnested, fieldFault, entriesFault, isNamedSo, isMember, exprFault, statementFault, queryFault, pathBefore, builtinFault}
 use Rattle.marks.specs.Rows.{next-held}
 use Rattle.levels.specs.Levels.{levelBy}
 use Rattle.levels.specs.Laws.{level-is}
@@ -129,18 +129,18 @@ module _ (c : Counts) (t : List ℕ) where
       (ap (λ (z : Bool). faultOf q fs (x .name) || z) (regroup (not (eqb (x .first) 0)) (not (eqb (x .second) 0)) _ _))
 
   parts-are : (q : ℕ) (member : Bool) (r : ℕ)
-      → partsBy q (kindFields (exprAt t r .kind)) (cond member chainOrNone 0) (exprAt t r) ≡ fieldsFault c (inTables t) q (exprEntries c (inTables t) member r)
-  unfolding partsBy exprEntries fieldsFault fieldFault
+      → partsBy q (kindFields (exprAt t r .kind)) (cond member chainOrNone 0) (exprAt t r) ≡ entriesFault c (inTables t) q (exprEntries c (inTables t) member r)
+  unfolding partsBy exprEntries entriesFault fieldFault
   parts-are q member r =
       let k = exprAt t r .kind in rw (kind-name k, kind-first k, kind-second k, kind-third k, next-held member)
 
-  fields-are : (q r : ℕ) → fieldsBy q (formFields (statementAt t r .form)) (statementAt t r) ≡ fieldsFault c (inTables t) q (statementEntries c (inTables t) r)
-  unfolding fieldsBy statementEntries fieldsFault fieldFault
+  fields-are : (q r : ℕ) → fieldsBy q (formFields (statementAt t r .form)) (statementAt t r) ≡ entriesFault c (inTables t) q (statementEntries c (inTables t) r)
+  unfolding fieldsBy statementEntries entriesFault fieldFault
   fields-are q r =
       let f = statementAt t r .form in rw (form-query f, form-first f, form-second f, form-third f, chain-held, statement-held)
 
-  first-is : (q : ℕ) → (faultOf q statementOrNone (firstAt t q) || false) ≡ fieldsFault c (inTables t) q (queryEntries c (inTables t) q)
-  unfolding queryEntries fieldsFault fieldFault
+  first-is : (q : ℕ) → (faultOf q statementOrNone (firstAt t q) || false) ≡ entriesFault c (inTables t) q (queryEntries c (inTables t) q)
+  unfolding queryEntries entriesFault fieldFault
   first-is q = rw statement-held
 
   -- ---- a row with mark v

@@ -16,7 +16,7 @@ ghost use Prim.Native.Nat.{_≤_};
 ghost use lib.ListN.{length};
 ghost use Rattle.records.specs.Layout.{Within};
 ghost use Rattle.naming.specs.Faults.{exprFault, statementFault, queryFault, builtinFault};
-ghost use Rattle.naming.specs.Lines.{firstOf, firstLine};
+ghost use Rattle.naming.specs.Lines.{firstAtFault, firstLine};
 ghost use Rattle.faults.specs.Known.{Known};
 ghost use Rattle.records.specs.Rows.{inTables};
 
@@ -24,7 +24,7 @@ ghost use Rattle.records.specs.Rows.{inTables};
 
 fn first_builtin(tables: &[u16], counts: Counts) -> usize
     requires { ⌜ (8192 ≤ length (now tables)) × Within counts ⌝ }
-    ensures { λ r. ⌜ (r ≡ firstOf (builtinFault counts (inTables (now (tables .entry)))) 1 (counts .builtins)) × (r ≤ 64) ⌝ }
+    ensures { λ r. ⌜ (r ≡ firstAtFault (builtinFault counts (inTables (now (tables .entry)))) 1 (counts .builtins)) × (r ≤ 64) ⌝ }
 {
     let mut row = 1;
     while row <= counts.builtins {
@@ -38,7 +38,7 @@ fn first_builtin(tables: &[u16], counts: Counts) -> usize
 
 fn first_expr(work: &[u64], tables: &[u16], counts: Counts) -> usize
     requires { ⌜ Known counts (now tables) (now work) ⌝ }
-    ensures { λ r. ⌜ (r ≡ firstOf (exprFault counts (inTables (now (tables .entry)))) 1 (counts .exprs)) × (r ≤ 512) ⌝ }
+    ensures { λ r. ⌜ (r ≡ firstAtFault (exprFault counts (inTables (now (tables .entry)))) 1 (counts .exprs)) × (r ≤ 512) ⌝ }
 {
     let mut row = 1;
     while row <= counts.exprs {
@@ -52,7 +52,7 @@ fn first_expr(work: &[u64], tables: &[u16], counts: Counts) -> usize
 
 fn first_statement(work: &[u64], tables: &[u16], counts: Counts) -> usize
     requires { ⌜ Known counts (now tables) (now work) ⌝ }
-    ensures { λ r. ⌜ (r ≡ firstOf (statementFault counts (inTables (now (tables .entry)))) 1 (counts .statements)) × (r ≤ 128) ⌝ }
+    ensures { λ r. ⌜ (r ≡ firstAtFault (statementFault counts (inTables (now (tables .entry)))) 1 (counts .statements)) × (r ≤ 128) ⌝ }
 {
     let mut row = 1;
     while row <= counts.statements {
@@ -66,7 +66,7 @@ fn first_statement(work: &[u64], tables: &[u16], counts: Counts) -> usize
 
 fn first_query(work: &[u64], tables: &[u16], counts: Counts) -> usize
     requires { ⌜ Known counts (now tables) (now work) ⌝ }
-    ensures { λ r. ⌜ (r ≡ firstOf (queryFault counts (inTables (now (tables .entry)))) 1 (counts .queries)) × (r ≤ 32) ⌝ }
+    ensures { λ r. ⌜ (r ≡ firstAtFault (queryFault counts (inTables (now (tables .entry)))) 1 (counts .queries)) × (r ≤ 32) ⌝ }
 {
     let mut row = 1;
     while row <= counts.queries {

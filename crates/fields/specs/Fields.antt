@@ -79,38 +79,38 @@ pub record KindFields : Type 0 where
   pub second : Field
   pub third : Field
 
-abbrev kind : Field → Field → Field → Field → KindFields
-kind n f s t = record { name = n; first = f; second = s; third = t }
+abbrev aKind : Field → Field → Field → Field → KindFields
+aKind n f s t = record { name = n; first = f; second = s; third = t }
 
 abbrev pub noKind : KindFields
-noKind = kind absent absent absent absent
+noKind = aKind absent absent absent absent
 
 -- Name, first, second, third.
 unfoldable pub kinds : List KindFields
 kinds =
     noKind  -- 0
-    ∷ kind (or0 aName) absent absent absent  -- 1 String
-    ∷ kind absent absent absent absent  -- 2 RawString
-    ∷ kind absent absent absent absent  -- 3 Number
-    ∷ kind absent absent absent absent  -- 4 Bool
-    ∷ kind absent absent absent absent  -- 5 Null
-    ∷ kind aName absent absent absent  -- 6 Var
-    ∷ kind absent (or0 aChain) absent absent  -- 7 Array
-    ∷ kind absent (or0 aChain) absent absent  -- 8 Set
-    ∷ kind absent (or0 aChainOfPairs) absent absent  -- 9 Object
-    ∷ kind absent aTerm absent aQuery  -- 10 ArrayCompr
-    ∷ kind absent aTerm absent aQuery  -- 11 SetCompr
-    ∷ kind absent aTerm aTerm aQuery  -- 12 ObjectCompr
-    ∷ kind absent aPart (or0 aChain) absent  -- 13 Call
-    ∷ kind absent aPart absent absent  -- 14 UnaryExpr
-    ∷ kind aName aPart absent absent  -- 15 RefDot
-    ∷ kind absent aPart aPart absent  -- 16 RefBrack
-    ∷ kind absent aPart aPart absent  -- 17 BinExpr
-    ∷ kind absent aPart aPart absent  -- 18 BoolExpr
-    ∷ kind absent aPart aPart absent  -- 19 ArithExpr
-    ∷ kind absent aPart aPart absent  -- 20 AssignExpr `Eq`
-    ∷ kind absent aPart aPart absent  -- 21 AssignExpr `ColEq`
-    ∷ kind absent (or0 aPart) aPart aPart  -- 22 Membership
+    ∷ aKind (or0 aName) absent absent absent  -- 1 String
+    ∷ aKind absent absent absent absent  -- 2 RawString
+    ∷ aKind absent absent absent absent  -- 3 Number
+    ∷ aKind absent absent absent absent  -- 4 Bool
+    ∷ aKind absent absent absent absent  -- 5 Null
+    ∷ aKind aName absent absent absent  -- 6 Var
+    ∷ aKind absent (or0 aChain) absent absent  -- 7 Array
+    ∷ aKind absent (or0 aChain) absent absent  -- 8 Set
+    ∷ aKind absent (or0 aChainOfPairs) absent absent  -- 9 Object
+    ∷ aKind absent aTerm absent aQuery  -- 10 ArrayCompr
+    ∷ aKind absent aTerm absent aQuery  -- 11 SetCompr
+    ∷ aKind absent aTerm aTerm aQuery  -- 12 ObjectCompr
+    ∷ aKind absent aPart (or0 aChain) absent  -- 13 Call
+    ∷ aKind absent aPart absent absent  -- 14 UnaryExpr
+    ∷ aKind aName aPart absent absent  -- 15 RefDot
+    ∷ aKind absent aPart aPart absent  -- 16 RefBrack
+    ∷ aKind absent aPart aPart absent  -- 17 BinExpr
+    ∷ aKind absent aPart aPart absent  -- 18 BoolExpr
+    ∷ aKind absent aPart aPart absent  -- 19 ArithExpr
+    ∷ aKind absent aPart aPart absent  -- 20 AssignExpr `Eq`
+    ∷ aKind absent aPart aPart absent  -- 21 AssignExpr `ColEq`
+    ∷ aKind absent (or0 aPart) aPart aPart  -- 22 Membership
     ∷ []
 
 unfoldable pub kindOf : ℕ → KindFields
@@ -124,21 +124,21 @@ pub record FormFields : Type 0 where
   pub third : Field
   pub query : Field
 
-abbrev form : Field → Field → Field → Field → FormFields
-form f s t q = record { first = f; second = s; third = t; query = q }
+abbrev aForm : Field → Field → Field → Field → FormFields
+aForm f s t q = record { first = f; second = s; third = t; query = q }
 
 abbrev pub noForm : FormFields
-noForm = form absent absent absent absent
+noForm = aForm absent absent absent absent
 
 -- First, second, third, query. `with` and `next` are every form's.
 unfoldable pub forms : List FormFields
 forms =
     noForm  -- 0
-    ∷ form aChainOfVars absent absent absent  -- 1 SomeVars
-    ∷ form (or0 aPart) aPart aPart absent  -- 2 SomeIn
-    ∷ form aPart absent absent absent  -- 3 Expr
-    ∷ form aPart absent absent absent  -- 4 NotExpr
-    ∷ form (or0 aVar) aVar aPart aQuery  -- 5 Every
+    ∷ aForm aChainOfVars absent absent absent  -- 1 SomeVars
+    ∷ aForm (or0 aPart) aPart aPart absent  -- 2 SomeIn
+    ∷ aForm aPart absent absent absent  -- 3 Expr
+    ∷ aForm aPart absent absent absent  -- 4 NotExpr
+    ∷ aForm (or0 aVar) aVar aPart aQuery  -- 5 Every
     ∷ []
 
 unfoldable pub formOf : ℕ → FormFields

@@ -12,7 +12,7 @@ use Rattle.records.specs.declared.Builtin.{Builtin}
 use Rattle.records.specs.Layout.{builtinAt}
 use Rattle.trees.specs.Sheet.{sheetOf, rowsTo}
 use Rattle.trees.specs.Lists.{find, same}
-use Rattle.trees.specs.Paths.{pathOf, builtinOf}
+use Rattle.trees.specs.Paths.{pathOf, builtinWith}
 use Rattle.gather.specs.declared.paths.Path.{Path}
 use Rattle.gather.specs.Sheets.{sheetAt}
 use Rattle.gather.specs.Paths.{shortOf, appended, samePath}
@@ -107,7 +107,7 @@ find-none : (f : Builtin → Bool) → ((b : Builtin) → f b ≡ false) → (l 
 find-none f h [] = refl
 find-none f h (b ∷ l) = rw (h b) (find-none f h l)
 
-found-is : (o : Option (List ℕ)) (l : List Builtin) → builtinOf l o ≡ find (named (shortOf o)) l
+found-is : (o : Option (List ℕ)) (l : List Builtin) → builtinWith l o ≡ find (named (shortOf o)) l
 found-is none l = sym (find-none (named (shortOf none)) (λ b. no-path (pathOf b)) l)
 found-is (some path) l =
     find-ext (λ (b : Builtin). same (pathOf b) path) (named (shortOf (some path))) (λ b. same-short (pathOf b) (path-short b) path) l
@@ -124,7 +124,7 @@ module _ (t : List ℕ) where
   unfoldable pub takesFrom : ℕ → Path → ℕ
   takesFrom row p = takes (find (named p) (from row))
 
-  pub takes-path : (o : Option (List ℕ)) → takesFrom 1 (shortOf o) ≡ takes (builtinOf (sheetAt t .builtins) o)
+  pub takes-path : (o : Option (List ℕ)) → takesFrom 1 (shortOf o) ≡ takes (builtinWith (sheetAt t .builtins) o)
   unfolding takesFrom sheetAt sheetOf rowsTo
   takes-path o = ap takes (sym (found-is o (from 1)))
 

@@ -13,7 +13,7 @@ use Rattle.records.specs.declared.Row.{Row}
 use Rattle.trees.specs.Sheet.{rowAt}
 use Rattle.trees.specs.Lists.{last}
 use Rattle.trees.specs.Trees.{Tree, treeAt}
-use Rattle.trees.specs.Paths.{builtinOf, beyond, getExtraArg}
+use Rattle.trees.specs.Paths.{builtinWith, beyond, getExtraArg}
 use Rattle.gather.specs.declared.paths.Path.{Path}
 use Rattle.gather.specs.declared.extra.End.{End}
 use Rattle.gather.specs.Sheets.{sheetAt, Accepted}
@@ -48,7 +48,7 @@ module _ (t : List ℕ) where
     pub few : e .count ≤ remains t row
 
   abbrev pub CallExtra : Row → ℕ → Type 0
-  CallExtra w r = (beyond (builtinOf (sheetAt t .builtins) (pathAt t (w .first))) (chainAt t (w .second)) ≡ someAt r) × (r ≤ getD t 2 0)
+  CallExtra w r = (beyond (builtinWith (sheetAt t .builtins) (pathAt t (w .first))) (chainAt t (w .second)) ≡ someAt r) × (r ≤ getD t 2 0)
 
   abbrev pub ExtraAt : ℕ → ℕ → Type 0
   ExtraAt row r = (getExtraArg (sheetAt t) (treeAt (sheetAt t) row) ≡ someAt r) × (r ≤ getD t 2 0)
@@ -84,11 +84,11 @@ module _ (t : List ℕ) where
   -- ---- the ways out of `call_extra`
 
   module _ (w : Row) (path : Path) (p : path ≡ shortOf (pathAt t (w .first))) (n : ℕ) (ns : n ≡ takesFrom t 1 path) (e : End) (h : EndAt (w .second) e) where
-    takes-is : takes (builtinOf (sheetAt t .builtins) (pathAt t (w .first))) ≡ n
+    takes-is : takes (builtinWith (sheetAt t .builtins) (pathAt t (w .first))) ≡ n
     takes-is = sym (ns ∙ ap (takesFrom t 1) p ∙ takes-path t (pathAt t (w .first)))
 
-    beyond-at : beyond (builtinOf (sheetAt t .builtins) (pathAt t (w .first))) (chainAt t (w .second)) ≡ cond (eqb n (e .count)) (someAt (e .last)) none
-    beyond-at = beyond-is (builtinOf (sheetAt t .builtins) (pathAt t (w .first))) (chainAt t (w .second)) ∙ rw (takes-is, h .count, h .last-is)
+    beyond-at : beyond (builtinWith (sheetAt t .builtins) (pathAt t (w .first))) (chainAt t (w .second)) ≡ cond (eqb n (e .count)) (someAt (e .last)) none
+    beyond-at = beyond-is (builtinWith (sheetAt t .builtins) (pathAt t (w .first))) (chainAt t (w .second)) ∙ rw (takes-is, h .count, h .last-is)
 
     pub extra-found : n ≡ e .count → CallExtra w (e .last)
     extra-found q = (beyond-at ∙ rw (eq-eqb n (e .count) q), h .low)

@@ -7,8 +7,8 @@ use Rattle.records.specs.declared.Counts.{Counts}
 use Rattle.records.specs.Rows.{Rows}
 
 module _ (c : Counts) (t : Rows) where
-  abbrev pub isVar : ℕ → Bool
-  isVar r = eqb (t .expr r .kind) 6
+  abbrev pub isVarAt : ℕ → Bool
+  isVarAt r = eqb (t .expr r .kind) 6
 
   -- Does the chain go on after row r?
   abbrev pub goesOn : ℕ → Bool
@@ -17,7 +17,7 @@ module _ (c : Counts) (t : Rows) where
   -- Is each of the first n members from row r on a Var?
   unfoldable pub varsIn : ℕ → ℕ → Bool
   varsIn zero r = true
-  varsIn (suc n) r = isVar r && (not (goesOn r) || varsIn n (t .expr r .next))
+  varsIn (suc n) r = isVarAt r && (not (goesOn r) || varsIn n (t .expr r .next))
 
   -- Do the members from row r on, at most n, come to an end, and are they odd in number? With `false` for `odd`: even.
   unfoldable pub endsIn : ℕ → Bool → ℕ → Bool

@@ -11,16 +11,16 @@ use Rattle.turns.specs.Definitions as Turns
 use Rattle.turns.specs.Turns.{placed, order, reached}
 use Rattle.rows.specs.Rows.{definitions}
 use Rattle.bounds.specs.Question.{within, accepts}
-use Rattle.schedule.specs.Call.{number, outcome, mark}
+use Rattle.schedule.specs.Call.{scheduleNumber, outcome, mark}
 use Rattle.definitions.specs.declared.Definition.{Definition}
-use Rattle.definitions.specs.Rows.{rowsOf, definitionOf}
+use Rattle.definitions.specs.Rows.{rowsOfRecords, definitionOf}
 use Rattle.definitions.specs.RowLaws.{rows-length, rows-define}
 use Rattle.definitions.specs.Question.{acceptsRecords, accepts-rows}
 use Rattle.nokchbem.specs.Calls.{ScheduleCall, RecordsCall}
 
 -- What a call leaves, by whether the list is accepted and by its definitions alone.
 pub record Leaves (accepted : Bool) (defs : List Turns.Definition) (n room marks r : ℕ) (o m : List ℕ) : Type 0 where
-  pub returned : r ≡ number (outcome accepted (placed defs n 128))
+  pub returned : r ≡ scheduleNumber (outcome accepted (placed defs n 128))
   pub ordered : o ≡ cond accepted (order defs n 128 ++ replicate (room - n) 0) (replicate room 0)
   pub marked : m ≡ cond accepted (map (λ i. mark (reached defs n 128 i)) (range 0 n) ++ replicate (marks - n) 0) (replicate marks 0)
 
@@ -33,7 +33,7 @@ module _ (n room marks : ℕ) {r : ℕ} {o m : List ℕ} where
       → Leaves (acceptsRecords ds n room marks) (map definitionOf ds) n room marks r o m
   records-leave ds s =
       subst₂ (λ (a : Bool) (defs : List Turns.Definition). Leaves a defs n room marks r o m) (accepts-rows ds n room marks) (rows-define ds)
-      (flat-leaves (rowsOf ds) s)
+      (flat-leaves (rowsOfRecords ds) s)
 
 -- Words that are as many as the records' rows, and define the same.
 pub record SameList (ws : List ℕ) (ds : List Definition) : Type 0 where
@@ -59,5 +59,5 @@ calls-agree ws ds l n room marks {r} {r′} {o} {o′} {m} {m′} flat records =
     (s .returned ∙ sym (t .returned), s .ordered ∙ sym (t .ordered), s .marked ∙ sym (t .marked))
 
 -- The rows of the records are such words.
-pub rows-same : (ds : List Definition) → SameList (rowsOf ds) ds
+pub rows-same : (ds : List Definition) → SameList (rowsOfRecords ds) ds
 rows-same ds = record { long = rows-length ds; define = rows-define ds }

@@ -3,9 +3,9 @@ use mathlib.Core.Path.{_≡_}
 use mathlib.Core.List.{List}
 use Prim.Native.Nat.{ℕ, _≤_}
 use lib.ListN.{replicate}
-use Rattle.schedule.specs.Call.{refusal, number, result, orderBuffer, reachedBuffer}
+use Rattle.schedule.specs.Call.{refusal, scheduleNumber, scheduleOutcome, orderBuffer, reachedBuffer}
 use Rattle.definitions.specs.declared.Definition.{Definition}
-use Rattle.definitions.specs.Rows.{rowsOf}
+use Rattle.definitions.specs.Rows.{rowsOfRecords}
 use Rattle.sheet.specs.declared.Outcome.{Outcome}
 use Rattle.sheet.specs.Verdict as Verdict
 use Rattle.sheet.specs.Verdict.{verdict, leftTables}
@@ -13,17 +13,17 @@ use Rattle.answers.specs.Call.{Left, left}
 
 -- `nokchbem_schedule`: the number of its outcome, and every element of both buffers, whatever stood in them before.
 pub record ScheduleCall (definitions : List ℕ) (statements room marks r : ℕ) (orderAfter reachedAfter : List ℕ) : Type 0 where
-  pub returned : r ≡ number (result definitions statements room marks)
+  pub returned : r ≡ scheduleNumber (scheduleOutcome definitions statements room marks)
   pub ordered : orderAfter ≡ orderBuffer definitions statements room marks
   pub marked : reachedAfter ≡ reachedBuffer definitions statements room marks
 
 -- `nokchbem_schedule_records`: the same, of the rows that the records are.
 abbrev pub RecordsCall : List Definition → ℕ → ℕ → ℕ → ℕ → List ℕ → List ℕ → Type 0
-RecordsCall records statements room marks r orderAfter reachedAfter = ScheduleCall (rowsOf records) statements room marks r orderAfter reachedAfter
+RecordsCall records statements room marks r orderAfter reachedAfter = ScheduleCall (rowsOfRecords records) statements room marks r orderAfter reachedAfter
 
 -- An outcome of the reader as one number: 0 where the sheet is read.
 abbrev pub readNumber : Outcome → ℕ
-readNumber r = refusal (Verdict.number r) (Verdict.line r) 0
+readNumber r = refusal (Verdict.number r) (Verdict.faultLine r) 0
 
 -- `nokchbem_read`: the number of its outcome, and every element of the tables and of work, whatever stood in them before.
 pub record ReadCall (sheet : List ℕ) (room long r : ℕ) (tablesAfter workAfter : List ℕ) : Type 0 where

@@ -12,7 +12,7 @@ use borrow.Author.Tests.{lt-ltb}
 use Rattle.basics.specs.Truth.{bool-cases, and-intro, and-left, and-right}
 use Rattle.basics.specs.Lists.{all}
 use Rattle.text.specs.Bytes.{bytes}
-use Rattle.writer.specs.Decimal.{digits, line}
+use Rattle.writer.specs.Decimal.{digits, rowLine}
 use Rattle.trees.specs.Lists.{concatMap}
 use Rattle.trees.specs.Sheet.{Sheet}
 use Rattle.sheet.specs.declared.Outcome.{Outcome}
@@ -47,18 +47,18 @@ digits-none (suc most) n = go (bool-cases (ltb n 10)) (digits-none most (n / 10)
     go (inl p) h = rw p (one-none (48 + n) (omega arith))
     go (inr p) h = rw p (append-none (digits most (n / 10)) ((48 + n % 10) ∷ []) h (one-none (48 + n % 10) (omega arith)))
 
-line-none : (row : List ℕ) → noZeros (line row) ≡ true
+line-none : (row : List ℕ) → noZeros (rowLine row) ≡ true
 line-none [] = refl
 line-none (x ∷ []) = append-none (digits 5 x) _ (digits-none 5 x) refl
 line-none (x ∷ (y ∷ row)) = append-none (digits 5 x) _ (digits-none 5 x) (line-none (y ∷ row))
 
-lines-none : (rows : List (List ℕ)) → noZeros (concatMap line rows) ≡ true
+lines-none : (rows : List (List ℕ)) → noZeros (concatMap rowLine rows) ≡ true
 lines-none [] = refl
-lines-none (row ∷ rows) = append-none (line row) _ (line-none row) (lines-none rows)
+lines-none (row ∷ rows) = append-none (rowLine row) _ (line-none row) (lines-none rows)
 
 section-none : (heading : String) (rows : List (List ℕ)) → noZeros (bytes heading) ≡ true → noZeros (section heading rows) ≡ true
 unfolding section
-section-none heading rows h = append-none (bytes heading) _ h (append-none (concatMap line rows) _ (lines-none rows) refl)
+section-none heading rows h = append-none (bytes heading) _ h (append-none (concatMap rowLine rows) _ (lines-none rows) refl)
 
 answer-none : (n : ℕ) (schedules : List QuerySchedule) → noZeros (answerText n schedules) ≡ true
 unfolding answerText bytes

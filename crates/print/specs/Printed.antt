@@ -11,7 +11,7 @@ use lib.Seq.{take-at, getD-append-add, length-take-le}
 use borrow.Author.Tests.{ltb-true}
 use Rattle.basics.specs.Truth.{bool-cases, lt-cases, and-left, and-right}
 use Rattle.text.specs.Bytes.{newline, bytes}
-use Rattle.writer.specs.Decimal.{digits, line}
+use Rattle.writer.specs.Decimal.{digits, rowLine}
 use Rattle.writer.specs.Writes.{Puts, puts-then, starts, fits-whole}
 use Rattle.io.specs.Counts.{Counts}
 use Rattle.answers.specs.Text.{section, refusalText}
@@ -77,26 +77,26 @@ digits-length (suc most) n = go (bool-cases (ltb n 10)) (digits-length most (n /
     go (inl p) h = rw p (omega arith)
     go (inr p) h = rw p (omega (arith, length-append (digits most (n / 10)) ((48 + n % 10) ∷ [])))
 
-row-length : (a b c : ℕ) → length (line (a ∷ b ∷ c ∷ [])) ≤ 18
+row-length : (a b c : ℕ) → length (rowLine (a ∷ b ∷ c ∷ [])) ≤ 18
 row-length a b c =
-    let k = line (c ∷ []) in
-    let m = line (b ∷ c ∷ []) in
+    let k = rowLine (c ∷ []) in
+    let m = rowLine (b ∷ c ∷ []) in
     omega (arith, digits-length 5 a, digits-length 5 b, digits-length 5 c, length-append (digits 5 a) (32 ∷ m), length-append (digits 5 b) (32 ∷ k), length-append (digits 5 c) (10 ∷ []))
 
 refusal-length : (n l c : ℕ) → length (refusalText n l c) ≤ 64
 unfolding refusalText section bytes
 refusal-length n l c =
-    let row = line (n ∷ l ∷ c ∷ []) in
+    let row = rowLine (n ∷ l ∷ c ∷ []) in
     omega (arith, row-length n l c, length-append (row ++ []) (10 ∷ []), length-append row [])
 
 -- The heading, the row and an empty line.
 pub put-refusal : (b : List ℕ) (n l k : ℕ) (c : List ℕ) (r : ℕ) (d : List ℕ) (s : ℕ) (e : List ℕ) (q : ℕ)
-    → Puts b 0 (bytes "refusal line col" ++ (newline ∷ [])) c r → Puts c r (line (n ∷ l ∷ k ∷ [])) d s → Puts d s (newline ∷ []) e q
+    → Puts b 0 (bytes "refusal line col" ++ (newline ∷ [])) c r → Puts c r (rowLine (n ∷ l ∷ k ∷ [])) d s → Puts d s (newline ∷ []) e q
     → Puts b 0 (refusalText n l k) e q
 unfolding refusalText section
 put-refusal b n l k c r d s e q heading row last =
     let h = bytes "refusal line col" in
-    let m = line (n ∷ l ∷ k ∷ []) in
+    let m = rowLine (n ∷ l ∷ k ∷ []) in
     subst (λ (x : List ℕ). Puts b 0 x e q)
     (append-assoc h (newline ∷ []) (m ++ (newline ∷ [])) ∙ ap (λ (x : List ℕ). h ++ (newline ∷ (x ++ (newline ∷ [])))) (sym (append-nil m)))
     (puts-then b 0 (h ++ (newline ∷ [])) c r (m ++ (newline ∷ [])) e q heading (puts-then c r m d s (newline ∷ []) e q row last))

@@ -84,11 +84,11 @@ module _ {s : List ℕ} {tables work r : ℕ} {t w : List ℕ} (call : ReadCall 
   unfolding result
   read-refuses-or-succeeds = go (verdict s tables work) refl
     where
-      at : (o : Outcome) → verdict s tables work ≡ o → Parts r (read.number o) (read.line o) 0
+      at : (o : Outcome) → verdict s tables work ≡ o → Parts r (read.number o) (read.faultLine o) 0
       at o e =
-          subst (λ (v : Outcome). Parts r (read.number v) (read.line v) 0) e
-          (subst (λ (n : ℕ). Parts n (read.number (verdict s tables work)) (read.line (verdict s tables work)) 0) (sym (call .returned))
-          (parts (read.number (verdict s tables work)) (read.line (verdict s tables work)) 0 (line-fits s tables work) (omega arith)))
+          subst (λ (v : Outcome). Parts r (read.number v) (read.faultLine v) 0) e
+          (subst (λ (n : ℕ). Parts n (read.number (verdict s tables work)) (read.faultLine (verdict s tables work)) 0) (sym (call .returned))
+          (parts (read.number (verdict s tables work)) (read.faultLine (verdict s tables work)) 0 (line-fits s tables work) (omega arith)))
 
       refused-at : (o : Outcome) (n l : ℕ) → verdict s tables work ≡ o → Parts r n l 0 → Outcomes 0 (refused n l 0) → leftTables s tables o ≡ replicate tables 0 → HasRead
       refused-at o n l e p q z = refuses n l p (position-of q) (call .tabled ∙ ap (leftTables s tables) e ∙ z) (call .worked)

@@ -9,7 +9,7 @@ use Rattle.basics.specs.Truth.{not-both}
 use Rattle.records.specs.Layout.{deepest}
 use Rattle.trees.specs.Sheet.{Sheet, sheetIn}
 use Rattle.sheet.specs.declared.Outcome.the-variants.{Read}
-use Rattle.sheet.specs.Verdict.{countsOf, specialOf, readTables, verdict}
+use Rattle.sheet.specs.Verdict.{readCounts, readSpecial, readTables, verdict}
 use Rattle.sheet.specs.Passed.{verdict-read}
 use Rattle.analysis.specs.States.{Fault, sound, undefined, usedBefore, lengths, indexVariable, Run}
 use Rattle.analysis.specs.RustWay.{analyze, analyzeQuerySnippet}
@@ -41,7 +41,7 @@ module _ (s : List ℕ) (tables work : ℕ) (read : verdict s tables work ≡ Re
   levels-alike =
       let p = verdict-read s tables work read in
       subst (λ (sheet : Sheet). Alike (analyze deepest sheet [] 1 []) (analyze (deepest + more) sheet [] 1 [])) (p .sheet-is)
-      (depth.levels-suffice (countsOf s) (specialOf s) (readTables s) (p .few) (p .fine) more)
+      (depth.levels-suffice (readCounts s) (readSpecial s) (readTables s) (p .few) (p .fine) more)
 
   pub levels-suffice : (room : ℕ) → analysedTo (deepest + more) (sheetIn s) room ≡ analysed (sheetIn s) room
   unfolding analysed analyzeQuerySnippet

@@ -6,7 +6,7 @@ use mathlib.Core.Option.{Option, some}
 use Prim.Native.Nat.{ℕ}
 use Rattle.trees.specs.Sheet.{Sheet, sheetIn, sheetOf}
 use Rattle.sheet.specs.declared.Outcome.the-variants.{Read}
-use Rattle.sheet.specs.Verdict.{countsOf, specialOf, readTables, verdict}
+use Rattle.sheet.specs.Verdict.{readCounts, readSpecial, readTables, verdict}
 use Rattle.sheet.specs.Passed.{verdict-read}
 use Rattle.analysis.specs.States.{sound, QuerySchedule}
 use Rattle.analysis.specs.RustWay.{analyzeQuerySnippet, scheduleIn}
@@ -19,7 +19,7 @@ module _ (s : List ℕ) (tables work : ℕ) (read : verdict s tables work ≡ Re
   pub read-names : NamesBelow (sheetIn s)
   read-names =
       let p = verdict-read s tables work read in
-      subst NamesBelow (p .sheet-is) (low-names (countsOf s) (specialOf s) (readTables s) (p .few) (p .fine))
+      subst NamesBelow (p .sheet-is) (low-names (readCounts s) (readSpecial s) (readTables s) (p .few) (p .fine))
 
   pub read-schedules : analyzeQuerySnippet (sheetIn s) .fault ≡ sound → (q : ℕ) → scheduleIn (sheetIn s) q ≡ scheduleOnce (sheetIn s) q
   unfolding scheduleIn
@@ -27,5 +27,5 @@ module _ (s : List ℕ) (tables work : ℕ) (read : verdict s tables work ≡ Re
       let p = verdict-read s tables work read in
       subst (λ (sheet : Sheet). analyzeQuerySnippet sheet .fault ≡ sound → (q : ℕ) → scheduleIn sheet q ≡ scheduleOnce sheet q) (p .sheet-is)
       (λ h q.
-      accepted-schedules (countsOf s) (specialOf s) (readTables s) (p .few) (p .fine)
-      (sym (accepted-fault (countsOf s) (specialOf s) (readTables s) (p .few) (p .fine)) ∙ h) q)
+      accepted-schedules (readCounts s) (readSpecial s) (readTables s) (p .few) (p .fine)
+      (sym (accepted-fault (readCounts s) (readSpecial s) (readTables s) (p .few) (p .fine)) ∙ h) q)

@@ -21,7 +21,7 @@ use Rattle.turns.specs.Theorems.{OrderOfAll}
 use Rattle.turns.specs.Shared.{plain-walks}
 use Rattle.rows.specs.Rows.{rowCount, definitions}
 use Rattle.bounds.specs.Question.{within, accepts}
-use Rattle.schedule.specs.Call.{number, outcome, mark}
+use Rattle.schedule.specs.Call.{scheduleNumber, outcome, mark}
 use Rattle.definitions.specs.declared.Definition.{Definition}
 use Rattle.definitions.specs.Rows.{definitionOf}
 use Rattle.definitions.specs.Question.{acceptsRecords}
@@ -60,18 +60,18 @@ named-below n defs h d m =
     let v = leb-true (d .var) 127 (and-right (ltb (d .statement) n) (leb (d .var) 127) (all-mem (within n) defs h m)) in
     omega arith
 
-placed-number : (b : Bool) → (number (outcome true b) ≡ 1 → b ≡ true) × (b ≡ true → number (outcome true b) ≡ 1)
+placed-number : (b : Bool) → (scheduleNumber (outcome true b) ≡ 1 → b ≡ true) × (b ≡ true → scheduleNumber (outcome true b) ≡ 1)
 placed-number true = (λ e. refl, λ e. refl)
 placed-number false = (λ e. absurd (omega arith), λ e. absurd (never e))
   where
     never : false ≡ true → ⊥
     never e = let z : _≡_ {A = ℕ} 0 1 = cc in omega arith
 
-unplaced-number : (b : Bool) → number (outcome true b) ≡ 0 → b ≡ false
+unplaced-number : (b : Bool) → scheduleNumber (outcome true b) ≡ 0 → b ≡ false
 unplaced-number true e = absurd (omega arith)
 unplaced-number false e = refl
 
-one-or-none : (b : Bool) → (number (outcome true b) ≡ 1 → ⊥) → number (outcome true b) ≡ 0
+one-or-none : (b : Bool) → (scheduleNumber (outcome true b) ≡ 1 → ⊥) → scheduleNumber (outcome true b) ≡ 0
 one-or-none true e = absurd (e refl)
 one-or-none false e = refl
 

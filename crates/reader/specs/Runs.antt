@@ -13,7 +13,7 @@ use Rattle.text.specs.Bytes.{newline}
 use Rattle.text.specs.Lines.{Text, rest, line, push, lines}
 use Rattle.text.specs.LineLaws.{drop-next}
 use Rattle.text.specs.Sections.{Section, sections}
-use Rattle.text.specs.Form.{Sheet, faulty, formed, also, sheet, form, faultOf, rowsIn}
+use Rattle.text.specs.Form.{Whole, faulty, formed, also, wholeFrom, form, faultOf, rowsIn}
 use Rattle.text.specs.FormLaws.{also-fault}
 use Rattle.text.specs.Questions.{formFault, sectionRows}
 use Rattle.tables.specs.declared.Area.{Area}
@@ -32,11 +32,11 @@ pub data Run (s : List ℕ) (q : Progress) (e : List ℕ) : List Section → Lis
       → Run s q e (c ∷ ss) (a ∷ as′) p d (r .rows ∷ ks)
 
 -- The rows of sections in front.
-abbrev alsoAll : List (List (List ℕ)) → Sheet → Sheet
+abbrev alsoAll : List (List (List ℕ)) → Whole → Whole
 alsoAll [] t = t
 alsoAll (ls ∷ rs) t = also ls (alsoAll rs t)
 
-alsoAll-fault : (rs : List (List (List ℕ))) (t : Sheet) → faultOf (alsoAll rs t) ≡ faultOf t
+alsoAll-fault : (rs : List (List (List ℕ))) (t : Whole) → faultOf (alsoAll rs t) ≡ faultOf t
 alsoAll-fault [] t = refl
 alsoAll-fault (ls ∷ rs) t = also-fault ls (alsoAll rs t) ∙ alsoAll-fault rs t
 
@@ -74,19 +74,19 @@ module _ {s : List ℕ} {q : Progress} {e : List ℕ} where
 
 -- ---- behind the last section
 
-sheet-more : (n b : ℕ) (s : List ℕ) → sheet [] n (lines (b ∷ s)) ≡ faulty n
-unfolding sheet lines
+sheet-more : (n b : ℕ) (s : List ℕ) → wholeFrom [] n (lines (b ∷ s)) ≡ faulty n
+unfolding wholeFrom lines
 sheet-more n b s = go (eqb b newline) (lines s)
   where
-    go : (e : Bool) (t : Text) → sheet [] n (cond e (line [] t) (push b t)) ≡ faulty n
+    go : (e : Bool) (t : Text) → wholeFrom [] n (cond e (line [] t) (push b t)) ≡ faulty n
     go true t = refl
     go false (rest r) = refl
     go false (line l t) = refl
 
 module _ (s : List ℕ) (p : Progress) where
   remaining-end : p .good ≡ true → p .next ≡ length s → remaining [] s p ≡ formed []
-  unfolding remaining sheet lines
-  remaining-end y h = rw (y, h) (ap (λ (l : List ℕ). sheet [] (p .line) (lines l)) (drop-length s))
+  unfolding remaining wholeFrom lines
+  remaining-end y h = rw (y, h) (ap (λ (l : List ℕ). wholeFrom [] (p .line) (lines l)) (drop-length s))
 
   remaining-more : Sound s p → p .good ≡ true → (p .next ≡ length s → ⊥) → remaining [] s p ≡ faulty (p .line)
   unfolding remaining
@@ -138,6 +138,6 @@ sheet-read {s} {d} {e} {q} r run o f =
     λ z. all ∙ rw (whole s q o (sym f ∙ z) .1) (alsoAll-formed (rows run)) in
     record {
       fault = f ∙ sym (ap faultOf all ∙ alsoAll-fault (rows run) (remaining [] s q));
-      count = λ z. counted (whole s q o (sym f ∙ z) .0) run ∙ sym (ap (λ (t : Sheet). map length (rowsIn t)) (good z));
-      table = λ z. stored (whole s q o (sym f ∙ z) .0) run ∙ sym (ap (λ (t : Sheet). putSections areas (rowsIn t) d) (good z));
+      count = λ z. counted (whole s q o (sym f ∙ z) .0) run ∙ sym (ap (λ (t : Whole). map length (rowsIn t)) (good z));
+      table = λ z. stored (whole s q o (sym f ∙ z) .0) run ∙ sym (ap (λ (t : Whole). putSections areas (rowsIn t) d) (good z));
     }

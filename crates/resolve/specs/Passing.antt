@@ -8,7 +8,7 @@ use lib.ListN.{getD}
 use Rattle.basics.specs.Lists.{all}
 use Rattle.names.specs.Sets.{member, members, Inserted}
 use Rattle.turns.specs.Definitions.{Definition}
-use Rattle.rows.specs.Rows.{rowCount, varAt, usedAt, definitionAt}
+use Rattle.rows.specs.Rows.{rowCount, varAt, usedWordsAt, definitionAt}
 use Rattle.rows.specs.Links.{lastOf, chainOf, Linked}
 use Rattle.rows.specs.ChainLaws.{last-leads, last-row, chain-row, chain-none}
 use Rattle.resolve.specs.Pass.{gain, gather, waits, Passes}
@@ -57,7 +57,7 @@ module _ (ws links : List ℕ) (linked : Linked ws links) (s : ℕ) (start : Lis
 
       -- After the turn, if the set and the flag are as the pass over the row's definition leaves them.
       turn : {more : List ℕ} {waits-now : Bool} → member more ≡ gain (member seen) (definitionAt ws (at - 1))
-          → waits-now ≡ (waiting || not (all (member seen) (members (usedAt ws (at - 1)))))
+          → waits-now ≡ (waiting || not (all (member seen) (members (usedWordsAt ws (at - 1)))))
           → Passing ws s start (getD links (128 + (at - 1)) 0) more waits-now
       turn {more} {waits-now} set flag =
           let leads = last-leads ws s (at - 1) in
@@ -70,10 +70,10 @@ module _ (ws links : List ℕ) (linked : Linked ws links) (s : ℕ) (start : Lis
                 ∙ ap (λ (c : List Definition). waiting || waits c (member seen)) (sym first-row) ∙ p .waited;
           })
 
-      pub passing-waits : all (member seen) (members (usedAt ws (at - 1))) ≡ false
+      pub passing-waits : all (member seen) (members (usedWordsAt ws (at - 1))) ≡ false
           → Passing ws s start (getD links (128 + (at - 1)) 0) seen true
       passing-waits fails = turn (rw fails) (rw fails (sym (or-true waiting)))
 
-      pub passing-adds : all (member seen) (members (usedAt ws (at - 1))) ≡ true → {more : List ℕ} → Inserted seen (varAt ws (at - 1)) more
+      pub passing-adds : all (member seen) (members (usedWordsAt ws (at - 1))) ≡ true → {more : List ℕ} → Inserted seen (varAt ws (at - 1)) more
           → Passing ws s start (getD links (128 + (at - 1)) 0) more waiting
       passing-adds holds i = turn (rw holds (fun-ext (i .has))) (rw holds (sym (or-false waiting)))

@@ -16,11 +16,11 @@ module _ (ws : List ℕ) where
   abbrev pub varAt : ℕ → ℕ
   varAt k = getD ws (4 * k + 1) 0
 
-  abbrev pub usedAt : ℕ → List ℕ
-  usedAt k = getD ws (4 * k + 2) 0 ∷ getD ws (4 * k + 3) 0 ∷ []
+  abbrev pub usedWordsAt : ℕ → List ℕ
+  usedWordsAt k = getD ws (4 * k + 2) 0 ∷ getD ws (4 * k + 3) 0 ∷ []
 
   abbrev pub definitionAt : ℕ → Definition
-  definitionAt k = record { statement = statementAt k; var = varAt k; used = members (usedAt k) }
+  definitionAt k = record { statement = statementAt k; var = varAt k; used = members (usedWordsAt k) }
 
   -- The definitions of all whole rows, in their order.
   unfoldable pub definitions : List Definition

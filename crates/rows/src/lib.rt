@@ -4,7 +4,7 @@ use names::Names;
 ghost use mathlib.Core.Path.{_≡_};
 ghost use Prim.Native.Nat.{ℕ, _<_, _≤_};
 ghost use lib.ListN.{length, getD};
-ghost use Rattle.rows.specs.Rows.{rowCount, statementAt, varAt, usedAt};
+ghost use Rattle.rows.specs.Rows.{rowCount, statementAt, varAt, usedWordsAt};
 ghost use Rattle.rows.specs.Links.{Linked};
 ghost use Rattle.rows.specs.Masks.{Added, Masked};
 
@@ -26,7 +26,7 @@ pub const MASKS: usize = 2 * names::CAPACITY;
 // The used names of row k.
 pub fn used_at(rows: &[u64], k: usize) -> Names
     requires { ⌜ k < rowCount (now rows) ⌝ }
-    ensures { λ r. ⌜ r .words ≡ usedAt (now (rows .entry)) k ⌝ }
+    ensures { λ r. ⌜ r .words ≡ usedWordsAt (now (rows .entry)) k ⌝ }
 {
     Names {
         words: [rows[ROW * k + 2], rows[ROW * k + 3]],

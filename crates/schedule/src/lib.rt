@@ -11,7 +11,7 @@ ghost use Rattle.turns.specs.Orders.{placedOrder};
 ghost use Rattle.rows.specs.Rows.{definitions};
 ghost use Rattle.bounds.specs.Answers.{Accepted};
 ghost use Rattle.place.specs.State.{After};
-ghost use Rattle.schedule.specs.Call.{number, Scheduled};
+ghost use Rattle.schedule.specs.Call.{scheduleNumber, Scheduled};
 
 // What the call comes to.
 pub enum Outcome {
@@ -54,7 +54,7 @@ pub fn schedule(rows: &[u64], n: usize, order: &mut [u16], reached: &mut [u16]) 
 
 // The number that an outcome is returned as.
 pub fn number_of(outcome: Outcome) -> u64
-    ensures { λ r. ⌜ r ≡ number outcome ⌝ }
+    ensures { λ r. ⌜ r ≡ scheduleNumber outcome ⌝ }
 {
     match outcome {
         Outcome::Refused => 0x8_0000_0000,

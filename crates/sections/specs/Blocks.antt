@@ -7,7 +7,7 @@ use native.Mathlib.Omega.{arith}
 use lib.ListN.{length, getD, drop, length-append}
 use Rattle.basics.specs.Truth.{not-both}
 use Rattle.text.specs.Bytes.{newline}
-use Rattle.text.specs.Lines.{Text, rest, line, lines, first, lineAt}
+use Rattle.text.specs.Lines.{Text, rest, line, lines, headLine, lineAt}
 use Rattle.text.specs.LineLaws.{text-end, text-newline, passes}
 use Rattle.text.specs.Form.{Block, stops, ends, more, block}
 use Rattle.tables.specs.declared.Area.{Area}
@@ -48,7 +48,7 @@ block-row : (k b : ℕ) (l : List ℕ) (u : Text) → hasRow k (line (b ∷ l) u
 unfolding block hasRow
 block-row k b l u h = rw h
 
-block-none : (k : ℕ) (t : Text) (b : ℕ) (l : List ℕ) → first t ≡ b ∷ l → hasRow k t ≡ false → block k t ≡ stops 0
+block-none : (k : ℕ) (t : Text) (b : ℕ) (l : List ℕ) → headLine t ≡ b ∷ l → hasRow k t ≡ false → block k t ≡ stops 0
 unfolding block hasRow
 block-none k (rest r) b l e h = refl
 block-none k (line [] t) b l e h = let z : _≡_ {A = ℕ} 0 (length (b ∷ l)) = ap length e in absurd (omega (arith, z))

@@ -10,7 +10,7 @@ use lib.Seq.{drop-length}
 use borrow.Author.Tests.{eqb-true, eqb-false, ne-eqb, eq-eqb, not-true}
 use Rattle.basics.specs.Truth.{and-left, and-right}
 use Rattle.text.specs.Bytes.{newline}
-use Rattle.text.specs.Lines.{Text, rest, line, push, lines, first, isLine}
+use Rattle.text.specs.Lines.{Text, rest, line, push, lines, headLine, isLine}
 use Rattle.text.specs.LineLaws.{noNewline, drop-next}
 use Rattle.text.specs.Form.{same}
 use Rattle.text.specs.FormLaws.{hasLine}
@@ -23,7 +23,7 @@ hasLine-nil : (b : ℕ) (s : List ℕ) → hasLine [] (lines (b ∷ s)) ≡ eqb 
 unfolding hasLine lines
 hasLine-nil b s = go (eqb b newline) (lines s)
   where
-    go : (e : Bool) (t : Text) → (isLine (cond e (line [] t) (push b t)) && same (first (cond e (line [] t) (push b t))) []) ≡ e
+    go : (e : Bool) (t : Text) → (isLine (cond e (line [] t) (push b t)) && same (headLine (cond e (line [] t) (push b t))) []) ≡ e
     go true t = refl
     go false (rest r) = refl
     go false (line l t) = refl
@@ -34,8 +34,8 @@ unfolding hasLine lines
 hasLine-cons c h b s n = go (eqb b newline) refl (lines s)
   where
     go : (e : Bool) → eqb b newline ≡ e → (t : Text)
-        → (isLine (cond e (line [] t) (push b t)) && same (first (cond e (line [] t) (push b t))) (c ∷ h))
-        ≡ (eqb b c && (isLine t && same (first t) h))
+        → (isLine (cond e (line [] t) (push b t)) && same (headLine (cond e (line [] t) (push b t))) (c ∷ h))
+        ≡ (eqb b c && (isLine t && same (headLine t) h))
     go true e t = sym (rw (ne-eqb b c (λ q. eqb-false c newline n (sym q ∙ eqb-true b newline e))))
     go false e (rest r) = sym (and-false (eqb b c))
     go false e (line l t) = refl

@@ -9,7 +9,7 @@ use lib.Seq.{sets}
 use borrow.Author.Tests.{le-leb, lt-leb}
 use Rattle.basics.specs.Truth.{not-both}
 use Rattle.text.specs.Bytes.{newline}
-use Rattle.text.specs.Lines.{Text, line, lines, first, after, isLine, lineAt}
+use Rattle.text.specs.Lines.{Text, line, lines, headLine, after, isLine, lineAt}
 use Rattle.text.specs.LineLaws.{whole, text-end, text-newline, passes}
 use Rattle.text.specs.Form.{isRow}
 use Rattle.text.specs.RowLaws.{fits}
@@ -21,7 +21,7 @@ use Rattle.values.specs.Rows.{RowRead}
 
 -- Is the first line of a text a row of a section with rows so wide?
 unfoldable pub hasRow : ℕ → Text → Bool
-hasRow k t = isLine t && isRow k (first t)
+hasRow k t = isLine t && isRow k (headLine t)
 
 -- At a place stands a line, which ends where r says.
 pub record LineEnd (s : List ℕ) (at : ℕ) (r : Line) : Type 0 where

@@ -9,7 +9,7 @@ use lib.Seq.{drop-drop}
 use Rattle.basics.specs.Truth.{not-both}
 use Rattle.text.specs.Lines.{lines, after}
 use Rattle.text.specs.Sections.{Section}
-use Rattle.text.specs.Form.{block, Sheet, faulty, also, filled, sheet}
+use Rattle.text.specs.Form.{block, Whole, faulty, also, filled, wholeFrom}
 use Rattle.text.specs.FormLaws.{hasLine, behind-heading, sheet-none, sheet-some}
 use Rattle.tables.specs.declared.Area.{Area}
 use Rattle.tables.specs.Tables.{putRows}
@@ -24,8 +24,8 @@ pub record Sound (s : List ℕ) (p : Progress) : Type 0 where
   pub some : 0 < p .line
 
 -- What the text says of sections that are still to come.
-unfoldable pub remaining : List Section → List ℕ → Progress → Sheet
-remaining ss s p = cond (p .good) (sheet ss (p .line) (lines (drop (p .next) s))) (faulty (p .line))
+unfoldable pub remaining : List Section → List ℕ → Progress → Whole
+remaining ss s p = cond (p .good) (wholeFrom ss (p .line) (lines (drop (p .next) s))) (faulty (p .line))
 
 -- A section with heading h and rows for the area a is read from p on; r is behind it. Its rows are in the table e, which was d.
 pub record SectionRead (s : List ℕ) (p : Progress) (h : List ℕ) (a : Area) (d : List ℕ) (r : Progress) (e : List ℕ) : Type 0 where
@@ -85,8 +85,8 @@ module _ (s : List ℕ) (p : Progress) (h : List ℕ) (a : Area) (d : List ℕ) 
 
     module _ (g : hasLine h (lines (drop (p .next) s)) ≡ true) where
       here : (c : Section) (ss : List Section) → c .heading ≡ h → c .width ≡ a .width
-          → sheet (c ∷ ss) (p .line) (lines (drop (p .next) s))
-          ≡ filled (p .line) (sheet ss) (block (a .width) (lines (drop (from s p h) s)))
+          → wholeFrom (c ∷ ss) (p .line) (lines (drop (p .next) s))
+          ≡ filled (p .line) (wholeFrom ss) (block (a .width) (lines (drop (from s p h) s)))
       here c ss u v = sheet-some c ss (p .line) (lines (drop (p .next) s)) (rw u g) ∙ rw (v, behind s p h y o g .1)
 
       module _ {q : Rows} {e : List ℕ} (b : RowsRead s (from s p h) a d q e) (r : Progress) where
@@ -94,7 +94,7 @@ module _ (s : List ℕ) (p : Progress) (h : List ℕ) (a : Area) (d : List ℕ) 
         pub section-fault : q .good ≡ false → r .good ≡ false → r .line ≡ p .line + 1 + q .rows → SectionRead s p h a d r e
         unfolding remaining
         section-fault n f x =
-            fails r f (omega arith) (λ c ss u v. rw y (here c ss u v ∙ ap (filled (p .line) (sheet ss)) (b .fault n) ∙ ap faulty (sym x))) e
+            fails r f (omega arith) (λ c ss u v. rw y (here c ss u v ∙ ap (filled (p .line) (wholeFrom ss)) (b .fault n) ∙ ap faulty (sym x))) e
 
         pub section-good : q .good ≡ true → r .good ≡ true → r .next ≡ q .next → r .line ≡ p .line + q .rows + 2 → r .rows ≡ q .rows
             → SectionRead s p h a d r e
@@ -106,7 +106,7 @@ module _ (s : List ℕ) (p : Progress) (h : List ℕ) (a : Area) (d : List ℕ) 
             some = omega arith;
           };
           rows = b .done;
-          says = λ c ss u v. rw (y, f, x, l, ← b .count) (here c ss u v ∙ ap (filled (p .line) (sheet ss)) (b .ended n));
+          says = λ c ss u v. rw (y, f, x, l, ← b .count) (here c ss u v ∙ ap (filled (p .line) (wholeFrom ss)) (b .ended n));
           count = λ t. m ∙ sym (b .count);
           table = λ t. b .table n;
           came = λ t. y;

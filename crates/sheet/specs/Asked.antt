@@ -6,15 +6,16 @@ use mathlib.Core.Logic.{_⊎_, inl, inr}
 use Prim.Native.Nat.{ℕ, zero, suc, _+_, _≤_, _<_}
 use native.Mathlib.Omega.{arith}
 use lib.Dec.{eqb, leb, ltb}
-use lib.ListN.{length, getD, take, length-replicate}
+use lib.ListN.{length, getD, length-replicate}
 use lib.Seq.{sets}
 use borrow.Author.Tests.{ltb-false, eqb-true, eqb-false, lt-leb, le-leb, eq-eqb, ne-eqb}
 use Rattle.basics.specs.Truth.{bool-cases, not-both}
 use Rattle.text.specs.Bytes.{bytes}
-use Rattle.text.specs.Sections.{Section, sections}
+use Rattle.text.specs.Sections.{Section, sections, lineOf}
+use Rattle.text.specs.SectionLaws.{line-some}
 use Rattle.text.specs.Names.{nameRow}
 use Rattle.text.specs.Form.{same}
-use Rattle.text.specs.Counts.{lineOf, overLine, noQueryLine, countFault}
+use Rattle.text.specs.Counts.{overLine, noQueryLine, countFault}
 use Rattle.text.specs.Questions.{shortEnough, formFault, namesFault, countsFault, sectionRows, rowCounts, rowOfName, sheetNames}
 use Rattle.tables.specs.Tables.{tables}
 use Rattle.reader.specs.declared.Read as read-of
@@ -27,7 +28,7 @@ use Rattle.records.specs.Rows.{inTables}
 use Rattle.naming.specs.Lines.{firstLine}
 use Rattle.sheet.specs.declared.Outcome.{Outcome}
 use Rattle.sheet.specs.declared.Outcome.the-variants.{Read, NoRoom, TooLong, BadForm, BadName, BadCount, BadField}
-use Rattle.sheet.specs.Verdict.{blank, countsOf, fieldsFault, asked, verdict, headOf, specialOf, readTables, leftTables}
+use Rattle.sheet.specs.Verdict.{emptyTables, readCounts, fieldsFault, asked, verdict, headOf, readSpecial, readTables, leftTables}
 use Rattle.sheet.specs.ReadRows.{fields-in-tables}
 
 abbrev pub isRead : Outcome → Bool
@@ -57,33 +58,29 @@ pub record Small (x : Special) : Type 0 where
 
 -- ---- counts in bounds
 
-pub over-none : (n : ℕ) (s : Section) (ss : List Section) (k : ℕ) (ks : List ℕ) → overLine n (s ∷ ss) (k ∷ ks) ≡ 0
-    → (k ≤ s .limit) × (overLine (n + k + 2) ss ks ≡ 0)
+pub over-none : (ks : List ℕ) (k : ℕ) (s : Section) (ss : List Section) → overLine ks k (s ∷ ss) ≡ 0
+    → (getD ks k 0 ≤ s .limit) × (overLine ks (suc k) ss ≡ 0)
 unfolding overLine
-over-none n s ss k ks h = go (bool-cases (ltb (s .limit) k))
+over-none ks k s ss h = go (bool-cases (ltb (s .limit) (getD ks k 0)))
   where
-    go : (ltb (s .limit) k ≡ true) ⊎ (ltb (s .limit) k ≡ false) → (k ≤ s .limit) × (overLine (n + k + 2) ss ks ≡ 0)
-    go (inl p) = let z : n + s .limit + 1 ≡ 0 = rw p at h in absurd (omega arith)
-    go (inr p) = (ltb-false (s .limit) k p, rw p at h)
+    go : (ltb (s .limit) (getD ks k 0) ≡ true) ⊎ (ltb (s .limit) (getD ks k 0) ≡ false)
+        → (getD ks k 0 ≤ s .limit) × (overLine ks (suc k) ss ≡ 0)
+    go (inl p) = let z : lineOf ks k (s .limit + 1) ≡ 0 = rw p at h in absurd (omega (arith, line-some ks k (s .limit + 1)))
+    go (inr p) = (ltb-false (s .limit) (getD ks k 0) p, rw p at h)
 
 -- No section is over its limit, and there is a query.
-pub count-none : (ks : List ℕ) → countFault ks ≡ 0 → (overLine 1 sections ks ≡ 0) × (noQueryLine ks ≡ 0)
+pub count-none : (ks : List ℕ) → countFault ks ≡ 0 → (overLine ks 0 sections ≡ 0) × (noQueryLine ks ≡ 0)
 unfolding countFault
-count-none ks h = go (bool-cases (eqb (overLine 1 sections ks) 0))
+count-none ks h = go (bool-cases (eqb (overLine ks 0 sections) 0))
   where
-    go : (eqb (overLine 1 sections ks) 0 ≡ true) ⊎ (eqb (overLine 1 sections ks) 0 ≡ false)
-        → (overLine 1 sections ks ≡ 0) × (noQueryLine ks ≡ 0)
+    go : (eqb (overLine ks 0 sections) 0 ≡ true) ⊎ (eqb (overLine ks 0 sections) 0 ≡ false)
+        → (overLine ks 0 sections ≡ 0) × (noQueryLine ks ≡ 0)
     go (inl p) = (eqb-true _ 0 p, rw p at h)
-    go (inr p) = let z : overLine 1 sections ks ≡ 0 = rw p at h in absurd (eqb-false _ 0 p z)
-
-line-some : (ks : List ℕ) → 1 ≤ lineOf ks 0
-unfolding lineOf
-line-some [] = omega arith
-line-some (k ∷ ks) = omega (arith, line-some ks)
+    go (inr p) = let z : overLine ks 0 sections ≡ 0 = rw p at h in absurd (eqb-false _ 0 p z)
 
 no-query : (ks : List ℕ) → noQueryLine ks ≡ 0 → getD ks 4 0 ≡ 0 → ⊥
 unfolding noQueryLine
-no-query ks h z = let l : lineOf (take 4 ks) 0 ≡ 0 = rw z at h in let some = line-some (take 4 ks) in absurd (omega arith)
+no-query ks h z = let l : lineOf ks 4 0 ≡ 0 = rw z at h in absurd (omega (arith, line-some ks 4 0))
 
 -- The counts of rows in five sections.
 abbrev pub asCounts : List ℕ → Counts
@@ -97,19 +94,14 @@ asCounts ks = record {
 
 pub within : (ks : List ℕ) → countFault ks ≡ 0 → Within (asCounts ks)
 unfolding sections
-within [] h = absurd (no-query [] (count-none [] h .1) refl)
-within (a ∷ []) h = absurd (no-query _ (count-none _ h .1) refl)
-within (a ∷ b ∷ []) h = absurd (no-query _ (count-none _ h .1) refl)
-within (a ∷ b ∷ c ∷ []) h = absurd (no-query _ (count-none _ h .1) refl)
-within (a ∷ b ∷ c ∷ d ∷ []) h = absurd (no-query _ (count-none _ h .1) refl)
-within (a ∷ b ∷ c ∷ d ∷ e ∷ ks) h =
-    let none = count-none (a ∷ b ∷ c ∷ d ∷ e ∷ ks) h in
-    let first = over-none _ _ _ a _ (none .0) in
-    let second = over-none _ _ _ b _ (first .1) in
-    let third = over-none _ _ _ c _ (second .1) in
-    let fourth = over-none _ _ _ d _ (third .1) in
-    let fifth = over-none _ _ _ e _ (fourth .1) in
-    let some = no-query _ (none .1) in
+within ks h =
+    let none = count-none ks h in
+    let first = over-none ks 0 _ _ (none .0) in
+    let second = over-none ks 1 _ _ (first .1) in
+    let third = over-none ks 2 _ _ (second .1) in
+    let fourth = over-none ks 3 _ _ (third .1) in
+    let fifth = over-none ks 4 _ _ (fourth .1) in
+    let some = no-query ks (none .1) in
     record {
       few-names = first .0;
       few-builtins = second .0;
@@ -149,8 +141,8 @@ module _ (s : List ℕ) (few : getD (rowCounts s) 0 0 ≤ 127) where
 
 -- ---- what is read
 
-pub blank-room : (d : List ℕ) → d ≡ blank → 8192 ≤ length d
-unfolding blank
+pub blank-room : (d : List ℕ) → d ≡ emptyTables → 8192 ≤ length d
+unfolding emptyTables
 blank-room d is = let n : length d ≡ 8192 = ap length is ∙ length-replicate {A = ℕ} 8192 0 in omega arith
 
 -- The counts of a sheet that has the form, as the reader gives them.
@@ -163,14 +155,14 @@ countsIn r = record {
   queries = r .queries;
 }
 
-module _ (s d : List ℕ) (r : read-of.Read) (e : List ℕ) (is : d ≡ blank) (k : SheetRead s d r e) (good : r .fault ≡ 0) where
-  pub counts-are : countsIn r ≡ countsOf s
+module _ (s d : List ℕ) (r : read-of.Read) (e : List ℕ) (is : d ≡ emptyTables) (k : SheetRead s d r e) (good : r .fault ≡ 0) where
+  pub counts-are : countsIn r ≡ readCounts s
   counts-are = ap asCounts (k .count good)
 
   pub few-names : r .names ≤ 127 → getD (rowCounts s) 0 0 ≤ 127
   few-names h = let n : r .names ≡ getD (rowCounts s) 0 0 = ap (λ (ks : List ℕ). getD ks 0 0) (k .count good) in omega arith
 
-  rows-are : e ≡ tables s blank
+  rows-are : e ≡ tables s emptyTables
   rows-are = k .table good ∙ ap (tables s) is
 
   pub counts-fault-is : countFault (counts r) ≡ countsFault s
@@ -183,7 +175,7 @@ module _ (s d : List ℕ) (r : read-of.Read) (e : List ℕ) (is : d ≡ blank) (
     unfolding readTables
     tables-are =
         headed
-        ∙ rw (special .blank, special .input, special .«data») (ap₂ (λ (l : List ℕ) (c : Counts). sets l 0 (headOf c (specialOf s))) rows-are counts-are)
+        ∙ rw (special .blank, special .input, special .«data») (ap₂ (λ (l : List ℕ) (c : Counts). sets l 0 (headOf c (readSpecial s))) rows-are counts-are)
 
     pub fields-fault-is : formFault s ≡ 0 → countsFault s ≡ 0 → firstLine (countsIn r) (inTables t) ≡ fieldsFault s
     unfolding countsFault

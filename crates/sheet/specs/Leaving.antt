@@ -10,7 +10,7 @@ use lib.Seq.{take-at, drop-at}
 use Rattle.basics.specs.Truth.{not-both}
 use Rattle.sheet.specs.declared.Outcome.{Outcome}
 use Rattle.sheet.specs.declared.Outcome.the-variants.{Read, NoRoom, TooLong, BadForm, BadName, BadCount, BadField}
-use Rattle.sheet.specs.Verdict.{blank, verdict, readTables, leftTables, SheetLeft}
+use Rattle.sheet.specs.Verdict.{emptyTables, verdict, readTables, leftTables, SheetLeft}
 use Rattle.sheet.specs.Asked.{isRead, Asked, SheetTaken}
 
 -- ---- zeros, the first n of which are lent
@@ -29,8 +29,8 @@ module _ (n m : ℕ) (h : n ≤ m) where
   zeros-rest = ap (drop n) zeros-split ∙ drop-at (zeros n) (zeros (m - n)) n (length-replicate {A = ℕ} n 0)
 
 module _ (t : List ℕ) (room : ℕ) (zeroed : t ≡ replicate room 0) (enough : 8192 ≤ room) where
-  pub lent-blank : take 8192 t ≡ blank
-  unfolding blank
+  pub lent-blank : take 8192 t ≡ emptyTables
+  unfolding emptyTables
   lent-blank = ap (take 8192) zeroed ∙ zeros-front 8192 room enough
 
   pub rest-zeros : drop 8192 t ≡ replicate (room - 8192) 0

@@ -6,18 +6,18 @@ use mathlib.Core.Logic.{_⊎_, inl, inr}
 use Prim.Native.Nat.{ℕ, zero, suc, _+_, _≤_}
 use native.Mathlib.Omega.{arith}
 use lib.Dec.{eqb, leb, ltb}
-use lib.ListN.{length, getD, take}
+use lib.ListN.{length, getD}
 use borrow.Author.Tests.{ltb-false, leb-true, eqb-true}
 use Rattle.basics.specs.Truth.{bool-cases}
-use Rattle.text.specs.Sections.{Section, sections}
-use Rattle.text.specs.Counts.{lineOf, overLine, noQueryLine, countFault}
+use Rattle.text.specs.Sections.{Section, sections, builtInsAt, exprsAt, statementsAt, queriesAt, lineOf, lineOr}
+use Rattle.text.specs.SectionLaws.{line-row, line-next}
+use Rattle.text.specs.Counts.{overLine, noQueryLine, countFault}
 use Rattle.text.specs.Questions.{formFault, namesFault, countsFault, shortEnough, rowCounts}
 use Rattle.records.specs.declared.Counts.{Counts}
 use Rattle.records.specs.Layout.{Within}
-use Rattle.records.specs.Rows as rows-of
+use Rattle.records.specs.Rows.{Rows}
 use Rattle.naming.specs.Faults.{builtinFault, exprFault, statementFault, queryFault}
-use Rattle.naming.specs.Lines as Rows
-use Rattle.naming.specs.Lines.{firstOf, firstLine}
+use Rattle.naming.specs.Lines.{firstAtFault, listed, firstLine}
 use Rattle.sheet.specs.declared.Outcome.{Outcome}
 use Rattle.sheet.specs.declared.Outcome.the-variants.{Read, NoRoom, TooLong, BadForm, BadName, BadCount, BadField}
 use Rattle.sheet.specs.Verdict as Verdict
@@ -33,88 +33,98 @@ abbrev most : ℕ → List Section → ℕ
 most n [] = n
 most n (s ∷ ss) = most (n + s .limit + 2) ss
 
-most-more : (ss : List Section) (n m : ℕ) → n ≤ m → most n ss ≤ most m ss
-most-more [] n m h = h
-most-more (s ∷ ss) n m h = most-more ss (n + s .limit + 2) (m + s .limit + 2) (omega arith)
-
 most-from : (ss : List Section) (n : ℕ) → n ≤ most n ss
 most-from [] n = omega arith
 most-from (s ∷ ss) n = omega (arith, most-from ss (n + s .limit + 2))
 
-over-low : (n : ℕ) (ss : List Section) (ks : List ℕ) → overLine n ss ks ≤ most n ss
+-- Up to the heading of these sections there are at most n lines.
+over-low : (ks : List ℕ) (k : ℕ) (ss : List Section) (n : ℕ) → lineOf ks k 0 ≤ n → overLine ks k ss ≤ most n ss
 unfolding overLine
-over-low n [] ks = omega arith
-over-low n (s ∷ ss) [] = omega arith
-over-low n (s ∷ ss) (k ∷ ks) = go (bool-cases (ltb (s .limit) k)) (over-low (n + k + 2) ss ks)
+over-low ks k [] n h = omega arith
+over-low ks k (s ∷ ss) n h =
+    go (bool-cases (ltb (s .limit) (getD ks k 0))) (λ g. over-low ks (suc k) ss (n + s .limit + 2) g)
   where
-    go : (ltb (s .limit) k ≡ true) ⊎ (ltb (s .limit) k ≡ false) → overLine (n + k + 2) ss ks ≤ most (n + k + 2) ss
-        → cond (ltb (s .limit) k) (n + s .limit + 1) (overLine (n + k + 2) ss ks) ≤ most (n + s .limit + 2) ss
-    go (inl p) h = rw p (let m = most-from ss (n + s .limit + 2) in omega arith)
-    go (inr p) h = rw p (let few = ltb-false (s .limit) k p in let m = most-more ss (n + k + 2) (n + s .limit + 2) (omega arith) in omega arith)
+    go : (ltb (s .limit) (getD ks k 0) ≡ true) ⊎ (ltb (s .limit) (getD ks k 0) ≡ false)
+        → (lineOf ks (suc k) 0 ≤ n + s .limit + 2 → overLine ks (suc k) ss ≤ most (n + s .limit + 2) ss)
+        → cond (ltb (s .limit) (getD ks k 0)) (lineOf ks k (s .limit + 1)) (overLine ks (suc k) ss) ≤ most (n + s .limit + 2) ss
+    go (inl p) f = rw p (omega (arith, line-row ks k (s .limit + 1), most-from ss (n + s .limit + 2)))
+    go (inr p) f =
+        let few = ltb-false (s .limit) (getD ks k 0) p in
+        rw p (f (omega (arith, line-next ks k 0)))
 
-line-low : (m : ℕ) (ss : List Section) (n : ℕ) (ks : List ℕ) → overLine n ss ks ≡ 0 → m ≤ length ss
-    → n + lineOf (take m ks) 0 ≤ most (n + 1) ss
+-- The last heading, behind four sections within their limits.
+last-low : (ks : List ℕ) → overLine ks 0 sections ≡ 0 → lineOf ks 4 0 ≤ 875
+unfolding sections lineOf
+last-low ks none =
+    let first = over-none ks 0 _ _ none in
+    let second = over-none ks 1 _ _ (first .1) in
+    let third = over-none ks 2 _ _ (second .1) in
+    let fourth = over-none ks 3 _ _ (third .1) in
+    omega (
+      arith,
+      first .0,
+      second .0,
+      third .0,
+      fourth .0,
+      line-next ks 0 0,
+      line-next ks 1 0,
+      line-next ks 2 0,
+      line-next ks 3 0,
+    )
+
+first-heading : (ks : List ℕ) → lineOf ks 0 0 ≤ 1
 unfolding lineOf
-line-low zero ss n ks none h = most-from ss (n + 1)
-line-low (suc m) [] n ks none h = absurd (omega arith)
-line-low (suc m) (s ∷ ss) n [] none h = most-from (s ∷ ss) (n + 1)
-line-low (suc m) (s ∷ ss) n (k ∷ ks) none h =
-    let k-none = over-none n s ss k ks none in
-    let few = k-none .0 in
-    let low = line-low m ss (n + k + 2) ks (k-none .1) (omega arith) in
-    let more-room = most-more ss (n + k + 2 + 1) (n + 1 + s .limit + 2) (omega arith) in
-    omega arith
+first-heading ks = omega arith
 
 counts-low : (ks : List ℕ) → countFault ks ≤ 875
 unfolding countFault noQueryLine sections
-counts-low ks = go (bool-cases (eqb (overLine 1 sections ks) 0)) (bool-cases (eqb (getD ks 4 0) 0))
+counts-low ks = go (bool-cases (eqb (overLine ks 0 sections) 0)) (bool-cases (eqb (getD ks 4 0) 0))
   where
-    go : (eqb (overLine 1 sections ks) 0 ≡ true) ⊎ (eqb (overLine 1 sections ks) 0 ≡ false)
+    go : (eqb (overLine ks 0 sections) 0 ≡ true) ⊎ (eqb (overLine ks 0 sections) 0 ≡ false)
         → (eqb (getD ks 4 0) 0 ≡ true) ⊎ (eqb (getD ks 4 0) 0 ≡ false)
-        → cond (eqb (overLine 1 sections ks) 0) (cond (eqb (getD ks 4 0) 0) (lineOf (take 4 ks) 0) 0) (overLine 1 sections ks) ≤ 875
-    go (inl p) (inl q) = rw (p, q) (let low = line-low 4 sections 1 ks (eqb-true _ 0 p) (omega arith) in omega arith)
+        → cond (eqb (overLine ks 0 sections) 0) (cond (eqb (getD ks 4 0) 0) (lineOf ks 4 0) 0) (overLine ks 0 sections) ≤ 875
+    go (inl p) (inl q) = rw (p, q) (last-low ks (eqb-true _ 0 p))
     go (inl p) (inr q) = rw (p, q) (omega arith)
-    go (inr p) q = rw p (let low = over-low 1 sections ks in omega arith)
+    go (inr p) q = rw p (let low = over-low ks 0 sections 1 (first-heading ks) in omega arith)
 
 -- ---- question 6
 
-first-low : (f : ℕ → Bool) (r n : ℕ) → firstOf f (suc r) n ≤ r + n
-unfolding firstOf
+first-low : (f : ℕ → Bool) (r n : ℕ) → firstAtFault f (suc r) n ≤ r + n
+unfolding firstAtFault
 first-low f r zero = omega arith
 first-low f r (suc n) = go (bool-cases (f (suc r))) (first-low f (suc r) n)
   where
-    go : (f (suc r) ≡ true) ⊎ (f (suc r) ≡ false) → firstOf f (suc (suc r)) n ≤ suc r + n
-        → cond (f (suc r)) (suc r) (firstOf f (suc (suc r)) n) ≤ r + suc n
+    go : (f (suc r) ≡ true) ⊎ (f (suc r) ≡ false) → firstAtFault f (suc (suc r)) n ≤ suc r + n
+        → cond (f (suc r)) (suc r) (firstAtFault f (suc (suc r)) n) ≤ r + suc n
     go (inl p) h = rw p (omega arith)
     go (inr p) h = rw p (omega arith)
 
-or-else-low : (c : Counts) (b : Rows.Block) (r other most : ℕ) → Rows.heading c b + r ≤ most → other ≤ most → Rows.orElse c b r other ≤ most
-unfolding Rows.lineOf
-or-else-low c b r other most h g = go (bool-cases (eqb r 0))
+line-or-low : (ks : List ℕ) (k r other most : ℕ) → lineOf ks k r ≤ most → other ≤ most → lineOr ks k r other ≤ most
+line-or-low ks k r other most h g = go (bool-cases (eqb r 0))
   where
-    go : (eqb r 0 ≡ true) ⊎ (eqb r 0 ≡ false) → cond (eqb r 0) other (Rows.heading c b + r) ≤ most
+    go : (eqb r 0 ≡ true) ⊎ (eqb r 0 ≡ false) → cond (eqb r 0) other (lineOf ks k r) ≤ most
     go (inl p) = rw p g
     go (inr p) = rw p h
 
-fields-low : (c : Counts) (t : rows-of.Rows) → Within c → firstLine c t ≤ 872
-unfolding firstLine
+fields-low : (c : Counts) (t : Rows) → Within c → firstLine c t ≤ 872
+unfolding firstLine lineOf
 fields-low c t w =
-    let b = firstOf (builtinFault c t) 1 (c .builtins) in
-    let e = firstOf (exprFault c t) 1 (c .exprs) in
-    let s = firstOf (statementFault c t) 1 (c .statements) in
-    let q = firstOf (queryFault c t) 1 (c .queries) in
-    let from-queries = Rows.orElse c Rows.queries q 0 in
-    let from-statements = Rows.orElse c Rows.statements s from-queries in
-    let from-exprs = Rows.orElse c Rows.exprs e from-statements in
-    or-else-low c Rows.builtins b from-exprs 872 (omega (arith, w, first-low (builtinFault c t) 0 (c .builtins)))
-    (or-else-low c Rows.exprs e from-statements 872 (omega (arith, w, first-low (exprFault c t) 0 (c .exprs)))
-    (or-else-low c Rows.statements s from-queries 872 (omega (arith, w, first-low (statementFault c t) 0 (c .statements)))
-    (or-else-low c Rows.queries q 0 872 (omega (arith, w, first-low (queryFault c t) 0 (c .queries))) (omega arith))))
+    let b = firstAtFault (builtinFault c t) 1 (c .builtins) in
+    let e = firstAtFault (exprFault c t) 1 (c .exprs) in
+    let s = firstAtFault (statementFault c t) 1 (c .statements) in
+    let q = firstAtFault (queryFault c t) 1 (c .queries) in
+    let from-queries = lineOr (listed c) queriesAt q 0 in
+    let from-statements = lineOr (listed c) statementsAt s from-queries in
+    let from-exprs = lineOr (listed c) exprsAt e from-statements in
+    line-or-low (listed c) builtInsAt b from-exprs 872 (omega (arith, w, first-low (builtinFault c t) 0 (c .builtins)))
+    (line-or-low (listed c) exprsAt e from-statements 872 (omega (arith, w, first-low (exprFault c t) 0 (c .exprs)))
+    (line-or-low (listed c) statementsAt s from-queries 872 (omega (arith, w, first-low (statementFault c t) 0 (c .statements)))
+    (line-or-low (listed c) queriesAt q 0 872 (omega (arith, w, first-low (queryFault c t) 0 (c .queries))) (omega arith))))
 
 -- ---- all of them
 
-either-low : (b : Bool) (x y : Outcome) → (b ≡ true → Verdict.line x ≤ 65535) → (b ≡ false → Verdict.line y ≤ 65535)
-    → Verdict.line (cond b x y) ≤ 65535
+either-low : (b : Bool) (x y : Outcome) → (b ≡ true → Verdict.faultLine x ≤ 65535) → (b ≡ false → Verdict.faultLine y ≤ 65535)
+    → Verdict.faultLine (cond b x y) ≤ 65535
 either-low true x y f g = f refl
 either-low false x y f g = g refl
 
@@ -128,7 +138,7 @@ module _ (s : List ℕ) where
   unfolding countsFault
   counts-fault-low = counts-low (rowCounts s)
 
-  asked-low : Verdict.line (asked s) ≤ 65535
+  asked-low : Verdict.faultLine (asked s) ≤ 65535
   unfolding asked
   asked-low =
       either-low (shortEnough s) _ TooLong (λ short.
@@ -143,7 +153,7 @@ module _ (s : List ℕ) where
       (λ some. let low = form-low s in omega arith))
       (λ long. omega arith)
 
-  pub line-fits : (room work : ℕ) → Verdict.line (verdict s room work) ≤ 65535
+  pub line-fits : (room work : ℕ) → Verdict.faultLine (verdict s room work) ≤ 65535
   unfolding verdict
   line-fits room work =
       either-low (leb 8192 room && leb 8192 work) (asked s) NoRoom (λ enough. asked-low) (λ few. omega arith)

@@ -10,10 +10,10 @@ use lib.ListN.{length, getD}
 use Rattle.basics.specs.Truth.{bool-cases}
 use Rattle.text.specs.Bytes.{newline}
 use Rattle.text.specs.Lines.{Text, rest, line, push, add, lines}
-use Rattle.text.specs.Sections.{Section, sections}
-use Rattle.text.specs.Form.{Block, stops, ends, more, isRow, block, Sheet, faulty, formed, also, filled, same, sheet, form, faultOf, rowsIn}
+use Rattle.text.specs.Sections.{Section, sections, namesAt, lineOf, lineOr}
+use Rattle.text.specs.Form.{Block, stops, ends, more, isRow, block, Whole, faulty, formed, also, filled, same, wholeFrom, form, faultOf, rowsIn}
 use Rattle.text.specs.Names.{isName, before, nameFault}
-use Rattle.text.specs.Questions.{formFault, namesFault, sheetNames, sectionRows}
+use Rattle.text.specs.Questions.{formFault, namesFault, sheetNames, sectionRows, rowCounts}
 
 -- ---- how many lines a text has
 
@@ -57,28 +57,28 @@ block-taken k (line (b ∷ l) t) = go (bool-cases (isRow k (b ∷ l))) (taken-mo
     go (inl p) h = rw p h
     go (inr p) h = rw p (omega arith)
 
-fault-also : (ls : List (List ℕ)) (x : Sheet) → faultOf (also ls x) ≡ faultOf x
+fault-also : (ls : List (List ℕ)) (x : Whole) → faultOf (also ls x) ≡ faultOf x
 unfolding faultOf
 fault-also ls (faulty n) = refl
 fault-also ls (formed rs) = refl
 
-filled-low : (n m : ℕ) (f : ℕ → Text → Sheet) (b : Block) → Taken m b
+filled-low : (n m : ℕ) (f : ℕ → Text → Whole) (b : Block) → Taken m b
     → ((k : ℕ) (t : Text) → faultOf (f k t) ≤ k + height t) → faultOf (filled n f b) ≤ n + 1 + m
 unfolding faultOf
 filled-low n m f (stops k) taken low = omega arith
 filled-low n m f (ends ls t) taken low = omega (arith, fault-also ls (f (n + length ls + 2) t), low (n + length ls + 2) t)
 
-sheet-low : (ss : List Section) (n : ℕ) (t : Text) → faultOf (sheet ss n t) ≤ n + height t
-unfolding sheet faultOf
+sheet-low : (ss : List Section) (n : ℕ) (t : Text) → faultOf (wholeFrom ss n t) ≤ n + height t
+unfolding wholeFrom faultOf
 sheet-low [] n (rest []) = omega arith
 sheet-low [] n (rest (b ∷ r)) = omega arith
 sheet-low [] n (line l t) = omega arith
 sheet-low (s ∷ ss) n (rest r) = omega arith
-sheet-low (s ∷ ss) n (line l t) = go (bool-cases (same l (s .heading))) (filled-low n (height t) (sheet ss) (block (s .width) t) (block-taken (s .width) t) (sheet-low ss))
+sheet-low (s ∷ ss) n (line l t) = go (bool-cases (same l (s .heading))) (filled-low n (height t) (wholeFrom ss) (block (s .width) t) (block-taken (s .width) t) (sheet-low ss))
   where
     go : (same l (s .heading) ≡ true) ⊎ (same l (s .heading) ≡ false)
-        → faultOf (filled n (sheet ss) (block (s .width) t)) ≤ n + 1 + height t
-        → faultOf (cond (same l (s .heading)) (filled n (sheet ss) (block (s .width) t)) (faulty n)) ≤ n + suc (height t)
+        → faultOf (filled n (wholeFrom ss) (block (s .width) t)) ≤ n + 1 + height t
+        → faultOf (cond (same l (s .heading)) (filled n (wholeFrom ss) (block (s .width) t)) (faulty n)) ≤ n + suc (height t)
     go (inl p) h = rw p (omega arith)
     go (inr p) h = rw p (omega arith)
 
@@ -99,32 +99,42 @@ names-low n p (l ∷ ls) = go (bool-cases (isName l && before p l)) (names-low (
     go (inr q) h = rw q (omega arith)
 
 -- The first section's rows are lines of the sheet.
-first-also : (ls : List (List ℕ)) (x : Sheet) → length (getD (rowsIn (also ls x)) 0 []) ≤ length ls
+first-also : (ls : List (List ℕ)) (x : Whole) → length (getD (rowsIn (also ls x)) 0 []) ≤ length ls
 unfolding rowsIn
 first-also ls (faulty n) = omega arith
 first-also ls (formed rs) = omega arith
 
-first-filled : (n m : ℕ) (f : ℕ → Text → Sheet) (b : Block) → Taken m b → length (getD (rowsIn (filled n f b)) 0 []) ≤ m
+first-filled : (n m : ℕ) (f : ℕ → Text → Whole) (b : Block) → Taken m b → length (getD (rowsIn (filled n f b)) 0 []) ≤ m
 unfolding rowsIn
 first-filled n m f (stops k) taken = omega arith
 first-filled n m f (ends ls t) taken = omega (arith, first-also ls (f (n + length ls + 2) t))
 
-first-rows : (ss : List Section) (n : ℕ) (t : Text) → length (getD (rowsIn (sheet ss n t)) 0 []) ≤ height t
-unfolding sheet rowsIn
+first-rows : (ss : List Section) (n : ℕ) (t : Text) → length (getD (rowsIn (wholeFrom ss n t)) 0 []) ≤ height t
+unfolding wholeFrom rowsIn
 first-rows [] n (rest []) = omega arith
 first-rows [] n (rest (b ∷ r)) = omega arith
 first-rows [] n (line l t) = omega arith
 first-rows (s ∷ ss) n (rest r) = omega arith
 first-rows (s ∷ ss) n (line l t) =
-    go (bool-cases (same l (s .heading))) (first-filled n (height t) (sheet ss) (block (s .width) t) (block-taken (s .width) t))
+    go (bool-cases (same l (s .heading))) (first-filled n (height t) (wholeFrom ss) (block (s .width) t) (block-taken (s .width) t))
   where
     go : (same l (s .heading) ≡ true) ⊎ (same l (s .heading) ≡ false)
-        → length (getD (rowsIn (filled n (sheet ss) (block (s .width) t))) 0 []) ≤ height t
-        → length (getD (rowsIn (cond (same l (s .heading)) (filled n (sheet ss) (block (s .width) t)) (faulty n))) 0 [])
+        → length (getD (rowsIn (filled n (wholeFrom ss) (block (s .width) t))) 0 []) ≤ height t
+        → length (getD (rowsIn (cond (same l (s .heading)) (filled n (wholeFrom ss) (block (s .width) t)) (faulty n))) 0 [])
         ≤ suc (height t)
     go (inl p) h = rw p (omega arith)
     go (inr p) h = rw p (omega arith)
 
+name-line-low : (counts : List ℕ) (r : ℕ) → lineOr counts namesAt r 0 ≤ r + 1
+unfolding lineOf
+name-line-low counts r = go (eqb r 0)
+  where
+    go : (b : Bool) → cond b 0 (r + 1) ≤ r + 1
+    go true = omega arith
+    go false = omega arith
+
 pub names-fault-low : (s : List ℕ) → namesFault s ≤ 2 + length s
 unfolding namesFault sectionRows form
-names-fault-low s = omega (arith, names-low 2 [] (sheetNames s), first-rows sections 1 (lines s), height-lines s)
+names-fault-low s =
+    let r = nameFault 1 [] (sheetNames s) in
+    omega (arith, name-line-low (rowCounts s) r, names-low 1 [] (sheetNames s), first-rows sections 1 (lines s), height-lines s)

@@ -9,11 +9,10 @@ use Rattle.basics.specs.Lists.{all}
 use Rattle.text.specs.Bytes.{bytes}
 use Rattle.text.specs.Lines.{lines}
 use Rattle.text.specs.Numbers as numbers
-use Rattle.text.specs.Sections.{sections}
-use Rattle.text.specs.Form.{block, sheet, form, faultOf, rowsIn}
+use Rattle.text.specs.Sections.{sections, lineOf}
+use Rattle.text.specs.Form.{block, wholeFrom, form, faultOf, rowsIn}
 use Rattle.text.specs.Names.{before, nameFault, nameRow}
 use Rattle.text.specs.Counts.{overLine, noQueryLine, countFault}
-use Rattle.text.specs.Counts as counts
 use Rattle.text.specs.Questions.{formFault, sectionRows, namesFault, rowOfName, countsFault}
 use Rattle.text.specs.Trials.{Trial}
 use Rattle.tables.specs.Layout.{areas, areasFrom}
@@ -23,17 +22,16 @@ use Rattle.naming.specs.Entries.{target, placeOf, exprEntries, statementEntries
 use Rattle.naming.specs.Namings.{namers, inChain, entryNaming, rowNamings, byQueries, byStatements, byExprs, namings}
 use Rattle.naming.specs.Nesting.{grown, enclosing, parent, levelIn, level}
 use Rattle.naming.specs.Chains.{varsIn, endsIn, allVars, endsOdd}
-use Rattle.naming.specs.Faults.{fieldFault, isNamedSo, isMember, exprFault, statementFault, queryFault, pathBefore, builtinFault}
-use Rattle.naming.specs.Faults as faults
-use Rattle.naming.specs.Lines.{lineOf, firstOf, firstLine}
+use Rattle.naming.specs.Faults.{fieldFault, entriesFault, isNamedSo, isMember, exprFault, statementFault, queryFault, pathBefore, builtinFault}
+use Rattle.naming.specs.Lines.{firstAtFault, firstLine}
 use Rattle.trees.specs.Sheet.{sheetIn}
-use Rattle.sheet.specs.Verdict.{number, line, blank, readTables, fieldsFault, asked, verdict}
+use Rattle.sheet.specs.Verdict.{number, faultLine, emptyTables, readTables, fieldsFault, asked, verdict}
 
 -- Is the text refused so, where there is room?
 abbrev pub passes : Trial → Bool
 passes t =
     let r = verdict (bytes (t .text)) 8192 8192 in
-    eqb (number r) (t .number) && eqb (line r) (t .line)
+    eqb (number r) (t .number) && eqb (faultLine r) (t .line)
 
 abbrev trial : String → ℕ → ℕ → Trial
 trial s n l = record { text = s; number = n; line = l }
@@ -107,13 +105,13 @@ trials =
     ∷ []
 
 pub trials-pass : all passes trials ≡ true
-unfolding bytes lines numbers.words numbers.value numbers.number numbers.numbers numbers.values sections block sheet form faultOf rowsIn before nameFault
-    nameRow rowOfName counts.lineOf overLine noQueryLine countFault formFault sectionRows namesFault countsFault
+unfolding bytes lines numbers.words numbers.value numbers.isNumber numbers.areNumbers numbers.values sections block wholeFrom form faultOf rowsIn before nameFault
+    nameRow rowOfName lineOf overLine noQueryLine countFault formFault sectionRows namesFault countsFault
     tables putSections putRows areas areasFrom kinds forms kindOf formOf
     target placeOf exprEntries statementEntries queryEntries namers inChain entryNaming rowNamings byQueries byStatements byExprs namings
     grown enclosing parent levelIn level varsIn endsIn allVars endsOdd
-    fieldFault faults.fieldsFault isNamedSo isMember exprFault statementFault queryFault pathBefore builtinFault
-    lineOf firstOf firstLine blank readTables sheetIn fieldsFault asked verdict
+    fieldFault entriesFault isNamedSo isMember exprFault statementFault queryFault pathBefore builtinFault
+    firstAtFault firstLine emptyTables readTables sheetIn fieldsFault asked verdict
 trials-pass = refl
 
 -- Question 1 comes before all others.

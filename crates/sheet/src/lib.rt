@@ -9,7 +9,7 @@ ghost use lib.Dec.{leb};
 ghost use lib.ListN.{length};
 ghost use lib.Seq.{sets};
 ghost use Rattle.records.specs.Layout.{Within};
-ghost use Rattle.sheet.specs.Verdict.{number, line, blank, headOf, SheetLeft};
+ghost use Rattle.sheet.specs.Verdict.{number, faultLine, emptyTables, headOf, SheetLeft};
 ghost use Rattle.sheet.specs.Asked.{isRead, Small, Asked, SheetTaken};
 
 // What a sheet comes to: read, or the first question that it fails, with the first line at fault.
@@ -50,7 +50,7 @@ fn store_head(table: &mut [u16], counts: Counts, special: Special)
 
 // Questions 2 to 6. Where the sheet is read, its rows are left in the table.
 fn ask(s: &[u8], table: &mut [u16], work: &mut [u64]) -> Outcome
-    requires { ⌜ (now table ≡ blank) × (8192 ≤ length (now work)) ⌝ }
+    requires { ⌜ (now table ≡ emptyTables) × (8192 ≤ length (now work)) ⌝ }
     ensures { λ r. ⌜ Asked (now (s .entry)) r (now (table .exit)) ⌝ }
 {
     if tables::SHEET_BYTES < s.len() {
@@ -144,7 +144,7 @@ pub fn number_of(outcome: Outcome) -> u64
 
 // Its line at fault, or 0.
 pub fn line_of(outcome: Outcome) -> usize
-    ensures { λ r. ⌜ r ≡ line outcome ⌝ }
+    ensures { λ r. ⌜ r ≡ faultLine outcome ⌝ }
 {
     match outcome {
         Outcome::Read => 0,

@@ -8,10 +8,10 @@ use native.Mathlib.Omega.{arith}
 use lib.ListN.{length, getD, drop}
 use Rattle.basics.specs.Truth.{bool-cases}
 use Rattle.text.specs.Bytes.{newline, bytes}
-use Rattle.text.specs.Lines.{Text, rest, line, lines, first, after, isLine, lineAt}
+use Rattle.text.specs.Lines.{Text, rest, line, lines, headLine, after, isLine, lineAt}
 use Rattle.text.specs.LineLaws.{text-newline, line-inside, passes}
 use Rattle.text.specs.Sections.{Section, sections}
-use Rattle.text.specs.Form.{Block, stops, ends, more, block, filled, sheet, form, faultOf, rowsIn}
+use Rattle.text.specs.Form.{Block, stops, ends, more, block, filled, wholeFrom, form, faultOf, rowsIn}
 use Rattle.text.specs.FormLaws.{hasLine, behind-heading, sheet-none, sheet-some, also-fault, sheet-formed}
 use Rattle.text.specs.Questions.{formFault, sectionRows, sheetNames}
 
@@ -31,11 +31,11 @@ starts c ss s z =
   where
     headed : hasLine (c .heading) (lines s) ≡ true → (b : Block) → block (c .width) (after (lines s)) ≡ b → Starts c ss s
     headed h (stops k) q =
-        let e = sym z ∙ ap faultOf (sheet-some c ss 1 (lines s) h ∙ ap (filled 1 (sheet ss)) q) in absurd (omega (arith, e))
+        let e = sym z ∙ ap faultOf (sheet-some c ss 1 (lines s) h ∙ ap (filled 1 (wholeFrom ss)) q) in absurd (omega (arith, e))
     headed h (ends ls t) q =
-        let all = sheet-some c ss 1 (lines s) h ∙ ap (filled 1 (sheet ss)) q in
+        let all = sheet-some c ss 1 (lines s) h ∙ ap (filled 1 (wholeFrom ss)) q in
         let r = sheet-formed ss (1 + length ls + 2) t (omega arith)
-        (sym (also-fault ls (sheet ss (1 + length ls + 2) t)) ∙ sym (ap faultOf all) ∙ z) in
+        (sym (also-fault ls (wholeFrom ss (1 + length ls + 2) t)) ∙ sym (ap faultOf all) ∙ z) in
         record {
           behind = t;
           heading = h;
@@ -49,7 +49,7 @@ unfolding block
 ends-line (rest r) ls u h = let z : _≡_ {A = ℕ} 0 1 = cc in absurd (omega arith)
 ends-line (line l t) ls u h = refl
 
-ends-none : (t : Text) (ls : List (List ℕ)) (u : Text) → block 0 t ≡ ends ls u → first t ≡ [] → ls ≡ []
+ends-none : (t : Text) (ls : List (List ℕ)) (u : Text) → block 0 t ≡ ends ls u → headLine t ≡ [] → ls ≡ []
 unfolding block
 ends-none (rest r) ls u h e = let z : _≡_ {A = ℕ} 0 1 = cc in absurd (omega arith)
 ends-none (line [] t) ls u h e = cc
@@ -58,10 +58,10 @@ ends-none (line (b ∷ l) t) ls u h e = let z : _≡_ {A = ℕ} (suc (length l))
 -- The first row is the line, and the others follow it.
 record Split (t : Text) (ls : List (List ℕ)) (u : Text) : Type 0 where
   pub more : List (List ℕ)
-  pub is : ls ≡ first t ∷ more
+  pub is : ls ≡ headLine t ∷ more
   pub follow : block 0 (after t) ≡ ends more u
 
-ends-some : (t : Text) (b : ℕ) (l : List ℕ) (ls : List (List ℕ)) (u : Text) → first t ≡ b ∷ l → block 0 t ≡ ends ls u → Split t ls u
+ends-some : (t : Text) (b : ℕ) (l : List ℕ) (ls : List (List ℕ)) (u : Text) → headLine t ≡ b ∷ l → block 0 t ≡ ends ls u → Split t ls u
 unfolding block
 ends-some (rest r) b l ls u e h = let z : _≡_ {A = ℕ} 0 1 = cc in absurd (omega arith)
 ends-some (line [] t) b l ls u e h = let z : _≡_ {A = ℕ} 0 (suc (length l)) = ap length e in absurd (omega (arith, z))
@@ -84,7 +84,7 @@ module _ {s : List ℕ} {at : ℕ} {ls : List (List ℕ)} (n : Names s at ls) wh
   names-inside = line-inside s at names-line
 
   pub names-end : getD s at 0 ≡ newline → ls ≡ []
-  names-end e = ends-none _ _ _ (n .follow) (ap first (text-newline s at names-inside e))
+  names-end e = ends-none _ _ _ (n .follow) (ap headLine (text-newline s at names-inside e))
 
   module _ (ne : getD s at 0 ≡ newline → ⊥) where
     split : Split (lines (drop at s)) ls (n .behind)

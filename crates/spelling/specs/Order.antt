@@ -8,7 +8,7 @@ use lib.Dec.{eqb, ltb}
 use lib.ListN.{length, getD, drop}
 use borrow.Author.Tests.{le-ltb, eq-eqb, ne-eqb}
 use Rattle.text.specs.Bytes.{newline}
-use Rattle.text.specs.Lines.{Text, lines, first, isLine, lineAt}
+use Rattle.text.specs.Lines.{Text, lines, headLine, isLine, lineAt}
 use Rattle.text.specs.LineLaws.{text-newline, line-inside, passes}
 use Rattle.text.specs.Names.{before}
 
@@ -34,7 +34,7 @@ module _ (s : List ℕ) (p q : ℕ) where
 
     pub agreed-ended : byte j ≡ newline → false ≡ before (lineAt s p) (lineAt s q)
     unfolding before
-    agreed-ended e = sym (a .is ∙ ap (λ (t : Text). before (lineAt s i) (first t)) (text-newline s j right-inside e))
+    agreed-ended e = sym (a .is ∙ ap (λ (t : Text). before (lineAt s i) (headLine t)) (text-newline s j right-inside e))
 
     module _ (nj : byte j ≡ newline → ⊥) where
       right-first : lineAt s j ≡ byte j ∷ lineAt s (j + 1)
@@ -42,7 +42,7 @@ module _ (s : List ℕ) (p q : ℕ) where
 
       pub agreed-shorter : byte i ≡ newline → true ≡ before (lineAt s p) (lineAt s q)
       unfolding before
-      agreed-shorter e = sym (a .is ∙ ap₂ before (ap first (text-newline s i left-inside e)) right-first)
+      agreed-shorter e = sym (a .is ∙ ap₂ before (ap headLine (text-newline s i left-inside e)) right-first)
 
       module _ (ni : byte i ≡ newline → ⊥) where
         step : before (lineAt s p) (lineAt s q)

@@ -11,7 +11,7 @@ use Rattle.basics.specs.Truth.{not-both, eq-cases}
 use Rattle.basics.specs.Lists.{all}
 use Rattle.text.specs.Bytes.{newline}
 use Rattle.text.specs.Limits as limits
-use Rattle.text.specs.Lines.{lines, first, after, isLine, lineAt}
+use Rattle.text.specs.Lines.{lines, headLine, after, isLine, lineAt}
 use Rattle.text.specs.LineLaws.{text-newline, line-inside, passes}
 use Rattle.text.specs.Names.{letter, letterOrDigit, isName}
 use Rattle.values.specs.declared.Line.{Line}
@@ -39,7 +39,7 @@ module _ (s : List ℕ) (at : ℕ) where
     pub spelling-none : letter (byte at) ≡ false → (r : Line) → r .good ≡ false → NameRead s at r
     spelling-none n r g =
         refused r g
-        (⊎-elim (λ (e : byte at ≡ newline). ap (λ t. isName (first t)) (text-newline s at inside e))
+        (⊎-elim (λ (e : byte at ≡ newline). ap (λ t. isName (headLine t)) (text-newline s at inside e))
         (λ (ne : byte at ≡ newline → ⊥). rw (passes s at inside ne .first, n)) (eq-cases (byte at) newline))
 
     pub spelling-first : letter (byte at) ≡ true → Spelling s at (at + 1)

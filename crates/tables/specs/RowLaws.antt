@@ -11,7 +11,7 @@ use lib.Seq.{sets, length-sets, getD-set-same, getD-set-other}
 use borrow.Author.Tests.{le-leb, leb-true}
 use Rattle.basics.specs.Truth.{not-both, and-left, and-right}
 use Rattle.basics.specs.Lists.{all}
-use Rattle.text.specs.Numbers.{words, value, numbers, number, values}
+use Rattle.text.specs.Numbers.{words, value, areNumbers, isNumber, values}
 use Rattle.text.specs.Form.{isRow}
 use Rattle.tables.specs.declared.Area.{Area}
 use Rattle.tables.specs.Layout.{rowPlace, areaEnd}
@@ -43,12 +43,12 @@ sets-at (v ∷ vs) d at (suc f) fits h =
 
 -- ---- a row
 
-numbers-length : (k : ℕ) (ws : List (List ℕ)) → numbers k ws ≡ true → length ws ≡ k
-unfolding numbers
+numbers-length : (k : ℕ) (ws : List (List ℕ)) → areNumbers k ws ≡ true → length ws ≡ k
+unfolding areNumbers
 numbers-length zero [] h = refl
 numbers-length zero (w ∷ ws) h = absurd (not-both h refl)
 numbers-length (suc k) [] h = absurd (not-both h refl)
-numbers-length (suc k) (w ∷ ws) h = ap suc (numbers-length k ws (and-right (number w) _ h))
+numbers-length (suc k) (w ∷ ws) h = ap suc (numbers-length k ws (and-right (isNumber w) _ h))
 
 -- A row puts as many values as its width.
 pub row-length : (k : ℕ) (l : List ℕ) → isRow k l ≡ true → length (rowValues k l) ≡ k

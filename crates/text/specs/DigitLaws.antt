@@ -8,7 +8,7 @@ use lib.Dec.{eqb}
 use lib.ListN.{length, getD, drop}
 use borrow.Author.Tests.{le-leb, lt-leb}
 use Rattle.basics.specs.Lists.{all}
-use Rattle.text.specs.Numbers.{digit, plain, value, number}
+use Rattle.text.specs.Numbers.{digit, plain, value, isNumber}
 use Rattle.text.specs.Limits as limits
 
 abbrev keep : Bool → ℕ → List ℕ → List ℕ
@@ -62,16 +62,16 @@ unfolding value
 value-le v [] = omega arith
 value-le v (b ∷ w) = let h = value-le (v * 10 + (b - 48)) w in omega arith
 
-pub number-big : (w : List ℕ) → limits.value < value 0 w → number w ≡ false
-unfolding number
+pub number-big : (w : List ℕ) → limits.value < value 0 w → isNumber w ≡ false
+unfolding isNumber
 number-big w h = rw (lt-leb (value 0 w) limits.value h, and-false (plain w)) (and-false (all digit w))
 
-pub number-plain : (w : List ℕ) → all digit w ≡ true → value 0 w ≤ limits.value → number w ≡ plain w
-unfolding number
+pub number-plain : (w : List ℕ) → all digit w ≡ true → value 0 w ≤ limits.value → isNumber w ≡ plain w
+unfolding isNumber
 number-plain w d h = rw (d, le-leb (value 0 w) limits.value h) (and-true (plain w))
 
-pub number-digits : (w : List ℕ) → all digit w ≡ false → number w ≡ false
-unfolding number
+pub number-digits : (w : List ℕ) → all digit w ≡ false → isNumber w ≡ false
+unfolding isNumber
 number-digits w h = rw h
 
 pub plain-none : (w : List ℕ) → length w ≡ 0 → plain w ≡ false

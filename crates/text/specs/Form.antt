@@ -5,13 +5,13 @@ use Prim.Native.Nat.{ℕ, zero, suc, _+_}
 use lib.Dec.{eqb}
 use lib.ListN.{length}
 use Rattle.text.specs.Lines.{Text, rest, line, lines}
-use Rattle.text.specs.Numbers.{words, numbers}
+use Rattle.text.specs.Numbers.{words, areNumbers}
 use Rattle.text.specs.Sections.{Section}
 
 -- Is a line that is not empty a row of k values? Of a section with width 0 each is a row.
 abbrev pub isRow : ℕ → List ℕ → Bool
 isRow zero l = true
-isRow (suc k) l = numbers (suc k) (words l)
+isRow (suc k) l = areNumbers (suc k) (words l)
 
 -- The rows up to an empty line: so many and then a fault; or the rows, and the text behind the empty line.
 pub data Block : Type 0 where
@@ -29,17 +29,17 @@ block k (line [] t) = ends [] t
 block k (line (b ∷ l) t) = cond (isRow k (b ∷ l)) (more (b ∷ l) (block k t)) (stops 0)
 
 -- The whole: the first line at fault; or the rows of each section, as lines.
-pub data Sheet : Type 0 where
-  faulty : ℕ → Sheet
-  formed : List (List (List ℕ)) → Sheet
+pub data Whole : Type 0 where
+  faulty : ℕ → Whole
+  formed : List (List (List ℕ)) → Whole
 
 -- A section's rows in front.
-abbrev pub also : List (List ℕ) → Sheet → Sheet
+abbrev pub also : List (List ℕ) → Whole → Whole
 also ls (faulty n) = faulty n
 also ls (formed rs) = formed (ls ∷ rs)
 
 -- A section whose heading is line n: its rows, and what is said of the text behind its empty line.
-abbrev pub filled : ℕ → (ℕ → Text → Sheet) → Block → Sheet
+abbrev pub filled : ℕ → (ℕ → Text → Whole) → Block → Whole
 filled n f (stops k) = faulty (n + 1 + k)
 filled n f (ends ls t) = also ls (f (n + length ls + 2) t)
 
@@ -50,22 +50,22 @@ same (b ∷ l) [] = false
 same (b ∷ l) (c ∷ h) = eqb b c && same l h
 
 -- The sections, one behind the other and nothing behind the last, from line n on. A missing line counts as the one after the last.
-unfoldable pub sheet : List Section → ℕ → Text → Sheet
-sheet [] n (rest []) = formed []
-sheet [] n (rest (b ∷ r)) = faulty n
-sheet [] n (line l t) = faulty n
-sheet (s ∷ ss) n (rest r) = faulty n
-sheet (s ∷ ss) n (line l t) = cond (same l (s .heading)) (filled n (sheet ss) (block (s .width) t)) (faulty n)
+unfoldable pub wholeFrom : List Section → ℕ → Text → Whole
+wholeFrom [] n (rest []) = formed []
+wholeFrom [] n (rest (b ∷ r)) = faulty n
+wholeFrom [] n (line l t) = faulty n
+wholeFrom (s ∷ ss) n (rest r) = faulty n
+wholeFrom (s ∷ ss) n (line l t) = cond (same l (s .heading)) (filled n (wholeFrom ss) (block (s .width) t)) (faulty n)
 
-unfoldable pub form : List Section → List ℕ → Sheet
-form ss s = sheet ss 1 (lines s)
+unfoldable pub form : List Section → List ℕ → Whole
+form ss s = wholeFrom ss 1 (lines s)
 
 -- The first line at fault, or 0.
-unfoldable pub faultOf : Sheet → ℕ
+unfoldable pub faultOf : Whole → ℕ
 faultOf (faulty n) = n
 faultOf (formed rs) = 0
 
 -- The rows of each section; none where the form is at fault.
-unfoldable pub rowsIn : Sheet → List (List (List ℕ))
+unfoldable pub rowsIn : Whole → List (List (List ℕ))
 rowsIn (faulty n) = []
 rowsIn (formed rs) = rs

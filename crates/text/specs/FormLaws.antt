@@ -10,14 +10,14 @@ use lib.ListN.{length, getD, drop}
 use Rattle.basics.specs.Truth.{bool-cases, not-both, and-left, and-right}
 use Rattle.basics.specs.Lists.{all}
 use Rattle.text.specs.Bytes.{newline}
-use Rattle.text.specs.Lines.{Text, rest, line, lines, first, after, isLine}
+use Rattle.text.specs.Lines.{Text, rest, line, lines, headLine, after, isLine}
 use Rattle.text.specs.LineLaws.{behind-line}
 use Rattle.text.specs.Sections.{Section}
-use Rattle.text.specs.Form.{isRow, Block, stops, ends, more, block, Sheet, faulty, formed, also, filled, same, sheet, faultOf}
+use Rattle.text.specs.Form.{isRow, Block, stops, ends, more, block, Whole, faulty, formed, also, filled, same, wholeFrom, faultOf}
 
 -- Is the first line of a text the heading h?
 unfoldable pub hasLine : List ℕ → Text → Bool
-hasLine h t = isLine t && same (first t) h
+hasLine h t = isLine t && same (headLine t) h
 
 same-length : (l h : List ℕ) → same l h ≡ true → length l ≡ length h
 same-length [] [] e = refl
@@ -35,23 +35,23 @@ pub behind-heading : (h s : List ℕ) → hasLine h (lines s) ≡ true → Behin
 unfolding hasLine
 behind-heading h s e =
     let b = behind-line s (and-left _ _ e) in
-    let n = same-length (first (lines s)) h (and-right (isLine (lines s)) _ e) in
+    let n = same-length (headLine (lines s)) h (and-right (isLine (lines s)) _ e) in
     record { inside = omega (arith, b .inside); ends = rw n at (b .ends); is = rw n at (b .is) }
 
-pub sheet-none : (c : Section) (ss : List Section) (n : ℕ) (t : Text) → hasLine (c .heading) t ≡ false → sheet (c ∷ ss) n t ≡ faulty n
-unfolding sheet hasLine
+pub sheet-none : (c : Section) (ss : List Section) (n : ℕ) (t : Text) → hasLine (c .heading) t ≡ false → wholeFrom (c ∷ ss) n t ≡ faulty n
+unfolding wholeFrom hasLine
 sheet-none c ss n (rest r) h = refl
 sheet-none c ss n (line l t) h = rw h
 
 pub sheet-some : (c : Section) (ss : List Section) (n : ℕ) (t : Text) → hasLine (c .heading) t ≡ true
-    → sheet (c ∷ ss) n t ≡ filled n (sheet ss) (block (c .width) (after t))
-unfolding sheet hasLine
+    → wholeFrom (c ∷ ss) n t ≡ filled n (wholeFrom ss) (block (c .width) (after t))
+unfolding wholeFrom hasLine
 sheet-some c ss n (rest r) h = absurd (not-both h refl)
 sheet-some c ss n (line l t) h = rw h
 
 -- ---- a sheet that has the form
 
-pub also-fault : (ls : List (List ℕ)) (t : Sheet) → faultOf (also ls t) ≡ faultOf t
+pub also-fault : (ls : List (List ℕ)) (t : Whole) → faultOf (also ls t) ≡ faultOf t
 unfolding faultOf
 also-fault ls (faulty n) = refl
 also-fault ls (formed rs) = refl
@@ -79,25 +79,25 @@ pub data Shaped : List Section → List (List (List ℕ)) → Type 0 where
       → all (isRow (s .width)) ls ≡ true → Shaped ss rs → Shaped (s ∷ ss) (ls ∷ rs)
 
 -- Where no line is at fault, there are rows.
-pub record Formed (ss : List Section) (t : Sheet) : Type 0 where
+pub record Formed (ss : List Section) (t : Whole) : Type 0 where
   pub rows : List (List (List ℕ))
   pub is : t ≡ formed rows
   pub shaped : Shaped ss rows
 
-pub sheet-formed : (ss : List Section) (n : ℕ) (t : Text) → 0 < n → faultOf (sheet ss n t) ≡ 0 → Formed ss (sheet ss n t)
-unfolding sheet faultOf
+pub sheet-formed : (ss : List Section) (n : ℕ) (t : Text) → 0 < n → faultOf (wholeFrom ss n t) ≡ 0 → Formed ss (wholeFrom ss n t)
+unfolding wholeFrom faultOf
 sheet-formed [] n (rest []) p z = record { rows = []; is = refl; shaped = none }
 sheet-formed [] n (rest (b ∷ r)) p z = absurd (omega arith)
 sheet-formed [] n (line l t) p z = absurd (omega arith)
 sheet-formed (s ∷ ss) n (rest r) p z = absurd (omega arith)
 sheet-formed (s ∷ ss) n (line l t) p z = go (same l (s .heading)) (block (s .width) t) refl z (λ m u q h. sheet-formed ss m u q h)
   where
-    go : (b : Bool) (c : Block) → block (s .width) t ≡ c → faultOf (cond b (filled n (sheet ss) c) (faulty n)) ≡ 0
-        → ((m : ℕ) (u : Text) → 0 < m → faultOf (sheet ss m u) ≡ 0 → Formed ss (sheet ss m u))
-        → Formed (s ∷ ss) (cond b (filled n (sheet ss) c) (faulty n))
+    go : (b : Bool) (c : Block) → block (s .width) t ≡ c → faultOf (cond b (filled n (wholeFrom ss) c) (faulty n)) ≡ 0
+        → ((m : ℕ) (u : Text) → 0 < m → faultOf (wholeFrom ss m u) ≡ 0 → Formed ss (wholeFrom ss m u))
+        → Formed (s ∷ ss) (cond b (filled n (wholeFrom ss) c) (faulty n))
     go false c q z ih = absurd (omega arith)
     go true (stops k) q z ih = absurd (omega arith)
     go true (ends ls u) q z ih =
         let m = n + length ls + 2 in
-        let r = ih m u (omega arith) (sym (also-fault ls (sheet ss m u)) ∙ z) in
+        let r = ih m u (omega arith) (sym (also-fault ls (wholeFrom ss m u)) ∙ z) in
         record { rows = ls ∷ r .rows; is = ap (also ls) (r .is); shaped = next (block-rows (s .width) t ls u q) (r .shaped) }

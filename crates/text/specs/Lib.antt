@@ -3,6 +3,7 @@ pub mod Lines
 pub mod Numbers
 pub mod Limits
 pub mod Sections
+pub mod SectionLaws
 pub mod Form
 pub mod Names
 pub mod Counts

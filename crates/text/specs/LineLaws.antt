@@ -13,9 +13,9 @@ use borrow.Author.Tests.{eqb-true, ne-eqb, not-true}
 use Rattle.basics.specs.Truth.{bool-cases, lt-cases, not-both, and-left, and-right}
 use Rattle.basics.specs.Lists.{all}
 use Rattle.text.specs.Bytes.{newline}
-use Rattle.text.specs.Lines.{Text, rest, line, push, lines, first, after, isLine}
+use Rattle.text.specs.Lines.{Text, rest, line, push, lines, headLine, after, isLine}
 
-pub whole : (t : Text) → isLine t ≡ true → t ≡ line (first t) (after t)
+pub whole : (t : Text) → isLine t ≡ true → t ≡ line (headLine t) (after t)
 whole (rest r) h = absurd (not-both h refl)
 whole (line l t) h = refl
 
@@ -26,12 +26,12 @@ noNewline = all (λ b. not (eqb b newline))
 
 -- The bytes l in front of the bytes s stand in front of their first line, and change nothing behind it.
 pub record Prefixed (l s : List ℕ) : Type 0 where
-  pub first : first (lines (l ++ s)) ≡ l ++ first (lines s)
+  pub first : headLine (lines (l ++ s)) ≡ l ++ headLine (lines s)
   pub after : after (lines (l ++ s)) ≡ after (lines s)
   pub isLine : isLine (lines (l ++ s)) ≡ isLine (lines s)
 
 module _ (b : ℕ) where
-  first-push : (t : Text) → first (push b t) ≡ b ∷ first t
+  first-push : (t : Text) → headLine (push b t) ≡ b ∷ headLine t
   first-push (rest r) = refl
   first-push (line m t) = refl
 
@@ -53,7 +53,7 @@ prefixed (b ∷ l) s h =
     let p = prefixed l s (and-right (not (eqb b newline)) _ h) in
     let pushed = lines-push b (l ++ s) (not-true _ (and-left _ _ h)) in
     record {
-      first = ap first pushed ∙ first-push b (lines (l ++ s)) ∙ ap (λ (m : List ℕ). b ∷ m) (p .first);
+      first = ap headLine pushed ∙ first-push b (lines (l ++ s)) ∙ ap (λ (m : List ℕ). b ∷ m) (p .first);
       after = ap after pushed ∙ after-push b (lines (l ++ s)) ∙ p .after;
       isLine = ap isLine pushed ∙ isLine-push b (lines (l ++ s)) ∙ p .isLine;
     }
@@ -64,9 +64,9 @@ lines-newline s = refl
 
 -- The first line ends at a newline, and behind that stands what follows it.
 pub record Behind (s : List ℕ) : Type 0 where
-  pub inside : length (first (lines s)) < length s
-  pub ends : getD s (length (first (lines s))) 0 ≡ newline
-  pub is : after (lines s) ≡ lines (drop (suc (length (first (lines s)))) s)
+  pub inside : length (headLine (lines s)) < length s
+  pub ends : getD s (length (headLine (lines s))) 0 ≡ newline
+  pub is : after (lines s) ≡ lines (drop (suc (length (headLine (lines s)))) s)
 
 pub behind-line : (s : List ℕ) → isLine (lines s) ≡ true → Behind s
 unfolding lines
@@ -98,7 +98,7 @@ module _ (s : List ℕ) (i : ℕ) where
 
   -- The text from a place where no newline stands, beside the text from the next place.
   pub record Passes : Type 0 where
-    pub first : first (lines (drop i s)) ≡ getD s i 0 ∷ first (lines (drop (i + 1) s))
+    pub first : headLine (lines (drop i s)) ≡ getD s i 0 ∷ headLine (lines (drop (i + 1) s))
     pub after : after (lines (drop i s)) ≡ after (lines (drop (i + 1) s))
     pub isLine : isLine (lines (drop i s)) ≡ isLine (lines (drop (i + 1) s))
 
@@ -107,7 +107,7 @@ module _ (s : List ℕ) (i : ℕ) where
       let b = getD s i 0 in
       let p = prefixed (b ∷ []) (drop (i + 1) s) (rw (ne-eqb b newline ne)) in
       record {
-        first = ap (λ (t : List ℕ). first (lines t)) (drop-next h) ∙ p .first;
+        first = ap (λ (t : List ℕ). headLine (lines t)) (drop-next h) ∙ p .first;
         after = ap (λ (t : List ℕ). after (lines t)) (drop-next h) ∙ p .after;
         isLine = ap (λ (t : List ℕ). isLine (lines t)) (drop-next h) ∙ p .isLine;
       }

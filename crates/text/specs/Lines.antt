@@ -25,9 +25,9 @@ lines [] = rest []
 lines (b ∷ s) = add b (lines s)
 
 -- What a text starts with: its first line, or what stands behind the last newline.
-abbrev pub first : Text → List ℕ
-first (rest r) = r
-first (line l t) = l
+abbrev pub headLine : Text → List ℕ
+headLine (rest r) = r
+headLine (line l t) = l
 
 -- What follows the first line.
 abbrev pub after : Text → Text
@@ -41,4 +41,4 @@ isLine (line l t) = true
 
 -- The line at a place.
 abbrev pub lineAt : List ℕ → ℕ → List ℕ
-lineAt s at = first (lines (drop at s))
+lineAt s at = headLine (lines (drop at s))

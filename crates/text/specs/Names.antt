@@ -1,4 +1,4 @@
--- Question 4: are the names well made and in their order, and which line is the first at fault? And the row of a name.
+-- Question 4: are the names well made and in their order, and which row is the first at fault? And the row of a name.
 use mathlib.Core.Bool.{Bool, true, false, cond, _&&_, _||_}
 use mathlib.Core.List.{List, [], _∷_}
 use Prim.Native.Nat.{ℕ, suc}
@@ -26,7 +26,7 @@ before l [] = false
 before [] (c ∷ m) = true
 before (b ∷ l) (c ∷ m) = ltb b c || (eqb b c && before l m)
 
--- The first line at fault, or 0, of names from line n on, behind the name p.
+-- The first row at fault, or 0, of names from row n on, behind the name p.
 unfoldable pub nameFault : ℕ → List ℕ → List (List ℕ) → ℕ
 nameFault n p [] = 0
 nameFault n p (l ∷ ls) = cond (isName l && before p l) (nameFault (suc n) l ls) n

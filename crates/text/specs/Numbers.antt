@@ -35,15 +35,15 @@ value v [] = v
 value v (b ∷ w) = value (v * 10 + (b - 48)) w
 
 -- Is a word a number that a value may be?
-unfoldable pub number : List ℕ → Bool
-number w = all digit w && (plain w && leb (value 0 w) limits.value)
+unfoldable pub isNumber : List ℕ → Bool
+isNumber w = all digit w && (plain w && leb (value 0 w) limits.value)
 
 -- Are the words k numbers?
-unfoldable pub numbers : ℕ → List (List ℕ) → Bool
-numbers zero [] = true
-numbers zero (w ∷ ws) = false
-numbers (suc k) [] = false
-numbers (suc k) (w ∷ ws) = number w && numbers k ws
+unfoldable pub areNumbers : ℕ → List (List ℕ) → Bool
+areNumbers zero [] = true
+areNumbers zero (w ∷ ws) = false
+areNumbers (suc k) [] = false
+areNumbers (suc k) (w ∷ ws) = isNumber w && areNumbers k ws
 
 -- The values of a line.
 unfoldable pub values : List ℕ → List ℕ

@@ -4,7 +4,7 @@ use mathlib.Core.List.{List, [], map}
 use Prim.Native.Nat.{ℕ}
 use lib.Dec.{leb}
 use lib.ListN.{length, getD}
-use Rattle.text.specs.Sections.{sections}
+use Rattle.text.specs.Sections.{sections, namesAt, lineOr}
 use Rattle.text.specs.Form.{form, faultOf, rowsIn}
 use Rattle.text.specs.Names.{nameFault, nameRow}
 use Rattle.text.specs.Counts.{countFault}
@@ -27,13 +27,13 @@ module _ (s : List ℕ) where
   abbrev pub rowCounts : List ℕ
   rowCounts = map length sectionRows
 
-  -- The names, where the sheet has the form; the first is line 2.
+  -- The names, where the sheet has the form.
   abbrev pub sheetNames : List (List ℕ)
-  sheetNames = getD sectionRows 0 []
+  sheetNames = getD sectionRows namesAt []
 
   -- Question 4: the first name at fault.
   unfoldable pub namesFault : ℕ
-  namesFault = nameFault 2 [] sheetNames
+  namesFault = lineOr rowCounts namesAt (nameFault 1 [] sheetNames) 0
 
   -- The row of a name, or 0 where it is none of the sheet's.
   unfoldable pub rowOfName : List ℕ → ℕ

@@ -10,26 +10,26 @@ use borrow.Author.Tests.{ne-eqb}
 use Rattle.basics.specs.Truth.{lt-cases, eq-cases}
 use Rattle.basics.specs.Lists.{all}
 use Rattle.text.specs.Bytes.{newline, space}
-use Rattle.text.specs.Lines.{Text, lines, first, after, isLine}
+use Rattle.text.specs.Lines.{Text, lines, headLine, after, isLine}
 use Rattle.text.specs.LineLaws.{Prefixed, prefixed, lines-newline}
-use Rattle.text.specs.Numbers.{words, digit, value, number, numbers, values}
+use Rattle.text.specs.Numbers.{words, digit, value, isNumber, areNumbers, values}
 use Rattle.text.specs.DigitLaws.{digitsOf, digitsOf-digits, digitsOf-next, digitsOf-split, number-digits}
 use Rattle.text.specs.WordLaws.{digits-noNewline, words-one, words-space, words-odd, words-some}
 
 -- Is the first line of a text a row of k numbers?
 unfoldable pub fits : ℕ → Text → Bool
-fits k t = isLine t && numbers k (words (first t))
+fits k t = isLine t && areNumbers k (words (headLine t))
 
 -- The bytes t start with the value v and a space, and u stands behind it.
 pub record Spaced (t : List ℕ) (v : ℕ) (u : List ℕ) : Type 0 where
   pub fit : (k : ℕ) → fits (suc k) (lines t) ≡ fits k (lines u)
-  pub vals : values (first (lines t)) ≡ v ∷ values (first (lines u))
+  pub vals : values (headLine (lines t)) ≡ v ∷ values (headLine (lines u))
   pub behind : after (lines t) ≡ after (lines u)
 
 -- The same with a newline.
 pub record Ended (t : List ℕ) (v : ℕ) (u : List ℕ) : Type 0 where
   pub fit : fits 1 (lines t) ≡ true
-  pub vals : values (first (lines t)) ≡ v ∷ []
+  pub vals : values (headLine (lines t)) ≡ v ∷ []
   pub behind : after (lines t) ≡ lines u
 
 -- ---- digits, a byte behind them, and bytes behind that
@@ -46,43 +46,43 @@ module _ (ds : List ℕ) (d : all digit ds ≡ true) where
   fits-alone k = let e = rw (append-nil ds) at (ahead [] .isLine) in rw e
 
   module _ (u : List ℕ) where
-    ended-first : first (lines (ds ++ (newline ∷ u))) ≡ ds
+    ended-first : headLine (lines (ds ++ (newline ∷ u))) ≡ ds
     ended-first = ahead (newline ∷ u) .first ∙ rw (lines-newline u) (append-nil ds)
 
-    fits-newline : (k : ℕ) → fits (suc k) (lines (ds ++ (newline ∷ u))) ≡ (number ds && numbers k [])
-    unfolding fits numbers
+    fits-newline : (k : ℕ) → fits (suc k) (lines (ds ++ (newline ∷ u))) ≡ (isNumber ds && areNumbers k [])
+    unfolding fits areNumbers
     fits-newline k = rw (ahead (newline ∷ u) .isLine, lines-newline u, ended-first, words-one ds d)
 
-    ended : number ds ≡ true → Ended (ds ++ (newline ∷ u)) (value 0 ds) u
-    unfolding numbers values
+    ended : isNumber ds ≡ true → Ended (ds ++ (newline ∷ u)) (value 0 ds) u
+    unfolding areNumbers values
     ended n = record {
       fit = rw n at (fits-newline 0);
       vals = rw (ended-first, words-one ds d);
       behind = ahead (newline ∷ u) .after ∙ ap after (lines-newline u);
     }
 
-    spaced-first : first (lines (ds ++ (space ∷ u))) ≡ ds ++ (space ∷ first (lines u))
+    spaced-first : headLine (lines (ds ++ (space ∷ u))) ≡ ds ++ (space ∷ headLine (lines u))
     spaced-first = ahead (space ∷ u) .first ∙ ap (λ (l : List ℕ). ds ++ l) (prefixed (space ∷ []) u refl .first)
 
-    fits-space : (k : ℕ) → fits (suc k) (lines (ds ++ (space ∷ u))) ≡ (number ds && fits k (lines u))
-    unfolding fits numbers
+    fits-space : (k : ℕ) → fits (suc k) (lines (ds ++ (space ∷ u))) ≡ (isNumber ds && fits k (lines u))
+    unfolding fits areNumbers
     fits-space k =
-        rw (ahead (space ∷ u) .isLine, prefixed (space ∷ []) u refl .isLine, spaced-first, words-space ds d (first (lines u)))
-        (swap (isLine (lines u)) (number ds) (numbers k (words (first (lines u)))))
+        rw (ahead (space ∷ u) .isLine, prefixed (space ∷ []) u refl .isLine, spaced-first, words-space ds d (headLine (lines u)))
+        (swap (isLine (lines u)) (isNumber ds) (areNumbers k (words (headLine (lines u)))))
 
-    spaced : number ds ≡ true → Spaced (ds ++ (space ∷ u)) (value 0 ds) u
+    spaced : isNumber ds ≡ true → Spaced (ds ++ (space ∷ u)) (value 0 ds) u
     unfolding values
     spaced n = record {
       fit = λ k. rw n at (fits-space k);
-      vals = rw (spaced-first, words-space ds d (first (lines u)));
+      vals = rw (spaced-first, words-space ds d (headLine (lines u)));
       behind = ahead (space ∷ u) .after ∙ prefixed (space ∷ []) u refl .after;
     }
 
     fits-odd : (b k : ℕ) → digit b ≡ false → (b ≡ newline → ⊥) → (b ≡ space → ⊥) → fits (suc k) (lines (ds ++ (b ∷ u))) ≡ false
-    unfolding fits numbers
+    unfolding fits areNumbers
     fits-odd b k h ten sp =
         let f = ahead (b ∷ u) .first ∙ ap (λ (l : List ℕ). ds ++ l) (prefixed (b ∷ []) u (rw (ne-eqb b newline ten)) .first) in
-        let w = words-odd ds d b (first (lines u)) (ne-eqb b space sp) h in
+        let w = words-odd ds d b (headLine (lines u)) (ne-eqb b space sp) h in
         rw (f, w .2, number-digits (w .0) (w .3)) (and-false (isLine (lines (ds ++ (b ∷ u)))))
 
 -- ---- the digits that bytes start with
@@ -107,19 +107,19 @@ module _ (t : List ℕ) where
     split-at : {b : ℕ} → getD t size 0 ≡ b → t ≡ digitsOf t ++ (b ∷ behind)
     split-at e = split ∙ ap (λ (b : ℕ). digitsOf t ++ (b ∷ behind)) e
 
-    pub starts-spaced : number (digitsOf t) ≡ true → getD t size 0 ≡ space → Spaced t (value 0 (digitsOf t)) behind
+    pub starts-spaced : isNumber (digitsOf t) ≡ true → getD t size 0 ≡ space → Spaced t (value 0 (digitsOf t)) behind
     starts-spaced n e =
         subst (λ (l : List ℕ). Spaced l (value 0 (digitsOf t)) behind) (sym (split-at e)) (spaced (digitsOf t) (digitsOf-digits t) behind n)
 
-    pub starts-ended : number (digitsOf t) ≡ true → getD t size 0 ≡ newline → Ended t (value 0 (digitsOf t)) behind
+    pub starts-ended : isNumber (digitsOf t) ≡ true → getD t size 0 ≡ newline → Ended t (value 0 (digitsOf t)) behind
     starts-ended n e =
         subst (λ (l : List ℕ). Ended l (value 0 (digitsOf t)) behind) (sym (split-at e)) (ended (digitsOf t) (digitsOf-digits t) behind n)
 
     -- How a row goes on, by the byte behind the digits.
-    at-newline : (k : ℕ) → getD t size 0 ≡ newline → fits (suc k) (lines t) ≡ (number (digitsOf t) && numbers k [])
+    at-newline : (k : ℕ) → getD t size 0 ≡ newline → fits (suc k) (lines t) ≡ (isNumber (digitsOf t) && areNumbers k [])
     at-newline k e = ap (λ (l : List ℕ). fits (suc k) (lines l)) (split-at e) ∙ fits-newline (digitsOf t) (digitsOf-digits t) behind k
 
-    at-space : (k : ℕ) → getD t size 0 ≡ space → fits (suc k) (lines t) ≡ (number (digitsOf t) && fits k (lines behind))
+    at-space : (k : ℕ) → getD t size 0 ≡ space → fits (suc k) (lines t) ≡ (isNumber (digitsOf t) && fits k (lines behind))
     at-space k e = ap (λ (l : List ℕ). fits (suc k) (lines l)) (split-at e) ∙ fits-space (digitsOf t) (digitsOf-digits t) behind k
 
     at-odd : (k : ℕ) → (getD t size 0 ≡ newline → ⊥) → (getD t size 0 ≡ space → ⊥) → fits (suc k) (lines t) ≡ false
@@ -129,9 +129,9 @@ module _ (t : List ℕ) where
 
     -- Two numbers or more are wanted, and no space stands behind the first.
     pub no-space : (k : ℕ) → (getD t size 0 ≡ space → ⊥) → fits (suc (suc k)) (lines t) ≡ false
-    unfolding numbers
+    unfolding areNumbers
     no-space k sp =
-        ⊎-elim (λ (e : getD t size 0 ≡ newline). at-newline (suc k) e ∙ and-false (number (digitsOf t)))
+        ⊎-elim (λ (e : getD t size 0 ≡ newline). at-newline (suc k) e ∙ and-false (isNumber (digitsOf t)))
         (λ (ten : getD t size 0 ≡ newline → ⊥). at-odd (suc k) ten sp) (eq-cases (getD t size 0) newline)
 
     -- One is wanted, and no newline stands behind it.
@@ -140,11 +140,11 @@ module _ (t : List ℕ) where
     no-newline ten =
         ⊎-elim
         (λ (e : getD t size 0 ≡ space).
-        at-space 0 e ∙ rw (words-some (first (lines behind)), and-false (isLine (lines behind))) (and-false (number (digitsOf t))))
+        at-space 0 e ∙ rw (words-some (headLine (lines behind)), and-false (isLine (lines behind))) (and-false (isNumber (digitsOf t))))
         (λ (sp : getD t size 0 ≡ space → ⊥). at-odd 0 ten sp) (eq-cases (getD t size 0) space)
 
   -- They are no number.
-  pub no-number : (k : ℕ) → number (digitsOf t) ≡ false → fits (suc k) (lines t) ≡ false
+  pub no-number : (k : ℕ) → isNumber (digitsOf t) ≡ false → fits (suc k) (lines t) ≡ false
   no-number k n = ⊎-elim inside (no-more (suc k)) (lt-cases size (length t))
     where
       inside : size < length t → fits (suc k) (lines t) ≡ false

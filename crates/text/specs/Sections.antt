@@ -1,6 +1,8 @@
--- The five sections of a sheet.
+-- The five sections of a sheet, and the lines of their rows.
+use mathlib.Core.Bool.{cond}
 use mathlib.Core.List.{List, [], _∷_}
-use Prim.Native.Nat.{ℕ}
+use Prim.Native.Nat.{ℕ, zero, suc, _+_}
+use lib.Dec.{eqb}
 use Rattle.text.specs.Bytes.{bytes}
 use Rattle.text.specs.Limits as limits
 
@@ -18,3 +20,33 @@ sections =
     ∷ record { heading = bytes "form first second third query with next"; width = 7; limit = limits.statements }
     ∷ record { heading = bytes "statement"; width = 1; limit = limits.queries }
     ∷ []
+
+-- ---- the place of each section
+
+abbrev pub namesAt : ℕ
+namesAt = 0
+
+abbrev pub builtInsAt : ℕ
+builtInsAt = 1
+
+abbrev pub exprsAt : ℕ
+exprsAt = 2
+
+abbrev pub statementsAt : ℕ
+statementsAt = 3
+
+abbrev pub queriesAt : ℕ
+queriesAt = 4
+
+-- ---- lines
+
+-- The line of row r of the section at place k, and of its heading where r is 0, if the sections have these numbers of rows. Each section is its
+-- heading, its rows and an empty line.
+unfoldable pub lineOf : List ℕ → ℕ → ℕ → ℕ
+lineOf counts zero r = r + 1
+lineOf [] (suc k) r = 2 + lineOf [] k r
+lineOf (n ∷ counts) (suc k) r = n + 2 + lineOf counts k r
+
+-- The line of row r, or another where there is no such row.
+abbrev pub lineOr : List ℕ → ℕ → ℕ → ℕ → ℕ
+lineOr counts k r other = cond (eqb r 0) other (lineOf counts k r)

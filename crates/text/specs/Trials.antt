@@ -8,11 +8,11 @@ use lib.Dec.{eqb}
 use Rattle.basics.specs.Lists.{all}
 use Rattle.text.specs.Bytes.{bytes}
 use Rattle.text.specs.Lines.{lines}
-use Rattle.text.specs.Numbers.{words, value, number, numbers, values}
-use Rattle.text.specs.Sections.{sections}
-use Rattle.text.specs.Form.{block, sheet, form, faultOf, rowsIn}
+use Rattle.text.specs.Numbers.{words, value, isNumber, areNumbers, values}
+use Rattle.text.specs.Sections.{sections, exprsAt, lineOf}
+use Rattle.text.specs.Form.{block, wholeFrom, form, faultOf, rowsIn}
 use Rattle.text.specs.Names.{before, nameFault, nameRow}
-use Rattle.text.specs.Counts.{lineOf, overLine, noQueryLine, countFault}
+use Rattle.text.specs.Counts.{overLine, noQueryLine, countFault}
 use Rattle.text.specs.Questions.{shortEnough, formFault, sectionRows, namesFault, rowOfName, countsFault}
 
 -- A text, the question that it fails, or 0, and the line.
@@ -107,19 +107,19 @@ trials =
 
 -- All of them pass.
 pub trials-pass : all passes trials ≡ true
-unfolding bytes lines words value number numbers values sections block sheet form faultOf rowsIn before nameFault
+unfolding bytes lines words value isNumber areNumbers values sections block wholeFrom form faultOf rowsIn before nameFault
     lineOf overLine noQueryLine countFault formFault sectionRows namesFault countsFault
 trials-pass = refl
 
 -- In the specification's sheet `input` is the second name and `_` is none, and the second expression stands in line 11.
 input-is-second : rowOfName (bytes whole) (bytes "input") ≡ 2
-unfolding bytes lines words value number numbers sections block sheet form rowsIn nameRow sectionRows rowOfName
+unfolding bytes lines words value isNumber areNumbers sections block wholeFrom form rowsIn nameRow sectionRows rowOfName
 input-is-second = refl
 
 blank-is-none : rowOfName (bytes whole) (bytes "_") ≡ 0
-unfolding bytes lines words value number numbers sections block sheet form rowsIn nameRow sectionRows rowOfName
+unfolding bytes lines words value isNumber areNumbers sections block wholeFrom form rowsIn nameRow sectionRows rowOfName
 blank-is-none = refl
 
-second-expression : lineOf (4 ∷ 0 ∷ []) 2 ≡ 11
+second-expression : lineOf (4 ∷ 0 ∷ 7 ∷ 2 ∷ 1 ∷ []) exprsAt 2 ≡ 11
 unfolding lineOf
 second-expression = refl

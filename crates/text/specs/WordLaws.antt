@@ -11,7 +11,7 @@ use Rattle.basics.specs.Lists.{all}
 use Rattle.basics.specs.Subsets.{all-mono}
 use Rattle.text.specs.Bytes.{newline, space}
 use Rattle.text.specs.LineLaws.{noNewline}
-use Rattle.text.specs.Numbers.{join, words, digit, numbers}
+use Rattle.text.specs.Numbers.{join, words, digit, areNumbers}
 
 -- A digit is neither a newline nor a space.
 pub digits-noNewline : (ds : List ℕ) → all digit ds ≡ true → noNewline ds ≡ true
@@ -35,9 +35,9 @@ words-cons (b ∷ l) = go (eqb b space) (words-cons l)
     go true h = ([], words l, refl)
     go false h = (b ∷ h .0, h .1, ap (join b) (h .2))
 
-pub words-some : (l : List ℕ) → numbers 0 (words l) ≡ false
-unfolding numbers
-words-some l = ap (numbers 0) (words-cons l .2)
+pub words-some : (l : List ℕ) → areNumbers 0 (words l) ≡ false
+unfolding areNumbers
+words-some l = ap (areNumbers 0) (words-cons l .2)
 
 module _ (ds : List ℕ) (d : all digit ds ≡ true) where
   -- Digits in front belong to the first word.

@@ -31,9 +31,9 @@ abbrev pub pathOf : Builtin → List ℕ
 pathOf b = filter (ltb 0) (b .first ∷ b .second ∷ b .third ∷ [])
 
 -- The built-in with a path.
-abbrev pub builtinOf : List Builtin → Option (List ℕ) → Option Builtin
-builtinOf builtins none = none
-builtinOf builtins (some path) = find (λ b. same (pathOf b) path) builtins
+abbrev pub builtinWith : List Builtin → Option (List ℕ) → Option Builtin
+builtinWith builtins none = none
+builtinWith builtins (some path) = find (λ b. same (pathOf b) path) builtins
 
 -- The last of the arguments, if there is one more than the built-in takes.
 abbrev pub beyond : Option Builtin → List Tree → Option Tree
@@ -43,4 +43,4 @@ beyond (some b) args = cond (eqb (b .arity + 1) (length args)) (last args) none
 -- `get_extra_arg`: the last parameter of a call of a built-in that has one parameter more than its arity.
 unfoldable pub getExtraArg : Sheet → Tree → Option Tree
 getExtraArg sheet e =
-    cond (isCall (rowOf e)) (beyond (builtinOf (sheet .builtins) (getPathString (firstOf e))) (chain (secondOf e))) none
+    cond (isCall (rowOf e)) (beyond (builtinWith (sheet .builtins) (getPathString (firstOf e))) (chain (secondOf e))) none

@@ -16,7 +16,7 @@ use Rattle.trees.specs.Sheet.{Sheet, noRow}
 use Rattle.trees.specs.Kinds.{isVar, isPattern, isCompr, isCall}
 use Rattle.trees.specs.Trees.{Tree, nil, node, thirdOf, decode, treeAt, rowOf, firstOf, secondOf, chain, outputsOf}
 use Rattle.trees.specs.Traverse.{Enters, nothing, params, fields, enters, entered, traverse, leaves, vars, comprs}
-use Rattle.trees.specs.Paths.{getPathString, builtinOf, beyond, getExtraArg}
+use Rattle.trees.specs.Paths.{getPathString, builtinWith, beyond, getExtraArg}
 
 module _ (q : Row → Bool) where
   abbrev pub allRows : Tree → Bool
@@ -130,7 +130,7 @@ module _ (q : Row → Bool) where
 
   pub extra-rows : (sheet : Sheet) (e : Tree) → allRows e ≡ true → all allRows (toList (getExtraArg sheet e)) ≡ true
   unfolding getExtraArg
-  extra-rows sheet e h = go (isCall (rowOf e)) (builtinOf (sheet .builtins) (getPathString (firstOf e)))
+  extra-rows sheet e h = go (isCall (rowOf e)) (builtinWith (sheet .builtins) (getPathString (firstOf e)))
     where
       args : all allRows (chain (secondOf e)) ≡ true
       args = chain-rows (secondOf e) (second-rows e h)

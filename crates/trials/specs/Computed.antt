@@ -7,11 +7,10 @@ use Rattle.turns.specs.Turns.{round, placements}
 use Rattle.text.specs.Bytes.{bytes}
 use Rattle.text.specs.Lines.{lines}
 use Rattle.text.specs.Numbers as numbers
-use Rattle.text.specs.Sections.{sections}
-use Rattle.text.specs.Form.{block, sheet, form, faultOf, rowsIn}
+use Rattle.text.specs.Sections.{sections, lineOf}
+use Rattle.text.specs.Form.{block, wholeFrom, form, faultOf, rowsIn}
 use Rattle.text.specs.Names.{before, nameFault, nameRow}
 use Rattle.text.specs.Counts.{overLine, noQueryLine, countFault}
-use Rattle.text.specs.Counts as counts
 use Rattle.text.specs.Questions.{formFault, sectionRows, namesFault, countsFault, rowOfName}
 use Rattle.tables.specs.Layout.{areas, areasFrom}
 use Rattle.tables.specs.Tables.{tables, putSections, putRows}
@@ -20,9 +19,8 @@ use Rattle.naming.specs.Entries.{target, placeOf, exprEntries, statementEntries
 use Rattle.naming.specs.Namings.{namers, inChain, entryNaming, rowNamings, byQueries, byStatements, byExprs, namings}
 use Rattle.naming.specs.Nesting.{grown, enclosing, parent, levelIn, level}
 use Rattle.naming.specs.Chains.{varsIn, endsIn, allVars, endsOdd}
-use Rattle.naming.specs.Faults.{fieldFault, isNamedSo, isMember, exprFault, statementFault, queryFault, pathBefore, builtinFault}
-use Rattle.naming.specs.Faults as faults
-use Rattle.naming.specs.Lines.{lineOf, firstOf, firstLine}
+use Rattle.naming.specs.Faults.{fieldFault, entriesFault, isNamedSo, isMember, exprFault, statementFault, queryFault, pathBefore, builtinFault}
+use Rattle.naming.specs.Lines.{firstAtFault, firstLine}
 use Rattle.sheet.specs.Verdict as questions
 use Rattle.trees.specs.Sheet.{Sheet, sheetIn, isInput, isSpecial}
 use Rattle.trees.specs.Trees.{decode, treeAt, chain}
@@ -44,14 +42,14 @@ use Rattle.analysis.specs.Statements.{modsOf, processEvery, processLiteral, pro
 use Rattle.analysis.specs.Queries.{outputScope, scheduled, outputCompr, analyzeOutputExpr, analyzeQuery}
 use Rattle.analysis.specs.RustWay as rust
 use Rattle.analysis.specs.RustWay.{rustWay, analyze, analyzeQuerySnippet, scheduleIn, recorded}
-use Rattle.answers.specs.Rows.{rowsOf}
+use Rattle.answers.specs.Rows.{allRows}
 use Rattle.writer.specs.Decimal.{digits}
 use Rattle.answers.specs.Text.{section, answerText, refusalText}
 use Rattle.answers.specs.Call.{Result, analysed, result}
 
 -- The sheet in bytes.
 unfoldable pub sheetRead : List ℕ → Sheet
-unfolding lines numbers.words numbers.value numbers.values numbers.number numbers.numbers sections block sheet form faultOf rowsIn nameRow
+unfolding lines numbers.words numbers.value numbers.values numbers.isNumber numbers.areNumbers sections block wholeFrom form faultOf rowsIn nameRow
     sectionRows rowOfName bytes sheetIn
 sheetRead s = sheetIn s
 
@@ -69,14 +67,14 @@ unfolding range resolves round placements bytes isInput isSpecial decode treeAt 
     pairings assignOneWay assignPairing processAssignExpr processPlainExpr processExpr processExtraArg processCall
     someVarsIn nonVars processNonVar processSomeIn modsOf processEvery processLiteral processStmt processStmts
     outputScope scheduled outputCompr analyzeOutputExpr analyzeQuery
-    rust.take rustWay analyze analyzeQuerySnippet scheduleIn recorded rowsOf digits section answerText refusalText analysed
+    rust.take rustWay analyze analyzeQuerySnippet scheduleIn recorded allRows digits section answerText refusalText analysed
 analysedSheet s = analyzeQuerySnippet s
 
 -- The whole call.
 unfoldable pub computed : List ℕ → ℕ → ℕ → ℕ → Result
-unfolding sheetRead analysedSheet before nameFault counts.lineOf overLine noQueryLine countFault formFault namesFault countsFault
+unfolding sheetRead analysedSheet before nameFault lineOf overLine noQueryLine countFault formFault namesFault countsFault
     kinds forms kindOf formOf target placeOf exprEntries statementEntries queryEntries
     namers inChain entryNaming rowNamings byQueries byStatements byExprs namings grown enclosing parent levelIn level
-    varsIn endsIn allVars endsOdd fieldFault faults.fieldsFault isNamedSo isMember exprFault statementFault queryFault pathBefore
-    builtinFault lineOf firstOf firstLine questions.fieldsFault questions.asked questions.verdict result
+    varsIn endsIn allVars endsOdd fieldFault entriesFault isNamedSo isMember exprFault statementFault queryFault pathBefore
+    builtinFault firstAtFault firstLine questions.fieldsFault questions.asked questions.verdict result
 computed s room work text = result s room work text

@@ -9,7 +9,7 @@ use lib.Seq.{getD-drop, drop-drop}
 use Rattle.basics.specs.Truth.{not-both}
 use Rattle.text.specs.Bytes.{newline, space}
 use Rattle.text.specs.Lines.{lines}
-use Rattle.text.specs.Numbers.{value, number}
+use Rattle.text.specs.Numbers.{value, isNumber}
 use Rattle.text.specs.DigitLaws.{digitsOf}
 use Rattle.text.specs.RowLaws.{fits, Spaced, Ended, starts-spaced, starts-ended, no-more, no-space, no-newline, no-number}
 use Rattle.values.specs.declared.Number.{Number}
@@ -46,7 +46,7 @@ module _ (s : List ℕ) (at separator : ℕ) (high : at ≤ length s) (n : Numbe
       refused f (λ k p. no-number t (suc k) no) (λ p. no-number t 0 no)
 
   module _ (y : n .good ≡ true) where
-    is : number (digitsOf t) ≡ true
+    is : isNumber (digitsOf t) ≡ true
     is = sym (g .good) ∙ y
 
     byte : getD t (length (digitsOf t)) 0 ≡ getD s (n .end) 0

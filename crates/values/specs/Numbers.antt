@@ -5,7 +5,7 @@ use mathlib.Core.List.{List, [], _∷_}
 use Prim.Native.Nat.{ℕ, _+_, _-_, _<_}
 use lib.Dec.{eqb}
 use lib.ListN.{length, getD}
-use Rattle.text.specs.Numbers.{digit, value, number}
+use Rattle.text.specs.Numbers.{digit, value, isNumber}
 use Rattle.text.specs.DigitLaws.{digitsOf}
 use Rattle.values.specs.declared.Number.{Number}
 
@@ -16,7 +16,7 @@ digitAt (b ∷ s) = cond (digit b) (b - 48) 10
 
 -- The bytes s, at a place, start with digits that are a number.
 pub record NumberRead (s : List ℕ) (at : ℕ) (r : Number) : Type 0 where
-  pub good : r .good ≡ number (digitsOf s)
+  pub good : r .good ≡ isNumber (digitsOf s)
   pub value : r .good ≡ true → r .value ≡ value 0 (digitsOf s)
   pub end : r .good ≡ true → r .end ≡ at + length (digitsOf s)
 

@@ -8,7 +8,7 @@ use lib.ListN.{length, drop, set, length-append}
 use lib.Seq.{sets}
 use Rattle.basics.specs.Truth.{not-both, and-left}
 use Rattle.text.specs.Bytes.{newline, space}
-use Rattle.text.specs.Lines.{Text, line, lines, first, after}
+use Rattle.text.specs.Lines.{Text, line, lines, headLine, after}
 use Rattle.text.specs.LineLaws.{whole}
 use Rattle.text.specs.Numbers.{values}
 use Rattle.text.specs.RowLaws.{fits}
@@ -20,8 +20,8 @@ use Rattle.values.specs.Fields.{FieldRead}
 pub record RowRead (s : List ℕ) (at k : ℕ) (d : List ℕ) (to : ℕ) (r : Line) (e : List ℕ) : Type 0 where
   pub good : r .good ≡ fits k (lines (drop at s))
   pub next : r .good ≡ true → (at < r .next) × (r .next ≤ length s)
-  pub line : r .good ≡ true → lines (drop at s) ≡ line (first (lines (drop at s))) (lines (drop (r .next) s))
-  pub table : r .good ≡ true → e ≡ sets d to (values (first (lines (drop at s))))
+  pub line : r .good ≡ true → lines (drop at s) ≡ line (headLine (lines (drop at s))) (lines (drop (r .next) s))
+  pub table : r .good ≡ true → e ≡ sets d to (values (headLine (lines (drop at s))))
 
 sets-snoc : (d : List ℕ) (to : ℕ) (vs : List ℕ) (v : ℕ) → set (sets d to vs) (to + length vs) v ≡ sets d to (vs ++ (v ∷ []))
 sets-snoc d to [] v = let z : to + 0 ≡ to = omega arith in ap (λ (i : ℕ). set d i v) z
@@ -37,7 +37,7 @@ pub record Fields (s : List ℕ) (at k : ℕ) (d : List ℕ) (to i j : ℕ) (e :
   pub high : i ≤ length s
   pub below : j < k
   pub fit : fits k (lines (drop at s)) ≡ fits (k - j) (lines (drop i s))
-  pub read : values (first (lines (drop at s))) ≡ done ++ values (first (lines (drop i s)))
+  pub read : values (headLine (lines (drop at s))) ≡ done ++ values (headLine (lines (drop i s)))
   pub behind : after (lines (drop at s)) ≡ after (lines (drop i s))
   pub table : e ≡ sets d to done
   pub size : length e ≡ length d
@@ -92,7 +92,7 @@ module _ (s : List ℕ) (at k : ℕ) (d : List ℕ) (to : ℕ) where
             below = omega arith;
             fit = f .fit ∙ ap (λ (m : ℕ). fits m (lines (drop i s))) q ∙ w .fit (k - (j + 1));
             read = f .read ∙ ap (λ (l : List ℕ). f .done ++ l) (w .vals)
-                ∙ sym (append-assoc (f .done) (r .value ∷ []) (values (first (lines (drop (r .next) s)))));
+                ∙ sym (append-assoc (f .done) (r .value ∷ []) (values (headLine (lines (drop (r .next) s)))));
             behind = f .behind ∙ w .behind;
             table = stored;
             size = l;
@@ -117,6 +117,6 @@ module _ (s : List ℕ) (at k : ℕ) (d : List ℕ) (to : ℕ) where
             good = n ∙ sym fit;
             next = λ z. (omega (arith, f .low), omega arith);
             line = λ z. whole (lines (drop at s)) (and-left _ _ fit)
-                ∙ ap (λ (u : Text). line (first (lines (drop at s))) u) (f .behind ∙ t .behind ∙ ap (λ (c : ℕ). lines (drop c s)) (sym x));
+                ∙ ap (λ (u : Text). line (headLine (lines (drop at s))) u) (f .behind ∙ t .behind ∙ ap (λ (c : ℕ). lines (drop c s)) (sym x));
             table = λ z. rw last (stored ∙ ap (sets d to) (sym (f .read ∙ ap (λ (l : List ℕ). f .done ++ l) (t .vals))));
           }

@@ -21,10 +21,10 @@ abbrev pub decimal : ℕ → List ℕ
 decimal n = digits 5 n
 
 -- A row as a line: one space between the values.
-abbrev pub line : List ℕ → List ℕ
-line [] = newline ∷ []
-line (x ∷ []) = decimal x ++ (newline ∷ [])
-line (x ∷ (y ∷ row)) = decimal x ++ (space ∷ line (y ∷ row))
+abbrev pub rowLine : List ℕ → List ℕ
+rowLine [] = newline ∷ []
+rowLine (x ∷ []) = decimal x ++ (newline ∷ [])
+rowLine (x ∷ (y ∷ row)) = decimal x ++ (space ∷ rowLine (y ∷ row))
 
 -- ---- a number is written
 

@@ -4,7 +4,7 @@ use Prim.Native.Nat.{ℕ, _≤_, _<_, _-_, _+_, _*_}
 use lib.ListN.{length, getD, take}
 use native.Mathlib.Omega.{arith}
 use borrow.Author.Needs.{needs}
-use Rattle.definitions.specs.Rows.{rowsOf}
+use Rattle.definitions.specs.Rows.{rowsOfRecords}
 use Rattle.definitions.specs.Copies.{noRecord}
 use Rattle.definitions.specs.Puts.{put-length, rows-next}
 use Rattle.definitions.proofs.rows_of.Statement.{statement}
@@ -14,7 +14,7 @@ use Rattle.definitions.proofs.rows_of.Lts as lts
 use Rattle.definitions.proofs.put_row.Reads as put-row-reads
 
 abbrev Inv-loop : tie.InvT-loop
-Inv-loop len all words₀ i₀ words i = (i ≤ len) × (length words ≡ 2560) × (take (4 * i) words ≡ rowsOf (take i all))
+Inv-loop len all words₀ i₀ words i = (i ≤ len) × (length words ≡ 2560) × (take (4 * i) words ≡ rowsOfRecords (take i all))
 
 abbrev μ-loop : tie.MeasureT-loop
 μ-loop len all words₀ i₀ words i = len - i
@@ -53,7 +53,7 @@ returns c =
     let l = c .before in
     let a = l .before .args in
     let e : l .loop .i ≡ a .len = omega (arith, l .loop .inv .0, c .loop-test .left) in
-    subst (λ (k : ℕ). take (4 * k) (l .loop .words) ≡ rowsOf (take k (a .t1))) e (l .loop .inv .2)
+    subst (λ (k : ℕ). take (4 * k) (l .loop .words) ≡ rowsOfRecords (take k (a .t1))) e (l .loop .inv .2)
 
 pub rows-of-spec : {M : Type 1} → statement M
 rows-of-spec =

@@ -4,7 +4,7 @@ use mathlib.Core.Path.{_≡_, sym, _∙_}
 use Prim.Native.Nat.{ℕ, _+_, _-_, _≤_}
 use native.Mathlib.Omega.{arith}
 use Rattle.naming.specs.Faults.{builtinFault}
-use Rattle.naming.specs.Lines.{firstOf}
+use Rattle.naming.specs.Lines.{firstAtFault}
 use Rattle.faults.specs.Firsts.{first-start, first-here, first-next, first-done}
 use Rattle.faults.proofs.first_builtin.Statement.{statement}
 use Rattle.faults.proofs.first_builtin.Tie as tie
@@ -12,7 +12,7 @@ use Rattle.records.specs.Rows.{inTables}
 
 abbrev Inv-loop : tie.InvT-loop
 Inv-loop tables counts row₀ row =
-    (1 ≤ row) × (row ≤ counts .builtins + 1) × (firstOf (builtinFault counts (inTables tables)) row (counts .builtins + 1 - row) ≡ firstOf (builtinFault counts (inTables tables)) 1 (counts .builtins))
+    (1 ≤ row) × (row ≤ counts .builtins + 1) × (firstAtFault (builtinFault counts (inTables tables)) row (counts .builtins + 1 - row) ≡ firstAtFault (builtinFault counts (inTables tables)) 1 (counts .builtins))
 
 abbrev μ-loop : tie.MeasureT-loop
 μ-loop tables counts row₀ row =

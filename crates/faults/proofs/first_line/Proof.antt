@@ -1,6 +1,8 @@
 -- The sections one after the other; each search tells whether the next is asked.
 use mathlib.Core.Path.{refl}
-use Rattle.naming.specs.Lines.{builtins, exprs, statements, queries, firstLine, lineOf}
+use native.Mathlib.Omega.{arith}
+use Rattle.text.specs.Sections.{builtInsAt, exprsAt, statementsAt, queriesAt, lineOf}
+use Rattle.naming.specs.Lines.{firstLine}
 use Rattle.faults.specs.Firsts.{line-here, line-later}
 use borrow.Author.Needs.{needs}
 use Rattle.faults.proofs.first_line.Statement.{statement}
@@ -18,7 +20,7 @@ add-result-2 c = search needs
 returns : tie.Need-returns
 unfolding firstLine lineOf
 returns c =
-    let a = c .before .before .before .before .before .args in line-here (a .counts) builtins _ _ (c .before .before .first-builtin .result) _ (c .before .before .first-builtin .ensures .0) (c .before .if1 .taken) refl
+    let a = c .before .before .before .before .before .args in line-here (a .counts) builtInsAt _ _ (c .before .before .first-builtin .result) _ (c .before .before .first-builtin .ensures .0) (c .before .if1 .taken) (omega arith)
 
 note-rows-requires : tie.Need-note-rows-requires
 note-rows-requires c κs = search needs
@@ -41,8 +43,8 @@ same-length c = search needs
 returns-2 : tie.Need-returns-2
 unfolding firstLine lineOf
 returns-2 c =
-    let a = c .before .before .before .before .before .before .before .before .before .before .before .before .args in line-later (a .counts) builtins _ _ (c .before .before .before .before .before .before .before .before .before .first-builtin .result) _ (c .before .before .before .before .before .before .before .before .before .first-builtin .ensures .0) (c .before .before .before .before .before .before .before .before .if1 .left)
-    (line-here (a .counts) exprs _ _ (c .before .before .first-expr .result) _ (c .before .before .first-expr .ensures .0) (c .before .if2 .taken) refl)
+    let a = c .before .before .before .before .before .before .before .before .before .before .before .before .args in line-later (a .counts) builtInsAt _ _ (c .before .before .before .before .before .before .before .before .before .first-builtin .result) _ (c .before .before .before .before .before .before .before .before .before .first-builtin .ensures .0) (c .before .before .before .before .before .before .before .before .if1 .left)
+    (line-here (a .counts) exprsAt _ _ (c .before .before .first-expr .result) _ (c .before .before .first-expr .ensures .0) (c .before .if2 .taken) (omega arith))
 
 first-statement-requires : tie.Need-first-statement-requires
 first-statement-requires c κs = search needs
@@ -65,9 +67,9 @@ same-length-2 c = search needs
 returns-3 : tie.Need-returns-3
 unfolding firstLine lineOf
 returns-3 c =
-    let a = c .before .before .before .before .before .before .before .before .before .before .before .before .before .before .before .before .args in line-later (a .counts) builtins _ _ (c .before .before .before .before .before .before .before .before .before .before .before .before .before .first-builtin .result) _ (c .before .before .before .before .before .before .before .before .before .before .before .before .before .first-builtin .ensures .0) (c .before .before .before .before .before .before .before .before .before .before .before .before .if1 .left)
-    (line-later (a .counts) exprs _ _ (c .before .before .before .before .before .before .first-expr .result) _ (c .before .before .before .before .before .before .first-expr .ensures .0) (c .before .before .before .before .before .if2 .left)
-    (line-here (a .counts) statements _ _ (c .before .before .before .first-statement .result) _ (c .before .before .before .first-statement .ensures .0) (c .before .before .if3 .taken) refl))
+    let a = c .before .before .before .before .before .before .before .before .before .before .before .before .before .before .before .before .args in line-later (a .counts) builtInsAt _ _ (c .before .before .before .before .before .before .before .before .before .before .before .before .before .first-builtin .result) _ (c .before .before .before .before .before .before .before .before .before .before .before .before .before .first-builtin .ensures .0) (c .before .before .before .before .before .before .before .before .before .before .before .before .if1 .left)
+    (line-later (a .counts) exprsAt _ _ (c .before .before .before .before .before .before .first-expr .result) _ (c .before .before .before .before .before .before .first-expr .ensures .0) (c .before .before .before .before .before .if2 .left)
+    (line-here (a .counts) statementsAt _ _ (c .before .before .before .first-statement .result) _ (c .before .before .before .first-statement .ensures .0) (c .before .before .if3 .taken) (omega arith)))
 
 first-query-requires : tie.Need-first-query-requires
 first-query-requires c κs = search needs
@@ -93,10 +95,10 @@ same-length-3 c = search needs
 returns-4 : tie.Need-returns-4
 unfolding firstLine lineOf
 returns-4 c =
-    let a = c .before .before .before .before .before .before .before .before .before .before .before .before .before .before .before .before .before .before .before .before .args in line-later (a .counts) builtins _ _ (c .before .before .before .before .before .before .before .before .before .before .before .before .before .before .before .before .before .first-builtin .result) _ (c .before .before .before .before .before .before .before .before .before .before .before .before .before .before .before .before .before .first-builtin .ensures .0) (c .before .before .before .before .before .before .before .before .before .before .before .before .before .before .before .before .if1 .left)
-    (line-later (a .counts) exprs _ _ (c .before .before .before .before .before .before .before .before .before .before .first-expr .result) _ (c .before .before .before .before .before .before .before .before .before .before .first-expr .ensures .0) (c .before .before .before .before .before .before .before .before .before .if2 .left)
-    (line-later (a .counts) statements _ _ (c .before .before .before .before .before .before .before .first-statement .result) _ (c .before .before .before .before .before .before .before .first-statement .ensures .0) (c .before .before .before .before .before .before .if3 .left)
-    (line-here (a .counts) queries _ _ (c .before .before .before .before .first-query .result) _ (c .before .before .before .before .first-query .ensures .0) (c .before .before .before .if4 .taken) refl)))
+    let a = c .before .before .before .before .before .before .before .before .before .before .before .before .before .before .before .before .before .before .before .before .args in line-later (a .counts) builtInsAt _ _ (c .before .before .before .before .before .before .before .before .before .before .before .before .before .before .before .before .before .first-builtin .result) _ (c .before .before .before .before .before .before .before .before .before .before .before .before .before .before .before .before .before .first-builtin .ensures .0) (c .before .before .before .before .before .before .before .before .before .before .before .before .before .before .before .before .if1 .left)
+    (line-later (a .counts) exprsAt _ _ (c .before .before .before .before .before .before .before .before .before .before .first-expr .result) _ (c .before .before .before .before .before .before .before .before .before .before .first-expr .ensures .0) (c .before .before .before .before .before .before .before .before .before .if2 .left)
+    (line-later (a .counts) statementsAt _ _ (c .before .before .before .before .before .before .before .first-statement .result) _ (c .before .before .before .before .before .before .before .first-statement .ensures .0) (c .before .before .before .before .before .before .if3 .left)
+    (line-here (a .counts) queriesAt _ _ (c .before .before .before .before .first-query .result) _ (c .before .before .before .before .first-query .ensures .0) (c .before .before .before .if4 .taken) (omega arith))))
 
 same-length-4 : tie.Need-same-length-4
 same-length-4 c = search needs
@@ -104,10 +106,10 @@ same-length-4 c = search needs
 returns-5 : tie.Need-returns-5
 unfolding firstLine lineOf
 returns-5 c =
-    let a = c .before .before .before .before .before .before .before .before .before .before .before .before .before .before .before .before .before .args in line-later (a .counts) builtins _ _ (c .before .before .before .before .before .before .before .before .before .before .before .before .before .before .first-builtin .result) _ (c .before .before .before .before .before .before .before .before .before .before .before .before .before .before .first-builtin .ensures .0) (c .before .before .before .before .before .before .before .before .before .before .before .before .before .if1 .left)
-    (line-later (a .counts) exprs _ _ (c .before .before .before .before .before .before .before .first-expr .result) _ (c .before .before .before .before .before .before .before .first-expr .ensures .0) (c .before .before .before .before .before .before .if2 .left)
-    (line-later (a .counts) statements _ _ (c .before .before .before .before .first-statement .result) _ (c .before .before .before .before .first-statement .ensures .0) (c .before .before .before .if3 .left)
-    (line-later (a .counts) queries _ _ (c .before .first-query .result) _ (c .before .first-query .ensures .0) (c .if4 .left) refl)))
+    let a = c .before .before .before .before .before .before .before .before .before .before .before .before .before .before .before .before .before .args in line-later (a .counts) builtInsAt _ _ (c .before .before .before .before .before .before .before .before .before .before .before .before .before .before .first-builtin .result) _ (c .before .before .before .before .before .before .before .before .before .before .before .before .before .before .first-builtin .ensures .0) (c .before .before .before .before .before .before .before .before .before .before .before .before .before .if1 .left)
+    (line-later (a .counts) exprsAt _ _ (c .before .before .before .before .before .before .before .first-expr .result) _ (c .before .before .before .before .before .before .before .first-expr .ensures .0) (c .before .before .before .before .before .before .if2 .left)
+    (line-later (a .counts) statementsAt _ _ (c .before .before .before .before .first-statement .result) _ (c .before .before .before .before .first-statement .ensures .0) (c .before .before .before .if3 .left)
+    (line-later (a .counts) queriesAt _ _ (c .before .first-query .result) _ (c .before .first-query .ensures .0) (c .if4 .left) refl)))
 
 pub first-line-spec : {M : Type 1} → statement M
 first-line-spec =

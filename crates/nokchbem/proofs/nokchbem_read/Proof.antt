@@ -6,7 +6,7 @@ use lib.ListN.{length}
 use borrow.Author.Needs.{needs}
 use Rattle.schedule.specs.Call.{refusal}
 use Rattle.sheet.specs.declared.Outcome.{Outcome}
-use Rattle.sheet.specs.Verdict.{line, leftTables}
+use Rattle.sheet.specs.Verdict.{faultLine, leftTables}
 use Rattle.sheet.specs.LineBounds.{line-fits, number-fits}
 use Rattle.nokchbem.specs.Calls.{readNumber}
 use Rattle.nokchbem.proofs.nokchbem_read.Statement.{statement}
@@ -25,8 +25,8 @@ pack-requires : tie.Need-pack-requires
 pack-requires c κs =
     let k = c .before .before .before .before .before .before in
     let start = k .before .before .before .before .before .before .args in
-    let low : line (k .read .result) ≤ 65535 =
-    subst (λ (r : Outcome). line r ≤ 65535) (sym (k .read .ensures .came-to))
+    let low : faultLine (k .read .result) ≤ 65535 =
+    subst (λ (r : Outcome). faultLine r ≤ 65535) (sym (k .read .ensures .came-to))
     (line-fits (start .sheet .now) (length (start .tables .now)) (length (start .work .now))) in
     (omega (arith, c .before .number-of .ensures, number-fits (k .read .result)), omega (arith, c .line-of .ensures), omega arith)
 
