@@ -15,7 +15,8 @@ use Rattle.trees.specs.Sheet.{nameBound}
 use Rattle.scopes.specs.NameSets.{NameSet, contains, elements}
 use Rattle.scopes.specs.Scopes.{Span, spanIn}
 use Rattle.analysis.specs.States.{QuerySchedule}
-use Rattle.answers.specs.Rows.{mark, queryRows, placeRows, localRow, setRows}
+use Rattle.answers.specs.Rows.{queryRows, placeRows, localRow, setRows}
+use Rattle.turns.specs.Turns.{mark}
 use Rattle.answer.specs.Stored.{wordAt, setAt, placeAt, SpanIn, Analysed, StoredAt}
 use Rattle.answer.specs.Sound.{mark-low}
 use Rattle.answer.specs.Ranges.{texts, texts-same, concat-append, concat-concat, concat-map, concat-filter}

@@ -13,7 +13,7 @@ use Rattle.trees.specs.Lists.{isSome}
 use Rattle.trees.specs.Sheet.{nameBound}
 use Rattle.scopes.specs.Scopes.{spanIn}
 use Rattle.analysis.specs.States.{QuerySchedule, scheduleOf}
-use Rattle.answers.specs.Rows.{mark}
+use Rattle.turns.specs.Turns.{mark}
 use Rattle.answer.specs.Stored.{wordAt, setAt, placeAt, Analysed, StoredAt, Stored}
 
 -- The words of a query that is analysed.

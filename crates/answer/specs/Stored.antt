@@ -10,7 +10,7 @@ use Rattle.trees.specs.Sheet.{nameBound}
 use Rattle.scopes.specs.NameSets.{contains}
 use Rattle.scopes.specs.Scopes.{Span, spanIn, isLocal}
 use Rattle.analysis.specs.States.{QuerySchedule, scheduleOf}
-use Rattle.answers.specs.Rows.{mark}
+use Rattle.turns.specs.Turns.{mark}
 
 -- A word of the block of query q.
 abbrev pub wordAt : List ℕ → ℕ → ℕ → ℕ

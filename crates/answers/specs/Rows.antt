@@ -1,20 +1,15 @@
 -- The rows of an answer, from the table of schedules: three sections, each with its queries ascending.
-use mathlib.Core.Bool.{Bool, cond}
 use mathlib.Core.List.{List, [], _∷_, _++_, map}
 use mathlib.Core.Option.{Option, none, some}
 use Prim.Native.Nat.{ℕ, suc}
 use lib.ListN.{getD}
 use Rattle.basics.specs.Ranges.{range}
-use Rattle.turns.specs.Turns.{placed, order, reached}
+use Rattle.turns.specs.Turns.{placed, order, reached, mark}
 use Rattle.trees.specs.Lists.{concatMap}
 use Rattle.trees.specs.Sheet.{nameBound}
 use Rattle.scopes.specs.NameSets.{elements}
 use Rattle.scopes.specs.Scopes.{Span, spanIn}
 use Rattle.analysis.specs.States.{QuerySchedule, scheduleOf}
-
--- A mark as a number.
-abbrev pub mark : Bool → ℕ
-mark b = cond b 1 0
 
 -- `query placed input`; a query that is never analysed has placed 2 and no other row.
 abbrev pub queryRows : ℕ → Option QuerySchedule → List (List ℕ)

@@ -3,3 +3,4 @@ pub mod Lists
 pub mod Ranges
 pub mod Members
 pub mod Subsets
+pub mod Refusals

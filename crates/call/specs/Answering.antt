@@ -6,6 +6,7 @@ use Prim.Native.Nat.{ℕ, _-_, _≤_, _<_}
 use native.Mathlib.Omega.{arith}
 use lib.ListN.{length, getD, take, drop, replicate, length-drop}
 use lib.Seq.{take-length}
+use Rattle.basics.specs.Refusals as refusals
 use Rattle.basics.specs.Truth.{not-both}
 use Rattle.writer.specs.Writes.{Wrote, Puts, starts, fits-whole, fits-not}
 use Rattle.records.specs.Layout.{firstAt}
@@ -58,11 +59,11 @@ module _ (w : List ℕ) (n : ℕ) (b : List ℕ) (zeros : b ≡ replicate (lengt
       (fits-replies (length b) text (omega (arith, whole .0, puts .0)))
 
   pub fits-none : length c < r → (e : List ℕ) → e ≡ replicate (length c) 0
-      → Replies (length b) (fitting (length b) (answerText n schedules)) (record { number = 7; line = 0; col = 0 }) e
+      → Replies (length b) (fitting (length b) (answerText n schedules)) (record { number = refusals.textTooLong; line = 0; col = 0 }) e
   fits-none h e is =
       let text = answerText n schedules in
       let over = fits-not c text r wrote h in
-      subst (Replies (length b) (fitting (length b) text) (record { number = 7; line = 0; col = 0 }))
+      subst (Replies (length b) (fitting (length b) text) (record { number = refusals.textTooLong; line = 0; col = 0 }))
       (sym (is ∙ ap (λ (k : ℕ). replicate k 0) (puts .0))) (not-replies (length b) text (omega (arith, puts .0)))
 
 -- ---- question 7

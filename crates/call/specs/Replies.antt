@@ -5,6 +5,7 @@ use mathlib.Core.List.{List, _++_}
 use Prim.Native.Nat.{ℕ, _-_, _≤_, _<_}
 use lib.ListN.{length, replicate}
 use borrow.Author.Tests.{le-leb, lt-leb}
+use Rattle.basics.specs.Refusals as refusals
 use Rattle.basics.specs.Truth.{not-both}
 use Rattle.sheet.specs.declared.Outcome.{Outcome}
 use Rattle.sheet.specs.declared.Outcome.the-variants.{Read, NoRoom, TooLong, BadForm, BadName, BadCount, BadField}
@@ -21,10 +22,10 @@ outcomeReply r = record { number = questions.number r; line = questions.faultLin
 
 abbrev pub faultReply : Fault → Reply
 faultReply Sound = record { number = 0; line = 0; col = 0 }
-faultReply (Undefined l c) = record { number = 11; line = l; col = c }
-faultReply (UsedBefore l c) = record { number = 12; line = l; col = c }
-faultReply (Lengths l c) = record { number = 13; line = l; col = c }
-faultReply IndexVariable = record { number = 14; line = 0; col = 0 }
+faultReply (Undefined l c) = record { number = refusals.undefinedVariable; line = l; col = c }
+faultReply (UsedBefore l c) = record { number = refusals.usedBeforeDefinition; line = l; col = c }
+faultReply (Lengths l c) = record { number = refusals.lengthsDiffer; line = l; col = c }
+faultReply IndexVariable = record { number = refusals.indexInPattern; line = 0; col = 0 }
 
 -- A reply and three buffers, as all that a call leaves.
 abbrev pub asLeft : Reply → List ℕ → List ℕ → List ℕ → Left
@@ -64,5 +65,5 @@ module _ (room : ℕ) (text : List ℕ) where
       → Replies room (fitting room text) (record { number = 0; line = 0; col = 0 }) (text ++ replicate (room - length text) 0)
   fits-replies h tables work = rw (le-leb (length text) room h)
 
-  pub not-replies : room < length text → Replies room (fitting room text) (record { number = 7; line = 0; col = 0 }) (replicate room 0)
+  pub not-replies : room < length text → Replies room (fitting room text) (record { number = refusals.textTooLong; line = 0; col = 0 }) (replicate room 0)
   not-replies h tables work = rw (lt-leb (length text) room h)

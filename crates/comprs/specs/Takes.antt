@@ -15,7 +15,7 @@ use Rattle.names.specs.declared.Names.{Names}
 use Rattle.scopes.specs.NameSets.{empty, contains}
 use Rattle.scopes.specs.Scopes.{Scope}
 use Rattle.analysis.specs.States.{QuerySchedule, scheduleOf, scopeIn}
-use Rattle.answers.specs.Rows.{mark}
+use Rattle.turns.specs.Turns.{mark}
 use Rattle.answer.specs.Stored.{wordAt, StoredAt, Stored}
 use Rattle.frame.specs.Table.{answersOf}
 use Rattle.comprs.specs.declared.taken.Taken.{Taken}

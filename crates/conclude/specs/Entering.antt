@@ -17,7 +17,7 @@ use Rattle.schedule.specs.declared.Outcome.{Outcome}
 use Rattle.schedule.specs.Call.{outcome, Scheduled}
 use Rattle.trees.specs.Sheet.{nameBound}
 use Rattle.analysis.specs.States.{QuerySchedule, scheduleOf}
-use Rattle.answers.specs.Rows.{mark}
+use Rattle.turns.specs.Turns.{mark}
 use Rattle.sizes.specs.Lists.{find-some}
 use Rattle.sizes.specs.Adds.{Fits}
 use Rattle.gather.specs.declared.scope.Scope.{Scope}

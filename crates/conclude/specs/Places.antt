@@ -14,7 +14,7 @@ use Rattle.basics.specs.Members.{getD-mem, mem-elem}
 use Rattle.buffers.specs.Fills.{length-range}
 use Rattle.walks.specs.Walked.{walked-below}
 use Rattle.turns.specs.Definitions.{Definition}
-use Rattle.turns.specs.Turns.{placed, order, reached}
+use Rattle.turns.specs.Turns.{placed, order, reached, mark}
 use Rattle.turns.specs.Orders.{placedOrder}
 use Rattle.turns.specs.Labels.{placed-by-order, order-by-order}
 use Rattle.turns.specs.OrderWalks.{placed-walked}
@@ -23,7 +23,7 @@ use Rattle.rows.specs.Zeros.{zero-at}
 use Rattle.bounds.specs.Question.{accepts}
 use Rattle.bounds.specs.Answers.{accepted}
 use Rattle.schedule.specs.declared.Outcome.{Outcome}
-use Rattle.schedule.specs.Call.{mark, orderBuffer, reachedBuffer, Scheduled}
+use Rattle.schedule.specs.Call.{orderBuffer, reachedBuffer, Scheduled}
 use Rattle.schedule.specs.Leaves.{getD-map-range}
 use Rattle.answer.specs.Stored.{PlaceIn}
 use Rattle.store.specs.Words.{placeWord}

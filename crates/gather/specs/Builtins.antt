@@ -11,7 +11,8 @@ use Rattle.basics.specs.Ranges.{range, range-nil, range-cons}
 use Rattle.records.specs.declared.Builtin.{Builtin}
 use Rattle.records.specs.Layout.{builtinAt}
 use Rattle.trees.specs.Sheet.{sheetOf, rowsTo}
-use Rattle.trees.specs.Lists.{find, same}
+use Rattle.trees.specs.Lists.{find}
+use Rattle.text.specs.Form.{same}
 use Rattle.trees.specs.Paths.{pathOf, builtinWith}
 use Rattle.gather.specs.declared.paths.Path.{Path}
 use Rattle.gather.specs.Sheets.{sheetAt}

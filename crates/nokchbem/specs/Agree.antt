@@ -8,10 +8,10 @@ use lib.ListN.{length, replicate}
 use Rattle.basics.specs.Lists.{all}
 use Rattle.basics.specs.Ranges.{range}
 use Rattle.turns.specs.Definitions as Turns
-use Rattle.turns.specs.Turns.{placed, order, reached}
+use Rattle.turns.specs.Turns.{placed, order, reached, mark}
 use Rattle.rows.specs.Rows.{definitions}
 use Rattle.bounds.specs.Question.{within, accepts}
-use Rattle.schedule.specs.Call.{scheduleNumber, outcome, mark}
+use Rattle.schedule.specs.Call.{scheduleNumber, outcome}
 use Rattle.definitions.specs.declared.Definition.{Definition}
 use Rattle.definitions.specs.Rows.{rowsOfRecords, definitionOf}
 use Rattle.definitions.specs.RowLaws.{rows-length, rows-define}

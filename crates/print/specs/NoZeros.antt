@@ -9,6 +9,7 @@ use native.Mathlib.Omega.{arith}
 use lib.Dec.{ltb, leb}
 use lib.ListN.{length}
 use borrow.Author.Tests.{lt-ltb}
+use Rattle.basics.specs.Refusals as refusals
 use Rattle.basics.specs.Truth.{bool-cases, and-intro, and-left, and-right}
 use Rattle.basics.specs.Lists.{all}
 use Rattle.text.specs.Bytes.{bytes}
@@ -76,7 +77,7 @@ Told (answered text) = noZeros text ≡ true
 fitting-told : (room : ℕ) (text : List ℕ) → noZeros text ≡ true → Told (fitting room text)
 fitting-told room text h = go (leb (length text) room)
   where
-    go : (b : Bool) → Told (cond b (answered text) (refused 7 0 0))
+    go : (b : Bool) → Told (cond b (answered text) (refused refusals.textTooLong 0 0))
     go true = h
     go false = omega arith
 

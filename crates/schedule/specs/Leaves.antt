@@ -10,7 +10,7 @@ use borrow.Author.Tests.{eq-eqb, ne-eqb}
 use Rattle.basics.specs.Lists.{elem}
 use Rattle.basics.specs.Ranges.{counted, range}
 use Rattle.buffers.specs.Fills.{length-range}
-use Rattle.turns.specs.Turns.{placed, order, reached}
+use Rattle.turns.specs.Turns.{placed, order, reached, mark}
 use Rattle.turns.specs.Orders.{placedOrder}
 use Rattle.turns.specs.Labels.{placed-by-order, order-by-order, reached-by-order}
 use Rattle.rows.specs.Rows.{definitions}
@@ -18,7 +18,7 @@ use Rattle.rows.specs.Zeros.{zero-at}
 use Rattle.bounds.specs.Question.{accepts}
 use Rattle.place.specs.State.{After}
 use Rattle.place.specs.declared.State.{State}
-use Rattle.schedule.specs.Call.{mark, Scheduled}
+use Rattle.schedule.specs.Call.{Scheduled}
 use Rattle.schedule.specs.declared.Outcome.the-variants.{Refused, Placed, Unplaced}
 
 -- ---- lists with zeros

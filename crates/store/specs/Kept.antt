@@ -17,7 +17,7 @@ use Rattle.trees.specs.Lists.{isSome}
 use Rattle.trees.specs.Sheet.{nameBound}
 use Rattle.scopes.specs.Scopes.{Span, spanIn}
 use Rattle.analysis.specs.States.{QuerySchedule, scheduleOf}
-use Rattle.answers.specs.Rows.{mark}
+use Rattle.turns.specs.Turns.{mark}
 use Rattle.answer.specs.Stored.{wordAt, setAt, SpanIn, PlaceIn, Analysed, StoredAt, Stored}
 use Rattle.gather.specs.declared.scope.Scope.{Scope}
 use Rattle.gather.specs.Agrees.{Sets}

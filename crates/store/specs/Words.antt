@@ -5,7 +5,7 @@ use mathlib.Core.List.{List, [], _∷_}
 use Prim.Native.Nat.{ℕ, _+_, _-_, _*_, _≤_, _<_}
 use native.Mathlib.Omega.{arith}
 use lib.ListN.{length, getD}
-use Rattle.answers.specs.Rows.{mark}
+use Rattle.turns.specs.Turns.{mark}
 use Rattle.answer.specs.Stored.{wordAt}
 use Rattle.gather.specs.declared.scope.Scope.{Scope}
 use Rattle.store.specs.Writes.{Written, from}

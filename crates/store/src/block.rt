@@ -7,7 +7,7 @@ use gather::scope::Scope;
 ghost use mathlib.Core.Path.{_≡_};
 ghost use Prim.Native.Nat.{_+_, _≤_};
 ghost use lib.ListN.{length};
-ghost use Rattle.answers.specs.Rows.{mark};
+ghost use Rattle.turns.specs.Turns.{mark};
 ghost use Rattle.store.specs.Writes.{Written, from};
 ghost use Rattle.store.specs.Words.{headWords, BlockWritten};
 

@@ -1,9 +1,7 @@
 -- Functions on lists that the definitions of the analysis use.
-use mathlib.Core.Bool.{Bool, true, false, cond, _||_, _&&_}
+use mathlib.Core.Bool.{Bool, true, false, cond, _||_}
 use mathlib.Core.List.{List, [], _∷_, _++_}
 use mathlib.Core.Option.{Option, none, some}
-use Prim.Native.Nat.{ℕ}
-use lib.Dec.{eqb}
 
 module _ {A B : Type 0} where
   -- What f gives at each element, one after the other.
@@ -39,10 +37,3 @@ module _ {A : Type 0} where
   abbrev pub toList : Option A → List A
   toList none = []
   toList (some a) = a ∷ []
-
--- Are two lists of numbers the same?
-abbrev pub same : List ℕ → List ℕ → Bool
-same [] [] = true
-same [] (y ∷ l) = false
-same (x ∷ k) [] = false
-same (x ∷ k) (y ∷ l) = eqb x y && same k l

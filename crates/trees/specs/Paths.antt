@@ -7,7 +7,8 @@ use lib.Dec.{eqb, ltb}
 use lib.ListN.{length}
 use Rattle.basics.specs.Lists.{filter}
 use Rattle.records.specs.declared.Builtin.{Builtin}
-use Rattle.trees.specs.Lists.{find, last, same}
+use Rattle.trees.specs.Lists.{find, last}
+use Rattle.text.specs.Form.{same}
 use Rattle.trees.specs.Sheet.{Sheet}
 use Rattle.trees.specs.Kinds.{isString, isVar, isCall, isRefDot, isRefBrack}
 use Rattle.trees.specs.Trees.{Tree, nil, node, rowOf, firstOf, secondOf, chain}

@@ -8,7 +8,8 @@ use Rattle.basics.specs.Lists.{all}
 use Rattle.basics.specs.Ranges.{range}
 use Rattle.turns.specs.Definitions.{Definition}
 use Rattle.text.specs.Bytes.{bytes}
-use Rattle.trees.specs.Lists.{same, any, concatMap}
+use Rattle.trees.specs.Lists.{any, concatMap}
+use Rattle.text.specs.Form.{same}
 use Rattle.trees.specs.Sheet.{Sheet}
 use Rattle.analysis.specs.RustWay.{recorded}
 use Rattle.trees.specs.Sheet.{sheetIn}

@@ -80,3 +80,7 @@ module _ (defs : List Definition) (n : ℕ) where
   -- Was statement i reached?
   abbrev pub reached : ℕ → ℕ → Bool
   reached m i = elem i (statements (placements m))
+
+-- A mark as a number.
+abbrev pub mark : Bool → ℕ
+mark b = cond b 1 0
