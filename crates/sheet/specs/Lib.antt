@@ -6,3 +6,4 @@ pub mod TextLines
 pub mod LineBounds
 pub mod Passed
 pub mod Trials
+pub mod FieldTrials

@@ -7,6 +7,7 @@ use Prim.Native.String.{String, _++_}
 use lib.Dec.{eqb}
 use Rattle.basics.specs.Lists.{all}
 use Rattle.text.specs.Bytes.{bytes}
+use Rattle.text.specs.Limits as limits
 use Rattle.text.specs.Lines.{lines}
 use Rattle.text.specs.Numbers as numbers
 use Rattle.text.specs.Sections.{sections, lineOf}
@@ -25,15 +26,27 @@ use Rattle.naming.specs.Chains.{varsIn, endsIn, allVars, endsOdd}
 use Rattle.naming.specs.Faults.{fieldFault, entriesFault, isNamedSo, isMember, exprFault, statementFault, queryFault, pathBefore, builtinFault}
 use Rattle.naming.specs.Lines.{firstAtFault, firstLine}
 use Rattle.trees.specs.Sheet.{sheetIn}
+use Rattle.sheet.specs.declared.Outcome.{Outcome}
 use Rattle.sheet.specs.Verdict.{number, faultLine, emptyTables, readTables, fieldsFault, asked, verdict}
 
--- Is the text refused so, where there is room?
+-- The outcome of a text, where there is room; opened so that it computes.
+unfoldable pub judged : String → Outcome
+unfolding bytes lines numbers.words numbers.value numbers.isNumber numbers.areNumbers numbers.values sections block wholeFrom form faultOf rowsIn before nameFault
+    nameRow rowOfName lineOf overLine noQueryLine countFault formFault sectionRows namesFault countsFault
+    tables putSections putRows areas areasFrom kinds forms kindOf formOf
+    target placeOf exprEntries statementEntries queryEntries namers inChain entryNaming rowNamings byQueries byStatements byExprs namings
+    grown enclosing parent levelIn level varsIn endsIn allVars endsOdd
+    fieldFault entriesFault isNamedSo isMember exprFault statementFault queryFault pathBefore builtinFault
+    firstAtFault firstLine emptyTables readTables sheetIn fieldsFault asked verdict
+judged s = verdict (bytes s) limits.tables limits.work
+
+-- Is the text refused so?
 abbrev pub passes : Trial → Bool
 passes t =
-    let r = verdict (bytes (t .text)) 8192 8192 in
+    let r = judged (t .text) in
     eqb (number r) (t .number) && eqb (faultLine r) (t .line)
 
-abbrev trial : String → ℕ → ℕ → Trial
+abbrev pub trial : String → ℕ → ℕ → Trial
 trial s n l = record { text = s; number = n; line = l }
 
 -- The parts of the specification's sheet.
@@ -105,13 +118,7 @@ trials =
     ∷ []
 
 pub trials-pass : all passes trials ≡ true
-unfolding bytes lines numbers.words numbers.value numbers.isNumber numbers.areNumbers numbers.values sections block wholeFrom form faultOf rowsIn before nameFault
-    nameRow rowOfName lineOf overLine noQueryLine countFault formFault sectionRows namesFault countsFault
-    tables putSections putRows areas areasFrom kinds forms kindOf formOf
-    target placeOf exprEntries statementEntries queryEntries namers inChain entryNaming rowNamings byQueries byStatements byExprs namings
-    grown enclosing parent levelIn level varsIn endsIn allVars endsOdd
-    fieldFault entriesFault isNamedSo isMember exprFault statementFault queryFault pathBefore builtinFault
-    firstAtFault firstLine emptyTables readTables sheetIn fieldsFault asked verdict
+unfolding judged
 trials-pass = refl
 
 -- Question 1 comes before all others.
