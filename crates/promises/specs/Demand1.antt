@@ -7,6 +7,7 @@ use mathlib.Core.Logic.{_⊎_, inl, inr}
 use Prim.Native.Nat.{ℕ, _+_, _-_, _*_, _/_, _%_, _^_, _≤_}
 use native.Mathlib.Omega.{arith}
 use lib.ListN.{length, replicate}
+use Rattle.basics.specs.Refusals as refusals
 use Rattle.text.specs.Limits as limits
 use Rattle.schedule.specs.Call.{refusal}
 use Rattle.sheet.specs.declared.Outcome.{Outcome}
@@ -95,9 +96,9 @@ module _ {s : List ℕ} {tables work r : ℕ} {t w : List ℕ} (call : ReadCall 
 
       go : (o : Outcome) → verdict s tables work ≡ o → HasRead
       go Read e = succeeds (call .returned ∙ rw e) e (call .tabled ∙ rw e) (call .worked)
-      go NoRoom e = refused-at NoRoom 1 0 e (at NoRoom e) (rw e at (outcomes s tables work 0)) refl
-      go TooLong e = refused-at TooLong 2 0 e (at TooLong e) (rw e at (outcomes s tables work 0)) refl
-      go (BadForm l) e = refused-at (BadForm l) 3 l e (at (BadForm l) e) (rw e at (outcomes s tables work 0)) refl
-      go (BadName l) e = refused-at (BadName l) 4 l e (at (BadName l) e) (rw e at (outcomes s tables work 0)) refl
-      go (BadCount l) e = refused-at (BadCount l) 5 l e (at (BadCount l) e) (rw e at (outcomes s tables work 0)) refl
-      go (BadField l) e = refused-at (BadField l) 6 l e (at (BadField l) e) (rw e at (outcomes s tables work 0)) refl
+      go NoRoom e = refused-at NoRoom refusals.noRoom 0 e (at NoRoom e) (rw e at (outcomes s tables work 0)) refl
+      go TooLong e = refused-at TooLong refusals.tooLong 0 e (at TooLong e) (rw e at (outcomes s tables work 0)) refl
+      go (BadForm l) e = refused-at (BadForm l) refusals.badForm l e (at (BadForm l) e) (rw e at (outcomes s tables work 0)) refl
+      go (BadName l) e = refused-at (BadName l) refusals.badName l e (at (BadName l) e) (rw e at (outcomes s tables work 0)) refl
+      go (BadCount l) e = refused-at (BadCount l) refusals.badCount l e (at (BadCount l) e) (rw e at (outcomes s tables work 0)) refl
+      go (BadField l) e = refused-at (BadField l) refusals.badField l e (at (BadField l) e) (rw e at (outcomes s tables work 0)) refl

@@ -21,7 +21,7 @@ use Rattle.analysis.specs.RustWay.{analyzeQuerySnippet}
 use Rattle.answers.specs.Call.{Result, Left, refused, answered, leftBy, left, result}
 use Rattle.nokchbem.specs.Calls.{leftNumber, readNumber, AnalyzeCall, ReadCall}
 use Rattle.promises.specs.Questions.{Question, finishes, firstNo, text, questions, asked-in-turn}
-use Rattle.promises.specs.Positions.{Position, whole, at-line, at-span}
+use Rattle.promises.specs.Positions.{Position, ofTheWhole, ofTheSheet, ofTheWalk, whole, at-line, at-span}
 use Rattle.promises.specs.Demand1.{Parts, numberIn, analyze-refuses-or-succeeds, read-refuses-or-succeeds}
 use Rattle.promises.specs.Demand1 as one
 
@@ -62,9 +62,9 @@ finished-sound indexVariable h = absurd (not-both h refl)
 
 -- No refusal has the number 0.
 some-number : {n l c : ℕ} → Position n l c → n ≡ 0 → ⊥
-some-number {n} (whole h) z = absurd (not-both (ap (λ (m : ℕ). elem m (1 ∷ 2 ∷ 7 ∷ 14 ∷ [])) (sym z) ∙ h) refl)
-some-number {n} (at-line h l) z = absurd (not-both (ap (λ (m : ℕ). elem m (3 ∷ 4 ∷ 5 ∷ 6 ∷ [])) (sym z) ∙ h) refl)
-some-number {n} (at-span h) z = absurd (not-both (ap (λ (m : ℕ). elem m (11 ∷ 12 ∷ 13 ∷ [])) (sym z) ∙ h) refl)
+some-number {n} (whole h) z = absurd (not-both (ap (λ (m : ℕ). elem m ofTheWhole) (sym z) ∙ h) refl)
+some-number {n} (at-line h l) z = absurd (not-both (ap (λ (m : ℕ). elem m ofTheSheet) (sym z) ∙ h) refl)
+some-number {n} (at-span h) z = absurd (not-both (ap (λ (m : ℕ). elem m ofTheWalk) (sym z) ∙ h) refl)
 
 module _ {s : List ℕ} {tables work room r : ℕ} {t w a : List ℕ} (call : AnalyzeCall s tables work room r t w a) where
   -- What it returns and leaves is a function of the bytes and of how long the lent buffers are: it depends on nothing else, and on nothing that

@@ -8,6 +8,7 @@ use lib.Dec.{eqb, leb}
 use lib.ListN.{length}
 use borrow.Author.Tests.{eqb-false, leb-true}
 use Rattle.basics.specs.Lists.{elem}
+use Rattle.basics.specs.Refusals as refusals
 use Rattle.text.specs.Limits as limits
 use Rattle.text.specs.Questions.{shortEnough, formFault, namesFault, countsFault}
 use Rattle.trees.specs.Sheet.{sheetIn}
@@ -17,14 +18,24 @@ use Rattle.analysis.specs.RustWay.{analyzeQuerySnippet}
 use Rattle.answers.specs.Call.{Result, refused, answered, result}
 use Rattle.promises.specs.Questions.{Question, ask, finishes, firstNo, text, questions, asked-in-turn}
 
+-- The refusals of an input as a whole, and 14, to which the Rust gives no position; those of the sheet; and those of the walk.
+abbrev pub ofTheWhole : List ℕ
+ofTheWhole = refusals.noRoom ∷ refusals.tooLong ∷ refusals.textTooLong ∷ refusals.indexInPattern ∷ []
+
+abbrev pub ofTheSheet : List ℕ
+ofTheSheet = refusals.badForm ∷ refusals.badName ∷ refusals.badCount ∷ refusals.badField ∷ []
+
+abbrev pub ofTheWalk : List ℕ
+ofTheWalk = refusals.undefinedVariable ∷ refusals.usedBeforeDefinition ∷ refusals.lengthsDiffer ∷ []
+
 -- A refusal's number and where it lies.
 pub data Position : ℕ → ℕ → ℕ → Type 0 where
-  -- Of the input as a whole, and 14, to which the Rust gives no position: at 0 0.
-  whole : {n : ℕ} → elem n (1 ∷ 2 ∷ 7 ∷ 14 ∷ []) ≡ true → Position n 0 0
-  -- Of the sheet: at the first line at fault, counted from 1; the column is 0.
-  at-line : {n l : ℕ} → elem n (3 ∷ 4 ∷ 5 ∷ 6 ∷ []) ≡ true → 1 ≤ l → Position n l 0
-  -- Of the walk: at the position of an expression.
-  at-span : {n l c : ℕ} → elem n (11 ∷ 12 ∷ 13 ∷ []) ≡ true → Position n l c
+  -- At 0 0.
+  whole : {n : ℕ} → elem n ofTheWhole ≡ true → Position n 0 0
+  -- At the first line at fault, counted from 1; the column is 0.
+  at-line : {n l : ℕ} → elem n ofTheSheet ≡ true → 1 ≤ l → Position n l 0
+  -- At the position of an expression.
+  at-span : {n l c : ℕ} → elem n ofTheWalk ≡ true → Position n l c
 
 -- A refusal with its position, or a text for which there is room.
 pub data Outcomes (room : ℕ) : Result → Type 0 where
@@ -43,11 +54,11 @@ module _ (room : ℕ) where
       go true at = rest
       go false at = refusal-at (at refl)
 
-  last : (t : List ℕ) → Outcomes room (firstNo (ask (leb (length t) room) 7 0 0 ∷ []) t)
+  last : (t : List ℕ) → Outcomes room (firstNo (ask (leb (length t) room) refusals.textTooLong 0 0 ∷ []) t)
   unfolding firstNo
   last t = go (leb (length t) room) refl
     where
-      go : (b : Bool) → leb (length t) room ≡ b → Outcomes room (cond b (answered t) (refused 7 0 0))
+      go : (b : Bool) → leb (length t) room ≡ b → Outcomes room (cond b (answered t) (refused refusals.textTooLong 0 0))
       go true e = a-text (leb-true (length t) room e)
       go false e = refusal-at (whole refl)
 

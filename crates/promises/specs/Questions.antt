@@ -5,6 +5,7 @@ use mathlib.Core.List.{List, [], _∷_}
 use Prim.Native.Nat.{ℕ}
 use lib.Dec.{eqb, leb}
 use lib.ListN.{length}
+use Rattle.basics.specs.Refusals as refusals
 use Rattle.text.specs.Limits as limits
 use Rattle.text.specs.Questions.{shortEnough, formFault, namesFault, countsFault}
 use Rattle.sheet.specs.declared.Outcome.{Outcome}
@@ -29,10 +30,10 @@ ask b n l c = record { yes = b; number = n; line = l; col = c }
 -- Does the walk finish without an error?
 abbrev pub finishes : Fault → Question
 finishes sound = ask true 0 0 0
-finishes (undefined l c) = ask false 11 l c
-finishes (usedBefore l c) = ask false 12 l c
-finishes (lengths l c) = ask false 13 l c
-finishes indexVariable = ask false 14 0 0
+finishes (undefined l c) = ask false refusals.undefinedVariable l c
+finishes (usedBefore l c) = ask false refusals.usedBeforeDefinition l c
+finishes (lengths l c) = ask false refusals.lengthsDiffer l c
+finishes indexVariable = ask false refusals.indexInPattern 0 0
 
 -- What the first question says whose answer is no; if there is none, the text.
 unfoldable pub firstNo : List Question → List ℕ → Result
@@ -47,20 +48,20 @@ text s = answerText (length (sheetIn s .queries)) (analyzeQuerySnippet (sheetIn 
 module _ (s : List ℕ) (tables work room : ℕ) where
   abbrev pub questions : List Question
   questions =
-      ask (leb limits.tables tables && leb limits.work work) 1 0 0
-      ∷ ask (shortEnough s) 2 0 0
-      ∷ ask (eqb (formFault s) 0) 3 (formFault s) 0
-      ∷ ask (eqb (namesFault s) 0) 4 (namesFault s) 0
-      ∷ ask (eqb (countsFault s) 0) 5 (countsFault s) 0
-      ∷ ask (eqb (fieldsFault s) 0) 6 (fieldsFault s) 0
+      ask (leb limits.tables tables && leb limits.work work) refusals.noRoom 0 0
+      ∷ ask (shortEnough s) refusals.tooLong 0 0
+      ∷ ask (eqb (formFault s) 0) refusals.badForm (formFault s) 0
+      ∷ ask (eqb (namesFault s) 0) refusals.badName (namesFault s) 0
+      ∷ ask (eqb (countsFault s) 0) refusals.badCount (countsFault s) 0
+      ∷ ask (eqb (fieldsFault s) 0) refusals.badField (fieldsFault s) 0
       ∷ finishes (analyzeQuerySnippet (sheetIn s) .fault)
-      ∷ ask (leb (length (text s)) room) 7 0 0
+      ∷ ask (leb (length (text s)) room) refusals.textTooLong 0 0
       ∷ []
 
   -- ---- the definition of the call asks them
 
   last-two : (f : Fault)
-      → finished (length (sheetIn s .queries)) room (analyzeQuerySnippet (sheetIn s)) f ≡ firstNo (finishes f ∷ ask (leb (length (text s)) room) 7 0 0 ∷ []) (text s)
+      → finished (length (sheetIn s .queries)) room (analyzeQuerySnippet (sheetIn s)) f ≡ firstNo (finishes f ∷ ask (leb (length (text s)) room) refusals.textTooLong 0 0 ∷ []) (text s)
   unfolding firstNo
   last-two sound = refl
   last-two (undefined l c) = refl
@@ -79,8 +80,8 @@ module _ (s : List ℕ) (tables work room : ℕ) where
           (cond a (cond b (cond c (cond d (cond e (cond f Read (BadField (fieldsFault s))) (BadCount (countsFault s))) (BadName (namesFault s))) (BadForm (formFault s))) TooLong)
           NoRoom)
           ≡ firstNo
-          (ask a 1 0 0 ∷ ask b 2 0 0 ∷ ask c 3 (formFault s) 0 ∷ ask d 4 (namesFault s) 0 ∷ ask e 5 (countsFault s) 0 ∷ ask f 6 (fieldsFault s) 0
-          ∷ finishes (analyzeQuerySnippet (sheetIn s) .fault) ∷ ask (leb (length (text s)) room) 7 0 0 ∷ [])
+          (ask a refusals.noRoom 0 0 ∷ ask b refusals.tooLong 0 0 ∷ ask c refusals.badForm (formFault s) 0 ∷ ask d refusals.badName (namesFault s) 0 ∷ ask e refusals.badCount (countsFault s) 0 ∷ ask f refusals.badField (fieldsFault s) 0
+          ∷ finishes (analyzeQuerySnippet (sheetIn s) .fault) ∷ ask (leb (length (text s)) room) refusals.textTooLong 0 0 ∷ [])
           (text s)
       go false b c d e f = refl
       go true false c d e f = refl

@@ -12,6 +12,7 @@ use Rattle.basics.specs.Truth.{and-left, and-right}
 use Rattle.basics.specs.Lists.{elem, all}
 use Rattle.basics.specs.Members.{all-mem}
 use Rattle.basics.specs.Ranges.{range}
+use Rattle.basics.specs.Refusals as refusals
 use Rattle.turns.specs.Definitions as turns
 use Rattle.turns.specs.Definitions.{Named}
 use Rattle.turns.specs.PlainWalk.{plainWalk, WalkEnded, canBeWalked}
@@ -31,7 +32,7 @@ use Rattle.promises.specs.Demand1.{Parts}
 
 -- A list out of bounds: 8 at 0 0, and every entry of both buffers is 0.
 pub record Refused (room marks r : ℕ) (o m : List ℕ) : Type 0 where
-  pub parts : Parts r 8 0 0
+  pub parts : Parts r refusals.badList 0 0
   pub no-order : o ≡ replicate room 0
   pub no-marks : m ≡ replicate marks 0
 
