@@ -7,7 +7,7 @@ use literals::context::Context;
 use literals::some::non_var;
 use literals::used_names::used_names;
 use names::Names;
-use trees::row_at;
+use records::row_at;
 use used::assigned::pattern_of;
 use using::Using;
 ghost use mathlib.Core.Path.{_≡_};

@@ -3,7 +3,7 @@
 
 use marks::ROWS;
 use records::Counts;
-use records::expr_at;
+use records::row_at;
 ghost use mathlib.Core.Path.{_≡_};
 ghost use Prim.Native.Nat.{_≤_};
 ghost use lib.ListN.{length};
@@ -28,7 +28,7 @@ pub fn is_var(tables: &[u16], counts: Counts, row: usize) -> bool
     requires { ⌜ (8192 ≤ length (now tables)) × (row ≤ 512) ⌝ }
     ensures { λ r. ⌜ r ≡ isVarAt counts (inTables (now (tables .entry))) row ⌝ }
 {
-    let x = expr_at(tables, row);
+    let x = row_at(tables, row);
     x.kind == VAR
 }
 
@@ -67,7 +67,7 @@ fn number_of(work: &[u64], tables: &[u16], counts: Counts, row: usize) -> u64
     requires { ⌜ (1186 ≤ length (now work)) × (8192 ≤ length (now tables)) × (row ≤ 512) × Within counts ⌝ }
     ensures { λ r. ⌜ r ≡ numberBy counts (now (tables .entry)) (now (work .entry)) row ⌝ }
 {
-    let x = expr_at(tables, row);
+    let x = row_at(tables, row);
     let rest = rest_after(work, counts, row, x.next as usize);
     one_more(x.kind == VAR, rest)
 }

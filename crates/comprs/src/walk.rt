@@ -7,7 +7,7 @@ use branches::next_of;
 use gather::scope::Scope;
 use names::Names;
 use records::Row;
-use trees::row_at;
+use records::row_at;
 use used::row::is_compr;
 ghost use Prim.Native.Nat.{_≤_};
 ghost use lib.ListN.{length, getD};

@@ -12,7 +12,7 @@ use borrow.Author.Tests.{eqb-true, leb-false, eq-eqb, ne-eqb, lt-ltb, le-ltb}
 use Rattle.basics.specs.Truth.{bool-cases, eq-cases}
 use Rattle.records.specs.declared.Counts.{Counts}
 use Rattle.records.specs.declared.Builtin.{Builtin}
-use Rattle.records.specs.declared.Expr.{Expr}
+use Rattle.records.specs.declared.Row.{Row}
 use Rattle.records.specs.declared.Statement.{Statement}
 use Rattle.records.specs.Layout.{Within, builtinAt, exprAt, statementAt, firstAt}
 use Rattle.fields.specs.declared.Field.{Field}
@@ -56,7 +56,7 @@ module _ (c : Counts) (within : Within c) where
   queries-small s v e h = let l : v ≤ c .queries = subst (λ (k : ℕ). v ≤ limitOf c k) e h in omega arith
 
 -- Has a row a part?
-abbrev pub partsIn : Expr → Bool
+abbrev pub partsIn : Row → Bool
 partsIn x = not (eqb (x .first) 0) || (not (eqb (x .second) 0) || not (eqb (x .third) 0))
 
 module _ (c : Counts) (t : List ℕ) where
@@ -98,7 +98,7 @@ module _ (c : Counts) (t : List ℕ) where
 
   -- ---- the fields of a row
 
-  unfoldable pub partsBy : ℕ → ℕ → ℕ → Expr → Bool
+  unfoldable pub partsBy : ℕ → ℕ → ℕ → Row → Bool
   partsBy q fs next x =
       faultOf q fs (x .name) || (faultOf q (fs / first) (x .first) || (faultOf q (fs / second) (x .second)
       || (faultOf q (fs / third) (x .third) || (faultOf q next (x .next) || false))))
@@ -118,7 +118,7 @@ module _ (c : Counts) (t : List ℕ) where
       go (inr e) = rw (ne-eqb v 0 e, lt-ltb 0 v (omega arith))
 
   -- No parts are listed.
-  pub leaf-parts : (q fs next : ℕ) (x : Expr) → fs < first
+  pub leaf-parts : (q fs next : ℕ) (x : Row) → fs < first
       → partsBy q fs next x ≡ (faultOf q fs (x .name) || (partsIn x || (faultOf q next (x .next) || false)))
   unfolding partsBy
   leaf-parts q fs next x h =
@@ -145,7 +145,7 @@ module _ (c : Counts) (t : List ℕ) where
 
   -- ---- a row with mark v
 
-  unfoldable pub exprBy : ℕ → Expr → Bool
+  unfoldable pub exprBy : ℕ → Row → Bool
   exprBy v x =
       not (eqb (v % 4) 1) || ((eqb (x .kind) 0 || ltb 22 (x .kind))
       || partsBy (v / 8) (kindFields (x .kind)) (cond (eqb (v / 4 % 2) 1) chainOrNone 0) x)

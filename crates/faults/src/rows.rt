@@ -14,10 +14,10 @@ use marks::EXPR_ROW;
 use marks::STATEMENT_ROW;
 use marks::next_holds;
 use records::Counts;
-use records::Expr;
+use records::Row;
 use records::Statement;
-use records::expr_at;
 use records::first_at;
+use records::row_at;
 use records::statement_at;
 ghost use mathlib.Core.Path.{_≡_};
 ghost use Prim.Native.Nat.{_≤_};
@@ -29,7 +29,7 @@ ghost use Rattle.records.specs.Rows.{inTables};
 // ---- expressions
 
 // Does the row have a part at all?
-fn has_parts(x: Expr) -> bool
+fn has_parts(x: Row) -> bool
     ensures { λ r. ⌜ r ≡ partsIn x ⌝ }
 {
     if x.first != 0 {
@@ -49,7 +49,7 @@ fn parts_fault(
     q: usize,
     fs: u32,
     next: u32,
-    x: Expr,
+    x: Row,
 ) -> bool
     requires { ⌜ Known counts (now tables) (now work) ⌝ }
     ensures { λ r. ⌜ r ≡ partsBy counts (now (tables .entry)) q fs next x ⌝ }
@@ -76,7 +76,7 @@ fn parts_fault(
 }
 
 // Is an expression with such a mark at fault?
-fn judge_expr(work: &[u64], tables: &[u16], counts: Counts, mark: u64, x: Expr) -> bool
+fn judge_expr(work: &[u64], tables: &[u16], counts: Counts, mark: u64, x: Row) -> bool
     requires { ⌜ Known counts (now tables) (now work) ⌝ }
     ensures { λ r. ⌜ r ≡ exprBy counts (now (tables .entry)) mark x ⌝ }
 {
@@ -99,7 +99,7 @@ pub(crate) fn expr_fault(work: &[u64], tables: &[u16], counts: Counts, row: usiz
     requires { ⌜ Known counts (now tables) (now work) × (1 ≤ row) × (row ≤ counts .exprs) ⌝ }
     ensures { λ r. ⌜ r ≡ exprFault counts (inTables (now (tables .entry))) row ⌝ }
 {
-    let x = expr_at(tables, row);
+    let x = row_at(tables, row);
     let mark = work[EXPR_ROW + row];
     judge_expr(work, tables, counts, mark, x)
 }

@@ -7,7 +7,7 @@ use crate::special::is_input;
 use crate::special::is_special;
 use branches::next_of;
 use records::Row;
-use trees::row_at;
+use records::row_at;
 ghost use mathlib.Core.Path.{_≡_};
 ghost use mathlib.Core.Bool.{cond};
 ghost use mathlib.Core.List.{List};

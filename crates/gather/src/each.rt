@@ -3,7 +3,7 @@
 use crate::scope::Scope;
 use crate::vars::gather_read;
 use crate::vars::gather_vars;
-use trees::row_at;
+use records::row_at;
 ghost use mathlib.Core.Path.{_≡_};
 ghost use mathlib.Core.List.{List};
 ghost use Prim.Native.Nat.{_≤_};

@@ -4,7 +4,7 @@ use crate::builtins::takes_from;
 use crate::each::next_at;
 use crate::paths::get_path_string;
 use records::Row;
-use trees::row_at;
+use records::row_at;
 ghost use mathlib.Core.Path.{_≡_};
 ghost use mathlib.Core.List.{List};
 ghost use Prim.Native.Nat.{_≤_, _<_};

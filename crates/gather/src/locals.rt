@@ -4,7 +4,7 @@ use crate::scope::Scope;
 use crate::spans::put_span;
 use branches::next_of;
 use records::Row;
-use trees::row_at;
+use records::row_at;
 ghost use mathlib.Core.Path.{_≡_};
 ghost use mathlib.Core.List.{List};
 ghost use Prim.Native.Nat.{_≤_, _<_};

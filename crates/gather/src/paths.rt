@@ -1,7 +1,7 @@
 // `get_path_string`: a simple reference as names. No built-in has a path of more than three, so a longer one is not kept.
 
 use records::Row;
-use trees::row_at;
+use records::row_at;
 ghost use mathlib.Core.Path.{_≡_};
 ghost use mathlib.Core.List.{List, []};
 ghost use mathlib.Core.Option.{none, some};

@@ -9,7 +9,7 @@ use crate::vars::gather_read;
 use crate::vars::gather_vars;
 use crate::vars::is_assign;
 use records::Statement;
-use trees::row_at;
+use records::row_at;
 ghost use mathlib.Core.Path.{_≡_};
 ghost use mathlib.Core.List.{List};
 ghost use Prim.Native.Nat.{_≤_};

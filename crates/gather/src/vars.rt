@@ -5,7 +5,7 @@ use crate::input::gather_input_vars;
 use crate::loops::gather_loop_vars;
 use crate::scope::Scope;
 use records::Row;
-use trees::row_at;
+use records::row_at;
 ghost use mathlib.Core.Path.{_≡_};
 ghost use mathlib.Core.List.{List};
 ghost use Prim.Native.Nat.{_≤_};

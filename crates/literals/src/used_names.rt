@@ -4,7 +4,7 @@ use branches::kids_of;
 use branches::next_of;
 use gather::scope::Scope;
 use names::Names;
-use trees::row_at;
+use records::row_at;
 use used::step::used_step;
 ghost use Prim.Native.Nat.{_≤_};
 ghost use lib.ListN.{getD};

@@ -11,7 +11,7 @@ use lib.Dec.{eqb}
 use lib.ListN.{length, getD, set}
 use lib.Seq.{getD-set-same, getD-set-other}
 use Rattle.records.specs.declared.Counts.{Counts}
-use Rattle.records.specs.declared.Expr.{Expr}
+use Rattle.records.specs.declared.Row.{Row}
 use Rattle.records.specs.declared.Statement.{Statement}
 use Rattle.records.specs.Layout.{Within, exprAt, statementAt}
 use Rattle.fields.specs.declared.Field.{Field}
@@ -38,10 +38,10 @@ fieldsOf x r =
     ∷ fieldOf r (or0 aChain) (x .with) ∷ fieldOf r (or0 aStatement) (x .next) ∷ []
 
 module _ (c : Counts) where
-  abbrev pub partOf : Expr → ℕ → Field → ℕ → Entry
+  abbrev pub partOf : Row → ℕ → Field → ℕ → Entry
   partOf x r f v = record { field = f; value = v; place = placeOf c f (x .third) r }
 
-  abbrev pub partsOf : Bool → Expr → ℕ → List Entry
+  abbrev pub partsOf : Bool → Row → ℕ → List Entry
   partsOf member x r =
       partOf x r (kindOf (x .kind) .name) (x .name)
       ∷ partOf x r (kindOf (x .kind) .first) (x .first)
@@ -84,7 +84,7 @@ module _ (c : Counts) (t : List ℕ) (within : Within c) where
       (marks-row c within (exprRow (suc r)) (exprEntries c (inTables t) (inChain (exprRow (suc r)) (namers (exprRow (suc r)) (byExprs c (inTables t) r))) (suc r)) (byExprs c (inTables t) r) w m))
 
 -- Where a part lies is one of the rows.
-pub place-bound : (c : Counts) → Within c → (f : Field) (x : Expr) (r : ℕ) → r ≤ 512 → placeOf c f (x .third) r ≤ 672
+pub place-bound : (c : Counts) → Within c → (f : Field) (x : Row) (r : ℕ) → r ≤ 512 → placeOf c f (x .third) r ≤ 672
 unfolding placeOf
 place-bound c within f x r h = go (bool-cases (f .term))
   where
@@ -112,7 +112,7 @@ next-held true = chain-held
 next-held false = nothing-held
 
 -- The `name` comes first, and names no row.
-pub parts-work : (c : Counts) (x : Expr) (r : ℕ) (member : Bool) (fs next : ℕ) (w v y z a : List ℕ)
+pub parts-work : (c : Counts) (x : Row) (r : ℕ) (member : Bool) (fs next : ℕ) (w v y z a : List ℕ)
     → fs ≡ kindFields (x .kind) → next ≡ cond member chainOrNone 0
     → v ≡ nameWork c (exprRow r) (partOf c x r (fieldFrom (fs / first)) (x .first)) w
     → y ≡ nameWork c (exprRow r) (partOf c x r (fieldFrom (fs / second)) (x .second)) v

@@ -16,10 +16,10 @@ use fields::field_from;
 use fields::of_form;
 use fields::of_kind;
 use records::Counts;
-use records::Expr;
+use records::Row;
 use records::Statement;
-use records::expr_at;
 use records::first_at;
+use records::row_at;
 use records::statement_at;
 ghost use mathlib.Core.Path.{_≡_};
 ghost use mathlib.Core.List.{[]};
@@ -71,7 +71,7 @@ fn name_statement(work: &mut [u64], counts: Counts, row: usize, x: Statement)
 }
 
 // Where a part of expression `row` lies: a comprehension's term in its query.
-fn place_of(counts: Counts, field: Field, x: Expr, row: usize) -> usize
+fn place_of(counts: Counts, field: Field, x: Row, row: usize) -> usize
     requires { ⌜ row ≤ 512 ⌝ }
     ensures { λ r. ⌜ r ≡ placeOf counts field (x .third) row ⌝ }
 {
@@ -81,7 +81,7 @@ fn place_of(counts: Counts, field: Field, x: Expr, row: usize) -> usize
     EXPR_ROW + row
 }
 
-fn name_part(work: &mut [u64], counts: Counts, row: usize, x: Expr, holds: u32, value: u16)
+fn name_part(work: &mut [u64], counts: Counts, row: usize, x: Row, holds: u32, value: u16)
     requires { ⌜ (673 ≤ length (now work)) × (row ≤ 512) × Within counts ⌝ }
     ensures { λ _. ⌜ now (work .exit) ≡ nameWork counts (exprRow row) (partOf counts x row (fieldFrom holds) value) (now (work .entry)) ⌝ }
 {
@@ -104,7 +104,7 @@ pub fn next_holds(member: bool) -> u32
 }
 
 // A row's `name` is no row that it names.
-fn name_expr(work: &mut [u64], counts: Counts, row: usize, member: bool, x: Expr)
+fn name_expr(work: &mut [u64], counts: Counts, row: usize, member: bool, x: Row)
     requires { ⌜ (673 ≤ length (now work)) × (row ≤ 512) × Within counts ⌝ }
     ensures { λ _. ⌜ now (work .exit) ≡ rowWork counts (exprRow row) (partsOf counts member x row) (now (work .entry)) ⌝ }
 {
@@ -158,7 +158,7 @@ pub(crate) fn name_exprs(work: &mut [u64], tables: &[u16], counts: Counts)
     let mut row = 0;
     while row < counts.exprs {
         row += 1;
-        let x = expr_at(tables, row);
+        let x = row_at(tables, row);
         let mark = work[EXPR_ROW + row];
         name_expr(work, counts, row, mark / 4 % 2 == 1, x);
     }

@@ -16,7 +16,7 @@ use Rattle.basics.specs.Ranges.{range}
 use Rattle.buffers.specs.Fills.{length-range}
 use Rattle.turns.specs.Definitions.{Definition, Named}
 use Rattle.turns.specs.PlainWalk.{plainWalk, WalkEnded, canBeWalked}
-use Rattle.turns.specs.Turns.{statements, placements, placed, order, reached}
+use Rattle.turns.specs.Turns.{statements, placements, placed, order, reached, mark}
 use Rattle.turns.specs.Relisting.{Bijection, Permutes, Relisted}
 use Rattle.turns.specs.Theorems.{OrderOfAll}
 use Rattle.turns.specs.Shared.{PlainWalks, plain-walks}
@@ -31,7 +31,7 @@ use Rattle.once.specs.Queries.{analyzeQuerySnippetOnce, scheduleOnce, recordedO
 use Rattle.once.specs.Own.{ownDefinition}
 use Rattle.once.specs.OwnNames.{own-names}
 use Rattle.once.specs.Named.{found-in, scopes-below, recorded-named}
-use Rattle.answers.specs.Rows.{mark, queryRows, placeRows, setRows}
+use Rattle.answers.specs.Rows.{queryRows, placeRows, setRows}
 use Rattle.nokchbem.specs.Calls.{AnalyzeCall}
 use Rattle.promises.specs.Questions.{text}
 use Rattle.promises.specs.Demand2.{analyze-text, analyze-reads}

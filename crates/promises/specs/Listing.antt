@@ -1,10 +1,10 @@
 -- How the rows of an answer are read, and that own names are listed in them.
-use mathlib.Core.Path.{_≡_, refl, ap, ap₂, _∙_}
+use mathlib.Core.Path.{_≡_, refl, ap, _∙_}
 use mathlib.Core.Bool.{true}
 use mathlib.Core.List.{List, [], _∷_, _++_, map, List·Memᴰ, List·Memᴰ·head, Memᴰ·map}
 use mathlib.Core.Logic.{_⊎_, inl, inr, ⊎-elim}
 use mathlib.Core.Option.{Option, none, some}
-use Prim.Native.Nat.{ℕ, suc, _+_, _-_, _<_}
+use Prim.Native.Nat.{ℕ, _+_, _-_, _<_}
 use native.Mathlib.Omega.{arith}
 use lib.ListN.{length, getD}
 use borrow.Author.Tests.{ltb-true}
@@ -18,6 +18,7 @@ use Rattle.scopes.specs.Scopes.{Span, spanIn, isLocal, owns}
 use Rattle.scopes.specs.Below.{Below}
 use Rattle.analysis.specs.States.{QuerySchedule}
 use Rattle.repeats.specs.Members.{mem-left, mem-right, mem-concatMap}
+use Rattle.sheet.specs.ReadRows.{list-rows}
 use Rattle.answers.specs.Rows.{localRow, setRows}
 
 -- The mark placed, in the row `query placed input` of a query.
@@ -60,14 +61,9 @@ module _ (q : ℕ) (a : QuerySchedule) (low : Below (a .scope)) where
 
 -- ---- a list by its places
 
-counted-list : (f : ℕ → ℕ) (l : List ℕ) (k : ℕ) → ((n : ℕ) → n < length l → f (k + n) ≡ getD l n 0) → map f (counted k (length l)) ≡ l
-counted-list f [] k h = refl
-counted-list f (x ∷ l) k h =
-    ap₂ _∷_ (ap f (omega arith) ∙ h 0 (omega arith)) (counted-list f l (suc k) (λ n b. ap f (omega arith) ∙ h (suc n) (omega arith)))
-
 pub by-places : (l : List ℕ) (n : ℕ) → length l ≡ n → map (λ k. getD l k 0) (range 0 n) ≡ l
 unfolding range
 by-places l n e =
     let m : n - 0 ≡ length l = omega arith in
     ap (λ (k : ℕ). map (λ j. getD l j 0) (counted 0 k)) m
-    ∙ counted-list (λ k. getD l k 0) l 0 (λ k b. let z : 0 + k ≡ k = omega arith in ap (λ (j : ℕ). getD l j 0) z)
+    ∙ list-rows 0 (λ k. getD l k 0) l 0 (λ k b. let z : 0 + k ≡ k = omega arith in ap (λ (j : ℕ). getD l j 0) z)

@@ -16,13 +16,13 @@ use Rattle.basics.specs.Refusals as refusals
 use Rattle.turns.specs.Definitions as turns
 use Rattle.turns.specs.Definitions.{Named}
 use Rattle.turns.specs.PlainWalk.{plainWalk, WalkEnded, canBeWalked}
-use Rattle.turns.specs.Turns.{statements, placements, placed, order, reached}
+use Rattle.turns.specs.Turns.{statements, placements, placed, order, reached, mark}
 use Rattle.turns.specs.Relisting.{Bijection, Permutes, Relisted}
 use Rattle.turns.specs.Theorems.{OrderOfAll}
 use Rattle.turns.specs.Shared.{plain-walks}
 use Rattle.rows.specs.Rows.{rowCount, definitions}
 use Rattle.bounds.specs.Question.{within, accepts}
-use Rattle.schedule.specs.Call.{scheduleNumber, outcome, mark}
+use Rattle.schedule.specs.Call.{scheduleNumber, outcome}
 use Rattle.definitions.specs.declared.Definition.{Definition}
 use Rattle.definitions.specs.Rows.{definitionOf}
 use Rattle.definitions.specs.Question.{acceptsRecords}

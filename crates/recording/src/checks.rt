@@ -4,7 +4,7 @@ use crate::first::check_first_use;
 use branches::next_of;
 use frame::Progress;
 use records::Row;
-use trees::row_at;
+use records::row_at;
 use used::assigned::pattern_of;
 ghost use Prim.Native.Nat.{_≤_, _<_};
 ghost use lib.ListN.{length, getD};

@@ -5,7 +5,7 @@ use gather::scope::Scope;
 use gather::special::is_input;
 use names::Names;
 use records::Row;
-use trees::row_at;
+use records::row_at;
 use used::assigned::pattern_of;
 use used::first::add_first_use;
 ghost use Prim.Native.Nat.{_≤_, _<_};

@@ -5,7 +5,7 @@ use lib.ListN.{getD}
 use Rattle.text.specs.Limits as limits
 use Rattle.records.specs.declared.Counts.{Counts}
 use Rattle.records.specs.declared.Builtin.{Builtin}
-use Rattle.records.specs.declared.Expr.{Expr}
+use Rattle.records.specs.declared.Row.{Row}
 use Rattle.records.specs.declared.Statement.{Statement}
 
 -- ---- the bounds
@@ -46,13 +46,14 @@ module _ (t : List ℕ) where
       let at = 8 + 4 * r in
       record { arity = getD t at 0; first = getD t (at + 1) 0; second = getD t (at + 2) 0; third = getD t (at + 3) 0 }
 
-  -- The columns 2 and 3 are the expression's line and column.
-  abbrev pub exprAt : ℕ → Expr
+  abbrev pub exprAt : ℕ → Row
   exprAt r =
       let at = 268 + 8 * r in
       record {
         kind = getD t at 0;
         name = getD t (at + 1) 0;
+        line = getD t (at + 2) 0;
+        col = getD t (at + 3) 0;
         first = getD t (at + 4) 0;
         second = getD t (at + 5) 0;
         third = getD t (at + 6) 0;

@@ -57,16 +57,6 @@ pub struct Row {
     pub next: u16,
 }
 
-// An expression without its position.
-pub struct Expr {
-    pub kind: u16,
-    pub name: u16,
-    pub first: u16,
-    pub second: u16,
-    pub third: u16,
-    pub next: u16,
-}
-
 pub struct Statement {
     pub form: u16,
     pub first: u16,
@@ -90,14 +80,16 @@ pub fn builtin_at(tables: &[u16], row: usize) -> Builtin
     }
 }
 
-pub fn expr_at(tables: &[u16], row: usize) -> Expr
+pub fn row_at(tables: &[u16], row: usize) -> Row
     requires { ⌜ (8192 ≤ length (now tables)) × (row ≤ 512) ⌝ }
     ensures { λ r. ⌜ r ≡ exprAt (now (tables .entry)) row ⌝ }
 {
     let at = EXPRS_AT + 8 * row;
-    Expr {
+    Row {
         kind: tables[at],
         name: tables[at + 1],
+        line: tables[at + 2],
+        col: tables[at + 3],
         first: tables[at + 4],
         second: tables[at + 5],
         third: tables[at + 6],

@@ -18,7 +18,8 @@ abbrev pub append : Option (List ℕ) → ℕ → Option (List ℕ)
 append none x = none
 append (some path) x = some (path ++ (x ∷ []))
 
--- `get_path_string`: a simple reference as names, from its root. An index that is no String is dropped.
+-- `get_path_string`: a simple reference as names, from its root. An index that is no String is dropped. A String that is no identifier has
+-- name 0; the Rust puts its text in brackets and quotes, which no built-in's path has, and neither has any a part 0.
 unfoldable pub getPathString : Tree → Option (List ℕ)
 getPathString nil = none
 getPathString (node w a b c n) =

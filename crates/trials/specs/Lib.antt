@@ -7,3 +7,4 @@ pub mod ExtraArguments
 pub mod Comprehensions
 pub mod SomeAndEvery
 pub mod Room
+pub mod Positions

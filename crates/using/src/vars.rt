@@ -5,7 +5,7 @@ use crate::compr_row;
 use frame::Fault;
 use frame::Progress;
 use names::Names;
-use trees::row_at;
+use records::row_at;
 use used::found::Used;
 use used::vars::used_vars;
 ghost use mathlib.Core.Path.{_≡_};

@@ -1,17 +1,17 @@
 -- By the row that was read.
 use mathlib.Core.Path.{ap}
 use lib.Dec.{eqb}
-use Rattle.records.specs.declared.Expr.{Expr}
+use Rattle.records.specs.declared.Row.{Row}
 use borrow.Author.Needs.{needs}
 use Rattle.chains.proofs.is_var.Statement.{statement}
 use Rattle.chains.proofs.is_var.Tie as tie
 
-expr-at-requires : tie.Need-expr-at-requires
-expr-at-requires c κs = search needs
+row-at-requires : tie.Need-row-at-requires
+row-at-requires c κs = search needs
 
 returns : tie.Need-returns
 returns c =
-    ap (λ (x : Expr). eqb (x .kind) 6) (c .before .expr-at .ensures)
+    ap (λ (x : Row). eqb (x .kind) 6) (c .before .row-at .ensures)
 
 pub is-var-spec : {M : Type 1} → statement M
-is-var-spec = tie.close (tie.spec expr-at-requires returns)
+is-var-spec = tie.close (tie.spec row-at-requires returns)

@@ -2,13 +2,13 @@
 use borrow.Author.Needs.{needs}
 use mathlib.Core.Path.{ap, _∙_}
 use lib.Dec.{eqb}
-use Rattle.records.specs.declared.Expr.{Expr}
+use Rattle.records.specs.declared.Row.{Row}
 use Rattle.chains.specs.Numbers.{oneMore, restBy, numberBy}
 use Rattle.chains.proofs.number_of.Statement.{statement}
 use Rattle.chains.proofs.number_of.Tie as tie
 
-expr-at-requires : tie.Need-expr-at-requires
-expr-at-requires c κs = search needs
+row-at-requires : tie.Need-row-at-requires
+row-at-requires c κs = search needs
 
 cast-rest-after : tie.Need-cast-rest-after
 cast-rest-after c = search needs
@@ -24,9 +24,9 @@ unfolding numberBy
 returns c =
     let a = c .before .before .before .before .before .before .before .args in
     c .one-more .ensures ∙ ap (oneMore _) (c .before .before .rest-after .ensures)
-    ∙ ap (λ (x : Expr). oneMore (eqb (x .kind) 6) (restBy (a .counts) (a .work .now) (a .row) (x .next))) (c .before .before .before .before .expr-at .ensures)
+    ∙ ap (λ (x : Row). oneMore (eqb (x .kind) 6) (restBy (a .counts) (a .work .now) (a .row) (x .next))) (c .before .before .before .before .row-at .ensures)
 
 pub number-of-spec : {M : Type 1} → statement M
 number-of-spec =
     tie.close
-    (tie.spec expr-at-requires cast-rest-after rest-after-requires one-more-requires returns)
+    (tie.spec row-at-requires cast-rest-after rest-after-requires one-more-requires returns)

@@ -7,8 +7,8 @@ use borrow.Author.Needs.{needs}
 use Rattle.faults.proofs.rows.expr_fault.Statement.{statement}
 use Rattle.faults.proofs.rows.expr_fault.Tie as tie
 
-expr-at-requires : tie.Need-expr-at-requires
-expr-at-requires c κs = search needs
+row-at-requires : tie.Need-row-at-requires
+row-at-requires c κs = search needs
 
 add-mark : tie.Need-add-mark
 add-mark c = search needs
@@ -24,14 +24,14 @@ judge-expr-requires c κs = search needs
 
 returns : tie.Need-returns
 returns c =
-    let a = c .before .before .before .before .before .args in c .judge-expr .ensures ∙ ap (exprBy (a .counts) (a .tables .now) (getD (a .work .now) (160 + a .row) 0)) (c .before .before .expr-at .ensures)
+    let a = c .before .before .before .before .before .args in c .judge-expr .ensures ∙ ap (exprBy (a .counts) (a .tables .now) (getD (a .work .now) (160 + a .row) 0)) (c .before .before .row-at .ensures)
     ∙ expr-is (a .counts) (a .tables .now) (a .work .now) (c .before .before .before .before .before .pre .0) (a .row) (c .before .before .before .before .before .pre .1) (c .before .before .before .before .before .pre .2)
 
 pub expr-fault-spec : {M : Type 1} → statement M
 expr-fault-spec =
     tie.close
     (tie.spec
-    expr-at-requires
+    row-at-requires
     add-mark
     mul-mark
     shared-slice-read-mark

@@ -6,7 +6,7 @@ use Prim.Native.Nat.{ℕ, _+_, _/_, _%_, _≤_, _-_}
 use native.Mathlib.Omega.{arith}
 use lib.Dec.{eqb}
 use lib.ListN.{length, getD}
-use Rattle.records.specs.declared.Expr.{Expr}
+use Rattle.records.specs.declared.Row.{Row}
 use Rattle.naming.specs.Entries.{exprRow}
 use Rattle.naming.specs.Namings.{byExprs, namings}
 use Rattle.marks.specs.Marks.{Marks, rowWork}
@@ -32,8 +32,8 @@ add-row : tie.Need-add-row Inv-loop μ-loop
 add-row c =
     let w = c .before .before .before .before .before .pre .2 in omega (arith, w .few-exprs)
 
-expr-at-requires : tie.Need-expr-at-requires Inv-loop μ-loop
-expr-at-requires c κs =
+row-at-requires : tie.Need-row-at-requires Inv-loop μ-loop
+row-at-requires c κs =
     let w = c .before .before .before .before .before .pre .2 in (c .before .before .before .before .before .pre .1, omega (arith, w .few-exprs))
 
 add-mark : tie.Need-add-mark Inv-loop μ-loop
@@ -62,7 +62,7 @@ loop-again c =
       omega arith,
       search needs,
       subst (λ (w : List ℕ). Marks (byExprs (a .counts) (inTables (a .tables .now)) (l .row + 1)) w)
-          (sym (c .before .before .name-expr .ensures ∙ ap (λ (x : Expr). rowWork (a .counts) (exprRow (l .row + 1)) (partsOf (a .counts) (eqb (getD (l .work) (160 + (l .row + 1)) 0 / 4 % 2) 1) x (l .row + 1)) (l .work)) (c .before .before .before .before .before .expr-at .ensures)))
+          (sym (c .before .before .name-expr .ensures ∙ ap (λ (x : Row). rowWork (a .counts) (exprRow (l .row + 1)) (partsOf (a .counts) (eqb (getD (l .work) (160 + (l .row + 1)) 0 / 4 % 2) 1) x (l .row + 1)) (l .work)) (c .before .before .before .before .before .row-at .ensures)))
           (next-expr (a .counts) (a .tables .now) w (l .row) (l .work) (omega (arith, w .few-exprs)) (l .inv .2)),
     )
 
@@ -83,7 +83,7 @@ name-exprs-spec =
     μ-loop
     loop-holds
     add-row
-    expr-at-requires
+    row-at-requires
     add-mark
     mul-mark
     slice-read-mark
