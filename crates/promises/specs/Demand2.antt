@@ -1,6 +1,6 @@
 -- Demand 2: what is returned and left is what the definitions say, and exactly what they refuse is refused. The definitions are written from
 -- document 01 and the original; that they say what the original does is shown by comparing both on many sheets, and is no theorem.
-use mathlib.Core.Path.{_≡_, refl, sym, ap, _∙_}
+use mathlib.Core.Path.{_≡_, refl, sym, ap, _∙_, subst}
 use mathlib.Core.Bool.{Bool, true, false, cond, _&&_}
 use mathlib.Core.List.{List, [], _∷_, _++_}
 use mathlib.Core.Logic.{_↔_}
@@ -12,13 +12,15 @@ use Rattle.basics.specs.Lists.{elem, all}
 use Rattle.basics.specs.Truth.{and-intro, and-left, and-right, not-both}
 use Rattle.text.specs.Limits as limits
 use Rattle.text.specs.Questions.{shortEnough, formFault, namesFault, countsFault}
-use Rattle.trees.specs.Sheet.{sheetIn}
+use Rattle.trees.specs.Sheet.{Sheet, sheetIn}
 use Rattle.sheet.specs.declared.Outcome.{Outcome}
 use Rattle.sheet.specs.declared.Outcome.the-variants.{Read, NoRoom, TooLong, BadForm, BadName, BadCount, BadField}
-use Rattle.sheet.specs.Verdict.{fieldsFault, asked, leftTables, verdict}
+use Rattle.sheet.specs.Verdict.{readCounts, readSpecial, readTables, fieldsFault, asked, leftTables, verdict}
+use Rattle.sheet.specs.Passed.{verdict-read}
 use Rattle.analysis.specs.States.{Fault, sound, undefined, usedBefore, lengths, indexVariable}
 use Rattle.analysis.specs.RustWay.{analyzeQuerySnippet}
-use Rattle.answers.specs.Call.{Result, Left, refused, answered, leftBy, left, result}
+use Rattle.answers.specs.Call.{Result, Left, refused, answered, analysed, leftBy, left, result}
+use Rattle.answers.specs.Once.{analysedOnce, analysed-once}
 use Rattle.nokchbem.specs.Calls.{leftNumber, readNumber, AnalyzeCall, ReadCall}
 use Rattle.promises.specs.Questions.{Question, finishes, firstNo, text, questions, asked-in-turn}
 use Rattle.promises.specs.Positions.{Position, ofTheWhole, ofTheSheet, ofTheWalk, whole, at-line, at-span}
@@ -140,3 +142,13 @@ module _ {s : List ℕ} {tables work r : ℕ} {t w : List ℕ} (call : ReadCall 
       accepted : r ≡ 0 → one.HasRead call → verdict s tables work ≡ Read
       accepted z (one.succeeds rz is tz wz) = is
       accepted z (one.refuses n l p at tz wz) = absurd (some-number at (sym (p .the-number) ∙ ap numberIn z))
+
+-- ---- each query once
+
+-- The code analyses each query once, where the definition does so wherever it meets a comprehension: on every sheet that is read, both come to the
+-- same text and to the same fault.
+pub once-is-enough : (s : List ℕ) (tables work : ℕ) → verdict s tables work ≡ Read → (room : ℕ) → analysed (sheetIn s) room ≡ analysedOnce (sheetIn s) room
+once-is-enough s tables work read room =
+    let p = verdict-read s tables work read in
+    subst (λ (sheet : Sheet). analysed sheet room ≡ analysedOnce sheet room) (p .sheet-is)
+    (analysed-once (readCounts s) (readSpecial s) (readTables s) (p .few) (p .fine) room)

@@ -4,7 +4,7 @@ use mathlib.Core.Bool.{Bool, true, false, cond, _||_, _&&_}
 use mathlib.Core.List.{List, [], _∷_, _++_, map, map-map, List·Memᴰ}
 use mathlib.Core.Logic.{_⊎_, inl, inr, ⊎-elim, _↔_}
 use mathlib.Core.Option.{Option, none, some}
-use Prim.Native.Nat.{ℕ, _-_}
+use Prim.Native.Nat.{ℕ, suc, _-_}
 use native.Mathlib.Omega.{arith}
 use lib.Dec.{eqb}
 use lib.ListN.{length, getD, replicate}
@@ -20,6 +20,7 @@ use Rattle.turns.specs.Turns.{statements, placements, placed, order, reached, m
 use Rattle.turns.specs.Relisting.{Bijection, Permutes, Relisted}
 use Rattle.turns.specs.Theorems.{OrderOfAll}
 use Rattle.turns.specs.Shared.{PlainWalks, plain-walks}
+use Rattle.trees.specs.Lists.{concatMap}
 use Rattle.trees.specs.Sheet.{sheetIn, nameBound}
 use Rattle.sheet.specs.declared.Outcome.the-variants.{Read}
 use Rattle.sheet.specs.Verdict.{verdict}
@@ -31,7 +32,8 @@ use Rattle.once.specs.Queries.{analyzeQuerySnippetOnce, scheduleOnce, recordedO
 use Rattle.once.specs.Own.{ownDefinition}
 use Rattle.once.specs.OwnNames.{own-names}
 use Rattle.once.specs.Named.{found-in, scopes-below, recorded-named}
-use Rattle.answers.specs.Rows.{queryRows, placeRows, setRows}
+use Rattle.answers.specs.Rows.{queryRows, placeRows, setRows, allRows}
+use Rattle.answers.specs.Text.{section, answerText}
 use Rattle.nokchbem.specs.Calls.{AnalyzeCall}
 use Rattle.promises.specs.Questions.{text}
 use Rattle.promises.specs.Demand2.{analyze-text, analyze-reads}
@@ -68,6 +70,16 @@ pub record NoRows (q : ℕ) (o : Option QuerySchedule) : Type 0 where
   pub no-place : placeRows q o ≡ []
   pub no-set : setRows q o ≡ []
 
+-- The lent bytes are a text with zeros behind it. Its rows are these, in its three sections, for the queries 1 to the last: each query that is
+-- analysed has its meaning, nested ones included, and any other has no rows but one.
+pub record Demand3 (s : List ℕ) (room : ℕ) (answer : List ℕ) : Type 0 where
+  pub the-text : answer ≡ text s ++ replicate (room - length (text s)) 0
+  pub the-rows : (let of : (ℕ → Option QuerySchedule → List (List ℕ)) → List (List ℕ) = λ rows.
+      concatMap (λ q. rows q (scheduleIn (sheetIn s) q)) (range 1 (suc (length (sheetIn s .queries)))) in
+      text s ≡ section "query placed input" (of queryRows) ++ (section "query place index reached" (of placeRows) ++ section "query set name line col" (of setRows)))
+  pub analysed : (q : ℕ) (a : QuerySchedule) → scheduleIn (sheetIn s) q ≡ some a → Meaning q a
+  pub never : (q : ℕ) → scheduleIn (sheetIn s) q ≡ none → NoRows q (scheduleIn (sheetIn s) q)
+
 -- ---- the theorem
 
 mark-one : (b : Bool) → mark b ≡ 1 → b ≡ true
@@ -92,14 +104,9 @@ module _ (defs : List Definition) (n : ℕ) (named : Named defs nameBound) where
   order-read = by-places (order defs n nameBound) n long
 
 module _ {s : List ℕ} {tables work room r : ℕ} {t w a : List ℕ} (call : AnalyzeCall s tables work room r t w a) (zero : r ≡ 0) where
-  -- The text, with zeros behind it. Its rows are those of `answerText`.
-  pub demand-text : a ≡ text s ++ replicate (room - length (text s)) 0
-  demand-text = analyze-text call zero
-
-  -- Every query that is analysed.
-  pub demand-query : (q : ℕ) (b : QuerySchedule) → scheduleIn (sheetIn s) q ≡ some b → Meaning q b
+  query-means : (q : ℕ) (b : QuerySchedule) → scheduleIn (sheetIn s) q ≡ some b → Meaning q b
   unfolding ownDefinition scheduleOnce recordedOnce
-  demand-query q b found =
+  query-means q b found =
       let read = analyze-reads call zero in
       let names = read-names s tables work (read .0) in
       let once : scheduleOnce (sheetIn s) q ≡ some b = sym (read-schedules s tables work (read .0) (read .1) q) ∙ found in
@@ -129,6 +136,12 @@ module _ {s : List ℕ} {tables work room r : ℕ} {t w a : List ℕ} (call : An
             );
       }
 
-  -- Every query that is not.
-  pub demand-none : (q : ℕ) → scheduleIn (sheetIn s) q ≡ none → NoRows q (scheduleIn (sheetIn s) q)
-  demand-none q e = rw e (record { placed-2 = refl; no-place = refl; no-set = refl })
+  -- Where `nokchbem_analyze` returns 0, what it leaves has demand 3.
+  pub demand3 : Demand3 s room a
+  unfolding answerText allRows scheduleIn
+  demand3 = record {
+    the-text = analyze-text call zero;
+    the-rows = refl;
+    analysed = query-means;
+    never = λ q e. rw e (record { placed-2 = refl; no-place = refl; no-set = refl });
+  }

@@ -14,7 +14,7 @@ use Rattle.analyzer.proofs.used_by.leaves_used.Kinds as kinds
 use Rattle.analyzer.proofs.used_by.+leaves_used.Lts-leaves_used as lts
 use Rattle.analyzer.proofs.used_by.other_used.Reads as other-used-reads
 use Rattle.literals.proofs.some.non_var.Reads as non-var-reads
-use Rattle.trees.proofs.row_at.Reads as row-at-reads
+use Rattle.records.proofs.row_at.Reads as row-at-reads
 use Rattle.used.proofs.assigned.pattern_of.Reads as pattern-of-reads
 use Rattle.analyzer.proofs.used_by.+leaves_used.{statement}
 use Rattle.analyzer.proofs.used_by.+leaves_used.Tie.{close}

@@ -14,7 +14,7 @@ use Rattle.comprs.proofs.walk.+comprs_used.Lts-comprs_used as lts
 use Rattle.branches.proofs.kids_of.Reads as kids-of-reads
 use Rattle.branches.proofs.next_of.Reads as next-of-reads
 use Rattle.comprs.proofs.walk.compr_step.Reads as compr-step-reads
-use Rattle.trees.proofs.row_at.Reads as row-at-reads
+use Rattle.records.proofs.row_at.Reads as row-at-reads
 use Rattle.comprs.proofs.walk.+comprs_used.{statement}
 use Rattle.comprs.proofs.walk.+comprs_used.Tie.{close}
 

@@ -18,7 +18,7 @@ use Rattle.gather.proofs.assigned.+gather_assigned_vars.Lts-gather_assi
 use Rattle.branches.proofs.next_of.Reads as next-of-reads
 use Rattle.gather.proofs.assigned.assign_step.Reads as assign-step-reads
 use Rattle.gather.proofs.assigned.items_of.Reads as items-of-reads
-use Rattle.trees.proofs.row_at.Reads as row-at-reads
+use Rattle.records.proofs.row_at.Reads as row-at-reads
 use Rattle.gather.proofs.assigned.+gather_assigned_vars.{statement}
 use Rattle.gather.proofs.assigned.+gather_assigned_vars.Tie.{close}
 

@@ -15,7 +15,7 @@ use Rattle.gather.proofs.input.+gather_input_vars.Lts-gather_input_vars
 use Rattle.branches.proofs.kids_of.Reads as kids-of-reads
 use Rattle.branches.proofs.next_of.Reads as next-of-reads
 use Rattle.gather.proofs.input.input_step.Reads as input-step-reads
-use Rattle.trees.proofs.row_at.Reads as row-at-reads
+use Rattle.records.proofs.row_at.Reads as row-at-reads
 use Rattle.gather.proofs.input.+gather_input_vars.{statement}
 use Rattle.gather.proofs.input.+gather_input_vars.Tie.{close}
 

@@ -14,7 +14,7 @@ use Rattle.gather.proofs.locals.add_locals.Kinds as kinds
 use Rattle.gather.proofs.locals.+add_locals.Lts-add_locals as lts
 use Rattle.branches.proofs.next_of.Reads as next-of-reads
 use Rattle.gather.proofs.locals.local_step.Reads as local-step-reads
-use Rattle.trees.proofs.row_at.Reads as row-at-reads
+use Rattle.records.proofs.row_at.Reads as row-at-reads
 use Rattle.gather.proofs.locals.+add_locals.{statement}
 use Rattle.gather.proofs.locals.+add_locals.Tie.{close}
 

@@ -18,7 +18,7 @@ use Rattle.gather.proofs.loops.+gather_loop_vars.Lts-gather_loop_vars a
 use Rattle.branches.proofs.kids_of.Reads as kids-of-reads
 use Rattle.branches.proofs.next_of.Reads as next-of-reads
 use Rattle.gather.proofs.loops.loop_step.Reads as loop-step-reads
-use Rattle.trees.proofs.row_at.Reads as row-at-reads
+use Rattle.records.proofs.row_at.Reads as row-at-reads
 use Rattle.gather.proofs.loops.+gather_loop_vars.{statement}
 use Rattle.gather.proofs.loops.+gather_loop_vars.Tie.{close}
 

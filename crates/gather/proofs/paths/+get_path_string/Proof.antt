@@ -12,7 +12,7 @@ use Rattle.gather.proofs.paths.get_path_string.Kinds as kinds
 use Rattle.gather.proofs.paths.+get_path_string.Lts-get_path_string as lts
 use Rattle.gather.proofs.paths.Path.none.Reads as none-reads
 use Rattle.gather.proofs.paths.path_step.Reads as path-step-reads
-use Rattle.trees.proofs.row_at.Reads as row-at-reads
+use Rattle.records.proofs.row_at.Reads as row-at-reads
 use Rattle.gather.proofs.paths.+get_path_string.{statement}
 use Rattle.gather.proofs.paths.+get_path_string.Tie.{close}
 

@@ -12,7 +12,7 @@ use Rattle.literals.proofs.used_names.used_names.Kinds as kinds
 use Rattle.literals.proofs.used_names.+used_names.Lts-used_names as lts
 use Rattle.branches.proofs.kids_of.Reads as kids-of-reads
 use Rattle.branches.proofs.next_of.Reads as next-of-reads
-use Rattle.trees.proofs.row_at.Reads as row-at-reads
+use Rattle.records.proofs.row_at.Reads as row-at-reads
 use Rattle.used.proofs.step.used_step.Reads as used-step-reads
 use Rattle.literals.proofs.used_names.+used_names.{statement}
 use Rattle.literals.proofs.used_names.+used_names.Tie.{close}

@@ -15,7 +15,7 @@ use Rattle.used.proofs.index.+define_index.Lts-define_index as lts
 use Rattle.branches.proofs.next_of.Reads as next-of-reads
 use Rattle.used.proofs.assigned.pattern_of.Reads as pattern-of-reads
 use Rattle.used.proofs.index.define_leaf.Reads as define-leaf-reads
-use Rattle.trees.proofs.row_at.Reads as row-at-reads
+use Rattle.records.proofs.row_at.Reads as row-at-reads
 use Rattle.used.proofs.index.+define_index.{statement}
 use Rattle.used.proofs.index.+define_index.Tie.{close}
 

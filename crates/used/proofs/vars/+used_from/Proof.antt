@@ -21,7 +21,7 @@ use Rattle.branches.proofs.next_of.Reads as next-of-reads
 use Rattle.used.proofs.row.use_row.Reads as use-row-reads
 use Rattle.used.proofs.vars.fresh.Reads as fresh-reads
 use Rattle.used.proofs.vars.used_here.Reads as used-here-reads
-use Rattle.trees.proofs.row_at.Reads as row-at-reads
+use Rattle.records.proofs.row_at.Reads as row-at-reads
 use Rattle.used.proofs.vars.+used_from.{statement}
 use Rattle.used.proofs.vars.+used_from.Tie.{close}
 

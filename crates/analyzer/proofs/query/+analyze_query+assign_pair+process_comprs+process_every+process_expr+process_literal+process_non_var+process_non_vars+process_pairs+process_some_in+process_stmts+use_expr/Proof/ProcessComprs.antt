@@ -16,7 +16,7 @@ use Rattle.branches.proofs.kids_of.Reads as kids-of-reads
 use Rattle.branches.proofs.next_of.Reads as next-of-reads
 use Rattle.comprs.proofs.after.after_compr.Reads as after-compr-reads
 use Rattle.comprs.proofs.pending.pending.Reads as pending-reads
-use Rattle.trees.proofs.row_at.Reads as row-at-reads
+use Rattle.records.proofs.row_at.Reads as row-at-reads
 use Rattle.analyzer.proofs.query.+analyze_query+assign_pair+process_comprs+process_every+process_expr+process_literal+process_non_var+process_non_vars+process_pairs+process_some_in+process_stmts+use_expr.Lts-process_comprs as process-comprs-lts
 use Rattle.analyzer.proofs.query.+analyze_query+assign_pair+process_comprs+process_every+process_expr+process_literal+process_non_var+process_non_vars+process_pairs+process_some_in+process_stmts+use_expr.Proof.Measures.{analyze-query-below, process-comprs-at, process-comprs-below}
 

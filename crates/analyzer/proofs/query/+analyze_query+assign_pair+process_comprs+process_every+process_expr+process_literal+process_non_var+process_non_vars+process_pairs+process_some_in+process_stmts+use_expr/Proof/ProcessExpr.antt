@@ -17,7 +17,7 @@ use Rattle.literals.proofs.extra.extra_vars.Reads as extra-vars-reads
 use Rattle.literals.proofs.kinds.is_assign.Reads as is-assign-reads
 use Rattle.literals.proofs.kinds.is_col_eq.Reads as is-col-eq-reads
 use Rattle.recording.proofs.record.record_each.Reads as record-each-reads
-use Rattle.trees.proofs.row_at.Reads as row-at-reads
+use Rattle.records.proofs.row_at.Reads as row-at-reads
 use Rattle.analyzer.proofs.query.+analyze_query+assign_pair+process_comprs+process_every+process_expr+process_literal+process_non_var+process_non_vars+process_pairs+process_some_in+process_stmts+use_expr.Lts-process_expr as process-expr-lts
 use Rattle.analyzer.proofs.query.+analyze_query+assign_pair+process_comprs+process_every+process_expr+process_literal+process_non_var+process_non_vars+process_pairs+process_some_in+process_stmts+use_expr.Proof.Measures.{process-expr-at, process-pairs-below, use-expr-below}
 

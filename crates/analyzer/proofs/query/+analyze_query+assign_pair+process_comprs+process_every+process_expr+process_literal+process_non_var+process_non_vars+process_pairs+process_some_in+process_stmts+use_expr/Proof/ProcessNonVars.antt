@@ -11,7 +11,7 @@ use Rattle.analyzer.specs.PatternSteps.{non-vars-do-none, asks-other, as
 use Rattle.analyzer.proofs.query.process_non_var.Reads as process-non-var
 use Rattle.analyzer.proofs.query.process_non_vars.Reads as process-non-vars
 use Rattle.literals.proofs.some.non_var.Reads as non-var-reads
-use Rattle.trees.proofs.row_at.Reads as row-at-reads
+use Rattle.records.proofs.row_at.Reads as row-at-reads
 use Rattle.used.proofs.assigned.pattern_of.Reads as pattern-of-reads
 use Rattle.analyzer.proofs.query.+analyze_query+assign_pair+process_comprs+process_every+process_expr+process_literal+process_non_var+process_non_vars+process_pairs+process_some_in+process_stmts+use_expr.Lts-process_non_vars as process-non-vars-lts
 use Rattle.analyzer.proofs.query.+analyze_query+assign_pair+process_comprs+process_every+process_expr+process_literal+process_non_var+process_non_vars+process_pairs+process_some_in+process_stmts+use_expr.Proof.Measures.{process-non-var-below, process-non-vars-at, process-non-vars-below}

@@ -12,7 +12,7 @@ use Rattle.analyzer.proofs.query.assign_pair.Reads as assign-pair
 use Rattle.analyzer.proofs.query.process_pairs.Reads as process-pairs
 use Rattle.literals.proofs.pairs.differ.Reads as differ-reads
 use Rattle.literals.proofs.pairs.pair_of.Reads as pair-of-reads
-use Rattle.trees.proofs.row_at.Reads as row-at-reads
+use Rattle.records.proofs.row_at.Reads as row-at-reads
 use Rattle.analyzer.proofs.query.+analyze_query+assign_pair+process_comprs+process_every+process_expr+process_literal+process_non_var+process_non_vars+process_pairs+process_some_in+process_stmts+use_expr.Lts-process_pairs as process-pairs-lts
 use Rattle.analyzer.proofs.query.+analyze_query+assign_pair+process_comprs+process_every+process_expr+process_literal+process_non_var+process_non_vars+process_pairs+process_some_in+process_stmts+use_expr.Proof.Measures.{assign-pair-below, process-pairs-at, process-pairs-below}
 
