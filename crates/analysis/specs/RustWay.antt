@@ -29,8 +29,8 @@ Answer = List Scope → ℕ → List Tree → Run
 unfoldable pub take : Run → State → State
 take o s = setRun (record { schedules = o .schedules ++ s .run .schedules; fault = o .fault }) s
 
--- The Rust analyses a list of comprehensions below one copy of the scope, and each of those below it in the scope at hand here. Only inputs
--- and the input flag differ, and nothing nested reads these of its parents (`analyze-same` in `repeats`).
+-- The Rust analyses a list of comprehensions below one copy of the scope, made before the first of them; here each is analysed below the scope
+-- as it is then. Inputs and the input flag alone differ, and nothing nested reads these of its parents (`analyze-same` in `repeats`).
 unfoldable pub rustWay : Sheet → Answer → List Scope → Way
 rustWay sheet answer parents = record {
   start = gatherLocalVars sheet parents;
