@@ -37,7 +37,7 @@ use Rattle.answers.specs.Text.{section, answerText}
 use Rattle.nokchbem.specs.Calls.{AnalyzeCall}
 use Rattle.promises.specs.Questions.{text}
 use Rattle.promises.specs.Demand2.{analyze-text, analyze-reads}
-use Rattle.promises.specs.Listing.{placedIn, orderIn, Listed, own-listed, by-places}
+use Rattle.promises.specs.Listing.{placedIn, orderIn, Listed, own-listed, by-places, mark-one, mark-none}
 use Rattle.promises.specs.ReadSheets.{read-names, read-schedules}
 
 -- Of query q, which the analysis left with the schedule a.
@@ -81,14 +81,6 @@ pub record Demand3 (s : List ℕ) (room : ℕ) (answer : List ℕ) : Type 0 wher
   pub never : (q : ℕ) → scheduleIn (sheetIn s) q ≡ none → NoRows q (scheduleIn (sheetIn s) q)
 
 -- ---- the theorem
-
-mark-one : (b : Bool) → mark b ≡ 1 → b ≡ true
-mark-one true e = refl
-mark-one false e = absurd (omega arith)
-
-mark-none : (b : Bool) → mark b ≡ 0 → b ≡ false
-mark-none true e = absurd (omega arith)
-mark-none false e = refl
 
 -- Of a list of definitions whose names lie below the bound: the order in the rows is the order handed out.
 module _ (defs : List Definition) (n : ℕ) (named : Named defs nameBound) where

@@ -1,6 +1,6 @@
 -- How the rows of an answer are read, and that own names are listed in them.
 use mathlib.Core.Path.{_≡_, refl, ap, _∙_}
-use mathlib.Core.Bool.{true}
+use mathlib.Core.Bool.{Bool, true, false}
 use mathlib.Core.List.{List, [], _∷_, _++_, map, List·Memᴰ, List·Memᴰ·head, Memᴰ·map}
 use mathlib.Core.Logic.{_⊎_, inl, inr, ⊎-elim}
 use mathlib.Core.Option.{Option, none, some}
@@ -11,6 +11,7 @@ use borrow.Author.Tests.{ltb-true}
 use Rattle.basics.specs.Truth.{not-both, or-cases}
 use Rattle.basics.specs.Members.{elem-mem, mem-filter}
 use Rattle.basics.specs.Ranges.{counted, range, elem-range}
+use Rattle.turns.specs.Turns.{mark}
 use Rattle.trees.specs.Lists.{concatMap, isSome}
 use Rattle.trees.specs.Sheet.{nameBound}
 use Rattle.scopes.specs.NameSets.{contains, elements}
@@ -58,6 +59,16 @@ module _ (q : ℕ) (a : QuerySchedule) (low : Below (a .scope)) where
       (mem-left _ _ _ (Memᴰ·map (λ y. q ∷ 2 ∷ y ∷ 0 ∷ 0 ∷ [])
       (mem-filter (contains (a .scope .unscoped)) (range 0 nameBound) (elem-mem x (range 0 nameBound) (elem-range x 0 nameBound (omega arith) l)) p)))))
       (or-cases _ _ h)
+
+-- ---- a mark
+
+pub mark-one : (b : Bool) → mark b ≡ 1 → b ≡ true
+mark-one true e = refl
+mark-one false e = absurd (omega arith)
+
+pub mark-none : (b : Bool) → mark b ≡ 0 → b ≡ false
+mark-none true e = absurd (omega arith)
+mark-none false e = refl
 
 -- ---- a list by its places
 

@@ -29,6 +29,7 @@ use Rattle.definitions.specs.Question.{acceptsRecords}
 use Rattle.nokchbem.specs.Calls.{ScheduleCall, RecordsCall}
 use Rattle.nokchbem.specs.Agree.{Leaves, flat-leaves, records-leave}
 use Rattle.promises.specs.Demand1.{Parts}
+use Rattle.promises.specs.Listing.{mark-one, mark-none}
 
 -- A list out of bounds: 8 at 0 0, and every entry of both buffers is 0.
 pub record Refused (room marks r : ℕ) (o m : List ℕ) : Type 0 where
@@ -37,7 +38,7 @@ pub record Refused (room marks r : ℕ) (o m : List ℕ) : Type 0 where
   pub no-marks : m ≡ replicate marks 0
 
 -- n statements with these definitions: the mark placed r, the order o and the marks m.
-pub record Meaning (defs : List turns.Definition) (n room marks r : ℕ) (o m : List ℕ) : Type 0 where
+pub record ListMeaning (defs : List turns.Definition) (n room marks r : ℕ) (o m : List ℕ) : Type 0 where
   -- However the statements are relisted by π, the names exchanged one to one by ρ, the definitions listed and repeated, and whatever is picked until
   -- nothing can be taken: the marks are those of the statements that the plain walk over the exchanged list took, with zeros behind them.
   pub marked : (π ρ : Bijection) (others : List turns.Definition) → Permutes n π → Relisted (π .to) (ρ .to) defs others
@@ -61,18 +62,12 @@ named-below n defs h d m =
     let v = leb-true (d .var) 127 (and-right (ltb (d .statement) n) (leb (d .var) 127) (all-mem (within n) defs h m)) in
     omega arith
 
-placed-number : (b : Bool) → (scheduleNumber (outcome true b) ≡ 1 → b ≡ true) × (b ≡ true → scheduleNumber (outcome true b) ≡ 1)
-placed-number true = (λ e. refl, λ e. refl)
-placed-number false = (λ e. absurd (omega arith), λ e. absurd (never e))
-  where
-    never : false ≡ true → ⊥
-    never e = let z : _≡_ {A = ℕ} 0 1 = cc in omega arith
+-- The number returned of a list that is taken is the mark placed.
+number-mark : (b : Bool) → scheduleNumber (outcome true b) ≡ mark b
+number-mark true = refl
+number-mark false = refl
 
-unplaced-number : (b : Bool) → scheduleNumber (outcome true b) ≡ 0 → b ≡ false
-unplaced-number true e = absurd (omega arith)
-unplaced-number false e = refl
-
-one-or-none : (b : Bool) → (scheduleNumber (outcome true b) ≡ 1 → ⊥) → scheduleNumber (outcome true b) ≡ 0
+one-or-none : (b : Bool) → (mark b ≡ 1 → ⊥) → mark b ≡ 0
 one-or-none true e = absurd (e refl)
 one-or-none false e = refl
 
@@ -84,24 +79,24 @@ module _ (defs : List turns.Definition) (n room marks : ℕ) {r : ℕ} {o m : Li
     no-marks = l .marked;
   }
 
-  meaning : Named defs 128 → Leaves true defs n room marks r o m → Meaning defs n room marks r o m
+  meaning : Named defs 128 → Leaves true defs n room marks r o m → ListMeaning defs n room marks r o m
   meaning named l =
       let p = plain-walks defs n 128 named in
-      let is = placed-number (placed defs n 128) in
-      let has : r ≡ 1 → placed defs n 128 ≡ true = λ e. is .0 (sym (l .returned) ∙ e) in
+      let is : r ≡ mark (placed defs n 128) = l .returned ∙ number-mark (placed defs n 128) in
+      let has : r ≡ 1 → placed defs n 128 ≡ true = λ e. mark-one _ (sym is ∙ e) in
       let behind : List ℕ → List ℕ = λ q. q ++ replicate (room - n) 0 in
       record {
         marked = λ π ρ others perm moved picks ended.
             l .marked
             ∙ ap (λ (g : ℕ → Bool). map (λ i. mark (g i)) (range 0 n) ++ replicate (marks - n) 0)
             (λ d i. p .shared π ρ others perm moved picks ended i d);
-        placed-exactly = (λ e. p .walkable .0 (has e), λ q. l .returned ∙ is .1 (p .walkable .1 q));
-        no-other = λ e. l .returned ∙ one-or-none (placed defs n 128) (λ f. e (l .returned ∙ f));
+        placed-exactly = (λ e. p .walkable .0 (has e), λ q. is ∙ ap mark (p .walkable .1 q));
+        no-other = λ e. is ∙ one-or-none (placed defs n 128) (λ f. e (is ∙ f));
         order-of-turns = λ e.
             let t = p .in-turns (has e) in
             let h = p .order-placed (has e) in
             (l .ordered ∙ ap behind t, rw t at (h .0), rw t at (h .1));
-        order-as-written = λ e. l .ordered ∙ ap behind (p .order-unplaced (unplaced-number (placed defs n 128) (sym (l .returned) ∙ e)));
+        order-as-written = λ e. l .ordered ∙ ap behind (p .order-unplaced (mark-none _ (sym is ∙ e)));
       }
 
 -- ---- `nokchbem_schedule`
@@ -114,7 +109,7 @@ module _ {ws : List ℕ} {n room marks r : ℕ} {o m : List ℕ} (call : Schedul
       (subst (λ (b : Bool). Leaves b (definitions ws) n room marks r o m) h (flat-leaves n room marks ws call))
 
   -- Every other list has its meaning.
-  pub schedule-means : accepts ws n room marks ≡ true → Meaning (definitions ws) n room marks r o m
+  pub schedule-means : accepts ws n room marks ≡ true → ListMeaning (definitions ws) n room marks r o m
   unfolding accepts
   schedule-means h =
       meaning (definitions ws) n room marks (named-below n (definitions ws) (asked h))
@@ -132,7 +127,7 @@ module _ (ds : List Definition) {n room marks r : ℕ} {o m : List ℕ} (call : 
       refused (map definitionOf ds) n room marks
       (subst (λ (b : Bool). Leaves b (map definitionOf ds) n room marks r o m) h (records-leave n room marks ds call))
 
-  pub records-mean : acceptsRecords ds n room marks ≡ true → Meaning (map definitionOf ds) n room marks r o m
+  pub records-mean : acceptsRecords ds n room marks ≡ true → ListMeaning (map definitionOf ds) n room marks r o m
   unfolding acceptsRecords
   records-mean h =
       meaning (map definitionOf ds) n room marks (named-below n (map definitionOf ds) (asked h))

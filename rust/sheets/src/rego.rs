@@ -261,12 +261,7 @@ impl Reader {
             let statements = self.statements(Some("]"));
             return Node::ArrayCompr(first.into(), Query { statements });
         }
-        let mut items = vec![first];
-        if self.takes(",") {
-            items.extend(self.listed(Reader::expr));
-        }
-        self.expect("]");
-        Node::Array(items)
+        Node::Array(self.items_from(first, "]"))
     }
 
     /// An object, a set, or a comprehension of one.
@@ -282,12 +277,17 @@ impl Reader {
             let statements = self.statements(Some("}"));
             return Node::SetCompr(first.into(), Query { statements });
         }
+        Node::Set(self.items_from(first, "}"))
+    }
+
+    /// The items of an array or a set, the first of which is read.
+    fn items_from(&mut self, first: Expr, end: &str) -> Vec<Expr> {
         let mut items = vec![first];
         if self.takes(",") {
             items.extend(self.listed(Reader::expr));
         }
-        self.expect("}");
-        Node::Set(items)
+        self.expect(end);
+        items
     }
 
     fn object(&mut self, key: Expr) -> Node {
