@@ -16,9 +16,9 @@ extern "C" {
 
 /* Puts statements into an order in which every name has a value when it is read.
  *
- * `definitions` are rows of four words: a statement below `statements`, the name that it defines
- * (0 is the empty name, at most 127), and the two words of the set of names that it uses (name n is
- * bit n % 64 of word n / 64). `order` receives the statements in order, `reached` a mark for each
+ * `definitions` are rows of ten words: a statement below `statements`, the name that it defines
+ * (0 is the empty name, at most 511), and the eight words of the set of names that it uses (name n
+ * is bit n % 64 of word n / 64). `order` receives the statements in order, `reached` a mark for each
  * statement; both hold zeros after the first `statements` entries.
  *
  * Returns 1 if all statements were placed, 0 if not: then `order` is the written one. Refuses with
@@ -32,11 +32,11 @@ uint64_t nokchbem_schedule(const uint64_t *definitions, size_t definitions_len, 
                            size_t reached_len);
 
 /* A definition as a record: a statement, the name that it defines, and the set of names that it
- * uses, each as in a row of four words. */
+ * uses, each as in a row of ten words. */
 struct nokchbem_definition {
     uint16_t statement;
     uint16_t name;
-    uint64_t used[2];
+    uint64_t used[8];
 };
 
 /* As nokchbem_schedule, but the definitions are records: returns and leaves what that does for
@@ -47,7 +47,7 @@ uint64_t nokchbem_schedule_records(const struct nokchbem_definition *records, si
 
 /* The entries that `tables` and `work` have at least. */
 #define NOKCHBEM_TABLES_LENGTH 8192
-#define NOKCHBEM_WORK_LENGTH 8192
+#define NOKCHBEM_WORK_LENGTH 24576
 
 /* Reads a sheet into tables, and asks whether all of it is as it should be.
  *
@@ -63,11 +63,12 @@ uint64_t nokchbem_schedule_records(const struct nokchbem_definition *records, si
  * and every other entry is 0. Refuses, and zeros the tables, with the first of these numbers that
  * applies, and the first line of the sheet at fault (0 for 1 and 2); the column is 0.
  *
- *     1  `tables` or `work` has fewer than 8,192 entries
+ *     1  `tables` has fewer than 8,192 entries, or `work` fewer than 24,576
  *     2  the sheet has more than 32,768 bytes
  *     3  it has not the form of five sections
  *     4  a name is none, or not above the one before it
- *     5  a section has too many rows, or there is no query
+ *     5  there are more than 511 names, 64 built-ins, 512 expressions, 128 statements or 32 queries,
+ *        or there is no query
  *     6  a field or the nesting is not as it should be
  *
  * `work` is zeros afterwards, whatever is returned. Any input is taken, buffers of no length too.
@@ -96,8 +97,8 @@ uint64_t nokchbem_read(const uint8_t *sheet, size_t sheet_len, uint16_t *tables,
  *     14      an index variable inside a some-in pattern
  *     7       the text is longer than `answer`
  *
- * `tables` and `work` have at least 8,192 entries each, and are zeros afterwards, whatever is
- * returned. Any input is taken, buffers of no length too.
+ * `tables` has at least 8,192 entries and `work` at least 24,576; both are zeros afterwards, whatever
+ * is returned. Any input is taken, buffers of no length too.
  *
  * Each slice is a pointer to that many elements; the three that are written must not overlap
  * anything. */

@@ -4,6 +4,7 @@ use mathlib.Core.List.{List, [], _++_}
 use Prim.Native.Nat.{ℕ}
 use Rattle.names.specs.Sets.{Union}
 use Rattle.names.specs.declared.Names.{Names}
+use Rattle.widths.specs.declared.Width.{Width}
 use Rattle.trees.specs.Lists.{concatMap}
 use Rattle.trees.specs.Trees.{Tree, treeAt}
 use Rattle.trees.specs.Traverse.{leaves, comprs}
@@ -42,24 +43,24 @@ pub record WithoutComprs (u : Using) (x : Context) (r : Using) : Type 0 where
   pub names : Union (u .names .words) (x .names .words) (r .names .words)
   pub comprs : r .comprs ≡ u .comprs
 
-module _ (t : List ℕ) (k : Scope) where
+module _ (t : List ℕ) (v : Width) (k : Scope) where
   -- Of every expression that has these comprehensions.
   abbrev pub AllUsed : Names → List Tree → Context → List ℕ → Names → Type 0
   AllUsed names cs x work r =
-      (e : Tree) → comprs e ≡ cs → (m : Mods) → Stands t x m → (l : List ℕ) (s : State) → Sets k (s .scope) → Stored (answersOf work) (s .run .schedules)
+      (e : Tree) → comprs e ≡ cs → (m : Mods) → Stands t x m → (l : List ℕ) (s : State) → Sets k (s .scope) → Stored v (answersOf v work) (s .run .schedules)
       → Holds names (usedVars (sheetAt t) (s .scope) l e) → Holds r (allUsed (sheetAt t) l m e s)
 
   abbrev pub OtherUsed : ℕ → ℕ → List ℕ → Names → Names → Type 0
   OtherUsed row mods work a b =
-      (s : State) → Sets k (s .scope) → Stored (answersOf work) (s .run .schedules)
+      (s : State) → Sets k (s .scope) → Stored v (answersOf v work) (s .run .schedules)
       → Adds a (partsUse t s (comprs (treeAt (sheetAt t) mods)) (otherAt t row)) b
 
   abbrev pub LeavesUsed : ℕ → ℕ → List ℕ → Names → Names → Type 0
   LeavesUsed row mods work a b =
-      (s : State) → Sets k (s .scope) → Stored (answersOf work) (s .run .schedules)
+      (s : State) → Sets k (s .scope) → Stored v (answersOf v work) (s .run .schedules)
       → Adds a (othersUse t s (comprs (treeAt (sheetAt t) mods)) (leaves (treeAt (sheetAt t) row))) b
 
   abbrev pub OthersUsed : ℕ → ℕ → Context → List ℕ → Names → Type 0
   OthersUsed key value x work r =
-      (m : Mods) → Stands t x m → (s : State) → Sets k (s .scope) → Stored (answersOf work) (s .run .schedules)
+      (m : Mods) → Stands t x m → (s : State) → Sets k (s .scope) → Stored v (answersOf v work) (s .run .schedules)
       → Holds r (othersUse t s (m .comprs) (leaves (treeAt (sheetAt t) key) ++ leaves (treeAt (sheetAt t) value)))

@@ -3,9 +3,10 @@ use mathlib.Core.Path.{_≡_}
 use mathlib.Core.Bool.{true, false}
 use mathlib.Core.List.{List, [], _∷_}
 use mathlib.Core.Logic.{_⊎_}
-use Prim.Native.Nat.{ℕ, zero, suc, _+_, _*_, _≤_}
+use Prim.Native.Nat.{ℕ, zero, suc, _+_, _≤_}
 use lib.ListN.{length, getD}
 use Rattle.basics.specs.Lists.{all}
+use Rattle.widths.specs.declared.Width.{Width}
 use Rattle.records.specs.declared.Statement.{Statement}
 use Rattle.records.specs.Layout.{statementAt}
 use Rattle.trees.specs.Trees.{Tree, treeAt}
@@ -24,6 +25,7 @@ use Rattle.gather.specs.Queries.{stmtsLeft}
 use Rattle.literals.specs.declared.context.Context.{Context}
 use Rattle.frame.specs.declared.Progress.{Progress}
 use Rattle.frame.specs.Table.{Table}
+use Rattle.frame.specs.Frames.{Room}
 use Rattle.analyzer.specs.Budgets.{budget, budgetAt, aboveAt}
 use Rattle.analyzer.specs.Sites.{LiesIn, Inside, Under}
 
@@ -101,19 +103,19 @@ module _ (t : List ℕ) where
   -- ---- queries
 
   -- A query that is to be analysed.
-  pub record Begun (outer work : List ℕ) (query key value : ℕ) : Type 0 where
+  pub record Begun (v : Width) (outer work : List ℕ) (query key value : ℕ) : Type 0 where
     pub from : 1 ≤ query
     pub to : query ≤ getD t 4 0
     pub key-low : key ≤ getD t 2 0
     pub value-low : value ≤ getD t 2 0
     pub key-lies : LiesIn t query key
     pub value-lies : LiesIn t query value
-    pub room : 4 * (budgetAt t query + aboveAt t query) + 4736 ≤ length work
+    pub room : Room v (length work) (budgetAt t query + aboveAt t query)
     pub parents : List Scope
     pub beneath : Outer outer parents
     pub schedules : List QuerySchedule
-    pub table : Table t work schedules
+    pub table : Table v t work schedules
 
   -- There may be none.
-  abbrev pub AsksQuery : List ℕ → List ℕ → ℕ → ℕ → ℕ → Type 0
-  AsksQuery outer work query key value = (query ≡ 0) ⊎ Begun outer work query key value
+  abbrev pub AsksQuery : Width → List ℕ → List ℕ → ℕ → ℕ → ℕ → Type 0
+  AsksQuery v outer work query key value = (query ≡ 0) ⊎ Begun v outer work query key value

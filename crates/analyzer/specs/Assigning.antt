@@ -130,7 +130,7 @@ module _ (t : List ℕ) (row : ℕ) (check : Bool) (u : Using) (fs w : List ℕ)
       record {
         list = assignedVars sc target;
         holds = assigned-held sc (sets-of (q .scope));
-        low = omega (arith, h .room, a .count, same .1, assigned-few sc target);
+        low = rw (asked w .grown .wide) (omega (arith, h .room, a .count, same .1, assigned-few sc target));
       }
 
   pub assigns : (i : ℕ) (r : Progress) (w′ : List ℕ) → EachRecorded i vars (u .names) true q w r w′ → Assigns t target check i u fs w r w′

@@ -4,6 +4,9 @@ use mathlib.Core.List.{List, [], _∷_}
 use Prim.Native.Nat.{ℕ, suc, _+_, _-_, _≤_, _<_}
 use native.Mathlib.Omega.{arith}
 use lib.ListN.{length, getD}
+use Rattle.widths.specs.declared.Width.{Width}
+use Rattle.widths.specs.declared.Width.the-variants.{Two, Eight}
+use Rattle.widths.specs.Widths.{work}
 use Rattle.accepted.specs.Accepted.{accepted}
 use Rattle.trees.specs.Statements.{Stmt, stmtsOf}
 use Rattle.sizes.specs.Sizes.{total, weight}
@@ -11,6 +14,7 @@ use Rattle.sizes.specs.Sums.{sumTo, sum-mono, sum-add, sum-longer, sum-last}
 use Rattle.sizes.specs.Bound.{weights-fit}
 use Rattle.homes.specs.Bases.{counts-fit}
 use Rattle.gather.specs.Sheets.{countsAt, specialAt, sheetAt, Accepted}
+use Rattle.frame.specs.Frames.{Room}
 use Rattle.records.specs.Rows.{inTables}
 
 -- A statement records at most what it weighs; one row more, so that there is always room for the row that a statement without any gets.
@@ -62,3 +66,8 @@ module _ (t : List ℕ) where
   pub all-fit : Accepted t → 1 ≤ getD t 4 0 → budgetAt t 1 + aboveAt t 1 ≤ 768
   all-fit ok l =
       omega (arith, budgets-fit ok, sum-last (budgetAt t) 1 (omega arith), sum-longer (budgetAt t) 1 (getD t 4 0) l)
+
+-- So many rows, and the answers, have room in the work that a call is lent.
+pub work-fits : (v : Width) (n k : ℕ) → work v ≤ n → k ≤ 768 → Room v n k
+work-fits Two n k long few = record { enough = omega arith; rows = omega arith }
+work-fits Eight n k long few = record { enough = omega arith; rows = omega arith }

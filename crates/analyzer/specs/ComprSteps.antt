@@ -5,11 +5,13 @@ use mathlib.Core.Bool.{Bool, true, false, cond, _&&_}
 use mathlib.Core.List.{List, [], _∷_, _++_, foldl}
 use mathlib.Core.Logic.{_⊎_, inl, inr}
 use mathlib.Core.Option.{none}
-use Prim.Native.Nat.{ℕ, _+_, _-_, _*_, _≤_}
+use Prim.Native.Nat.{ℕ, _+_, _-_, _*_, _≤_, _<_}
 use native.Mathlib.Omega.{arith}
 use lib.ListN.{length, getD, take}
 use borrow.Rule.Slice.PartMut.{postOf, put-same}
 use Rattle.basics.specs.Truth.{bool-cases, eq-cases}
+use Rattle.widths.specs.Widths as Widths
+use Rattle.blocks.specs.Layout.{answers}
 use Rattle.records.specs.declared.Row.{Row}
 use Rattle.trees.specs.Sheet.{rowAt}
 use Rattle.trees.specs.Kinds.{isCompr}
@@ -36,15 +38,16 @@ use Rattle.analyzer.specs.Queries.{DoesQuery}
 
 module _ (t : List ℕ) (ok : Accepted t) (inner : List ℕ) (levels row : ℕ) (there : row ≡ 0 → ⊥) (high : row ≤ getD t 2 0) (w : Row)
     (is : w ≡ rowAt t row) (third : isCompr w ≡ true → (1 ≤ w .third) × (w .third ≤ 32)) (p : Progress) (firsts work : List ℕ)
-    (low : 4 * p .count + 4736 ≤ length work) (query : ℕ) (asks : query ≡ pendingAt p w work) (fault : Fault) (part : List ℕ)
-    (long : length part ≡ length (tail work (4 * p .count) low))
-    (does : DoesQuery t inner query (w .first) (w .second) levels (tail work (4 * p .count) low) fault part)
-    (r : Progress) (firsts′ : List ℕ) (after : AfterCompr w (whole work (4 * p .count) low part long) p fault firsts r firsts′) where
+    (a : ℕ) (a-is : a ≡ Widths.row (p .width) * p .count) (low : a + answers (p .width) ≤ length work)
+    (query : ℕ) (asks : query ≡ pendingAt p w work) (fault : Fault) (part : List ℕ)
+    (long : length part ≡ length (tail (p .width) work a low))
+    (does : DoesQuery t (p .width) inner query (w .first) (w .second) levels (tail (p .width) work a low) fault part)
+    (r : Progress) (firsts′ : List ℕ) (after : AfterCompr w (whole (p .width) work a low part long) p fault firsts r firsts′) where
   abbrev before : List ℕ
-  before = tail work (4 * p .count) low
+  before = tail (p .width) work a low
 
   abbrev now-work : List ℕ
-  now-work = whole work (4 * p .count) low part long
+  now-work = whole (p .width) work a low part long
 
   abbrev expr : Tree
   expr = exprBy t false row
@@ -55,18 +58,22 @@ module _ (t : List ℕ) (ok : Accepted t) (inner : List ℕ) (levels row : ℕ) 
   outputs : outputsOf expr ≡ chainAt t (w .first) ++ chainAt t (w .second)
   outputs = rw (tree-is t ok row there high, is)
 
+  -- The rows are as they were.
+  front : (j : ℕ) → j < Widths.row (p .width) * p .count → getD now-work j 0 ≡ getD work j 0
+  front j l = whole-front (p .width) work a low part long j (omega (arith, a-is))
+
   -- Where no query is asked for, work is as it was.
   same-work : query ≡ 0 → now-work ≡ work
-  same-work z = ap (λ (l : List ℕ). whole-of l) (does .none z .1) ∙ put-same (4 * p .count) (length work - 4 * p .count) work
+  same-work z = ap (λ (l : List ℕ). whole-of l) (does .none z .1) ∙ put-same a (length work - a) work
     where
       whole-of : List ℕ → List ℕ
-      whole-of l = take (4 * p .count) work ++ (l ++ postOf (4 * p .count) (length work - 4 * p .count) work)
+      whole-of l = take a work ++ (l ++ postOf a (length work - a) work)
 
   idle : (isCompr w ≡ false) ⊎ (isSound (p .fault) ≡ false) → query ≡ 0
   idle (inl n) = asks ∙ rw n
   idle (inr n) = asks ∙ go (isCompr w)
     where
-      go : (b : Bool) → cond (b && isSound (p .fault)) (unscheduledAt work (w .third)) 0 ≡ 0
+      go : (b : Bool) → cond (b && isSound (p .fault)) (unscheduledAt (p .width) work (w .third)) 0 ≡ 0
       go true = rw n
       go false = refl
 
@@ -88,8 +95,8 @@ module _ (t : List ℕ) (ok : Accepted t) (inner : List ℕ) (levels row : ℕ) 
       old : query ≡ 0 → Agree t spans (failed p fault) firsts now-work analysed
       unfolding analysed analyzeCompr
       old z =
-          let a = scheduled p w work (s .run .schedules) (held .table .stored) (third c .0) (third c .1) c b (sym asks ∙ z) in
-          let same : analysed ≡ s = rw (row-of, a .1) in
+          let had = scheduled p w work (s .run .schedules) (held .table .stored) (third c .0) (third c .1) c b (sym asks ∙ z) in
+          let same : analysed ≡ s = rw (row-of, had .1) in
           let f : fault ≡ Sound = does .none z .0 in
           rw (same, f, same-work z) (record { fault = sym clear; count = h .count; whole = λ e. record { scope = held .scope; used-first = held .used-first; rows = held .rows; table = held .table } })
 
@@ -97,21 +104,21 @@ module _ (t : List ℕ) (ok : Accepted t) (inner : List ℕ) (levels row : ℕ) 
       new : (query ≡ 0 → ⊥) → Agree t spans (failed p fault) firsts now-work analysed
       unfolding analysed analyzeCompr setRun
       new ne =
-          let a = pending p w work (s .run .schedules) (held .table .stored) (third c .0) (third c .1) c b (λ z. ne (asks ∙ z)) in
-          let q : query ≡ w .third = asks ∙ a .0 in
+          let due = pending p w work (s .run .schedules) (held .table .stored) (third c .0) (third c .1) c b (λ z. ne (asks ∙ z)) in
+          let q : query ≡ w .third = asks ∙ due .0 in
           let run : Run = nestedBy t levels (s .scope ∷ parents) query (chainAt t (w .first) ++ chainAt t (w .second)) (s .run) in
-          let lent = table-of t work before (s .run .schedules) (omega (arith, tail-length work (4 * p .count) low)) (tail-answers work (4 * p .count) low) (held .table) in
+          let lent = table-of (p .width) t work before (s .run .schedules) (omega (arith, tail-length (p .width) work a low)) (tail-answers (p .width) work a low) (held .table) in
           let end = does .one ne (s .scope ∷ parents) (s .run) (o clear) clear lent in
-          let becomes : analysed ≡ setRun run s = rw (row-of, a .1, outputs, sym q) in
+          let becomes : analysed ≡ setRun run s = rw (row-of, due .1, outputs, sym q) in
           rw becomes (record {
             fault = end .0;
             count = h .count;
             whole = λ e. record {
               scope = held .scope;
               used-first = held .used-first;
-              rows = held-same work now-work (p .count) (s .definitions) (held .rows) (whole-front work (4 * p .count) low part long);
-              table = table-of t part now-work (run .schedules)
-                  (omega (arith, low, whole-length work (4 * p .count) low part long)) (whole-answers work (4 * p .count) low part long) (end .1 e);
+              rows = held-same (p .width) work now-work (p .count) (s .definitions) (held .rows) front;
+              table = table-of (p .width) t part now-work (run .schedules)
+                  (omega (arith, low, whole-length (p .width) work a low part long)) (whole-answers (p .width) work a low part long) (end .1 e);
             };
           })
 
@@ -145,9 +152,10 @@ module _ (t : List ℕ) (ok : Accepted t) (inner : List ℕ) (levels row : ℕ) 
       p firsts work r firsts′ now-work
   compr-turn = record {
     grown = record {
-      long = whole-length work (4 * p .count) low part long;
+      long = whole-length (p .width) work a low part long;
       up = omega (arith, after .count);
-      before = whole-front work (4 * p .count) low part long;
+      wide = after .wide;
+      before = front;
     };
     agrees = turn;
   }

@@ -7,6 +7,8 @@ use Prim.Native.Nat.{ℕ, _+_, _*_, _≤_}
 use native.Mathlib.Omega.{arith}
 use lib.ListN.{length, getD}
 use Rattle.basics.specs.Truth.{bool-cases, eq-cases}
+use Rattle.widths.specs.Widths as Widths
+use Rattle.blocks.specs.Layout.{answers}
 use Rattle.records.specs.declared.Row.{Row}
 use Rattle.trees.specs.Sheet.{rowAt}
 use Rattle.trees.specs.Kinds.{isCompr}
@@ -38,7 +40,7 @@ use Rattle.comprs.specs.Pending.{pendingAt, pending}
 use Rattle.comprs.specs.After.{AfterCompr}
 use Rattle.analyzer.specs.Budgets.{above-later}
 use Rattle.analyzer.specs.Sites.{nestedBy, LiesIn, At}
-use Rattle.analyzer.specs.Moves.{at-rows, inside-next, runs-in, runs-in-then, runs-in-as}
+use Rattle.analyzer.specs.Moves.{at-rows, room-behind, inside-next, runs-in, runs-in-then, runs-in-as}
 use Rattle.analyzer.specs.Steadies.{steady-comprs}
 use Rattle.analyzer.specs.Queries.{DoesQuery}
 use Rattle.analyzer.specs.ComprSteps.{compr-turn}
@@ -118,15 +120,16 @@ module _ (t : List ℕ) (ok : Accepted t) (inner : List ℕ) (row : ℕ) (there 
     here : queryOf (countsAt t) (inTables t) (exprRow row) ≡ at .query
     here = lies-there (countsAt t) t (at .query) row (omega arith) (h .lies)
 
-    pub room-at : 4 * p .count + 4736 ≤ length work
-    room-at = at-rows t (h .inside .spans) p firsts work 0 at
+    -- The rows have a words, as the code counts them.
+    pub room-at : (a : ℕ) → a ≡ Widths.row (p .width) * p .count → a + answers (p .width) ≤ length work
+    room-at a is = omega (arith, is, at-rows t (h .inside .spans) p firsts work 0 at)
 
     -- ---- the call of `analyze_query`
 
-    abbrev lent : List ℕ
-    lent = tail work (4 * p .count) room-at
+    abbrev lent : (a : ℕ) → a ≡ Widths.row (p .width) * p .count → List ℕ
+    lent a a-is = tail (p .width) work a (room-at a a-is)
 
-    module _ (query : ℕ) (asks : query ≡ pendingAt p w work) (third : QueryIn w) where
+    module _ (a : ℕ) (a-is : a ≡ Widths.row (p .width) * p .count) (query : ℕ) (asks : query ≡ pendingAt p w work) (third : QueryIn w) where
       asked : (query ≡ 0 → ⊥) → (isCompr w ≡ true) × (isSound (p .fault) ≡ true)
       asked ne = go (bool-cases (isCompr w)) (bool-cases (isSound (p .fault)))
         where
@@ -141,15 +144,15 @@ module _ (t : List ℕ) (ok : Accepted t) (inner : List ℕ) (row : ℕ) (there 
           let o = compr-opens (countsAt t) t (ok .within) (ok .fine) (at .query) row (omega arith) high here (ap (λ (v : Row). isCompr v) (sym is) ∙ c) in
           subst (Opens (countsAt t) t (at .query)) (sym is) o
 
-      begun : (query ≡ 0 → ⊥) → Begun t inner lent query (w .first) (w .second)
+      begun : (query ≡ 0 → ⊥) → Begun t (p .width) inner (lent a a-is) query (w .first) (w .second)
       begun ne =
-          let a = asked ne in
-          let clear : at .state .run .fault ≡ sound = sym (at .agrees .fault) ∙ sound-is (p .fault) (a .1) in
+          let due = asked ne in
+          let clear : at .state .run .fault ≡ sound = sym (at .agrees .fault) ∙ sound-is (p .fault) (due .1) in
           let held = at .agrees .whole clear in
-          let from = third (a .0) .0 in
-          let to = third (a .0) .1 in
-          let o = opens (a .0) in
-          let is-pending = pending p w work (at .state .run .schedules) (held .table .stored) from to (a .0) (a .1) (λ z. ne (asks ∙ z)) in
+          let from = third (due .0) .0 in
+          let to = third (due .0) .1 in
+          let o = opens (due .0) in
+          let is-pending = pending p w work (at .state .run .schedules) (held .table .stored) from to (due .0) (due .1) (λ z. ne (asks ∙ z)) in
           let q : query ≡ w .third = asks ∙ is-pending .0 in
           rw q (record {
             from = from;
@@ -158,35 +161,31 @@ module _ (t : List ℕ) (ok : Accepted t) (inner : List ℕ) (row : ℕ) (there 
             value-low = second-low t ok row there high w is;
             key-lies = o .first;
             value-lies = o .second;
-            room = omega (
-              arith,
-              at .room,
-              at .agrees .count,
-              above-later t (at .query) (w .third) (o .nests .larger) (o .in-sheet),
-              tail-length work (4 * p .count) room-at,
-            );
+            room = room-behind (p .width) (length work) _ (p .count) a a-is _ (at .room) (room-at a a-is)
+                (omega (arith, at .agrees .count, above-later t (at .query) (w .third) (o .nests .larger) (o .in-sheet)))
+                (length (lent a a-is)) (tail-length (p .width) work a (room-at a a-is));
             parents = at .state .scope ∷ at .parents;
             beneath = h .inside .around clear;
             schedules = at .state .run .schedules;
-            table = table-of t work lent (at .state .run .schedules) (omega (arith, room-at, tail-length work (4 * p .count) room-at))
-                (tail-answers work (4 * p .count) room-at) (held .table);
+            table = table-of (p .width) t work (lent a a-is) (at .state .run .schedules) (omega (arith, room-at a a-is, tail-length (p .width) work a (room-at a a-is)))
+                (tail-answers (p .width) work a (room-at a a-is)) (held .table);
           })
 
-      pub query-asks : AsksQuery t inner lent query (w .first) (w .second)
+      pub query-asks : AsksQuery t (p .width) inner (lent a a-is) query (w .first) (w .second)
       query-asks = go (eq-cases query 0)
         where
-          go : (query ≡ 0) ⊎ (query ≡ 0 → ⊥) → AsksQuery t inner lent query (w .first) (w .second)
+          go : (query ≡ 0) ⊎ (query ≡ 0 → ⊥) → AsksQuery t (p .width) inner (lent a a-is) query (w .first) (w .second)
           go (inl z) = inl z
           go (inr ne) = inr (begun ne)
 
       -- The row's own turn.
-      pub own-does : (levels : ℕ) (fault : Fault) (part : List ℕ) (long : length part ≡ length lent)
-          → DoesQuery t inner query (w .first) (w .second) levels lent fault part → (r : Progress) (firsts′ : List ℕ)
-          → AfterCompr w (whole work (4 * p .count) room-at part long) p fault firsts r firsts′
-          → DoesComprs t inner own levels p firsts work r firsts′ (whole work (4 * p .count) room-at part long)
+      pub own-does : (levels : ℕ) (fault : Fault) (part : List ℕ) (long : length part ≡ length (lent a a-is))
+          → DoesQuery t (p .width) inner query (w .first) (w .second) levels (lent a a-is) fault part → (r : Progress) (firsts′ : List ℕ)
+          → AfterCompr w (whole (p .width) work a (room-at a a-is) part long) p fault firsts r firsts′
+          → DoesComprs t inner own levels p firsts work r firsts′ (whole (p .width) work a (room-at a a-is) part long)
       unfolding processComprs
       own-does levels fault part long does r firsts′ after =
-          compr-turn t ok inner levels row there high w is third p firsts work room-at query asks fault part long does r firsts′ after
+          compr-turn t ok inner levels row there high w is third p firsts work a a-is (room-at a a-is) query asks fault part long does r firsts′ after
 
     -- ---- the calls of itself
 

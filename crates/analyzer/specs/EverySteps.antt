@@ -3,13 +3,15 @@ use mathlib.Core.Path.{_≡_, refl, sym, ap, _∙_, subst}
 use mathlib.Core.Bool.{Bool, true, false, cond}
 use mathlib.Core.List.{List, [], _∷_, _++_, foldl}
 use mathlib.Core.Logic.{_⊎_, inl, inr}
-use Prim.Native.Nat.{ℕ, suc, _+_, _-_, _*_, _≤_}
+use Prim.Native.Nat.{ℕ, suc, _+_, _-_, _*_, _≤_, _<_}
 use native.Mathlib.Omega.{arith}
 use lib.ListN.{length, getD, take}
 use borrow.Rule.Slice.PartMut.{postOf, put-same}
 use Rattle.basics.specs.Truth.{bool-cases}
 use Rattle.names.specs.Sets.{members, Empty}
 use Rattle.names.specs.declared.Names.{Names}
+use Rattle.widths.specs.Widths as Widths
+use Rattle.blocks.specs.Layout.{answers}
 use Rattle.records.specs.declared.Statement.{Statement}
 use Rattle.naming.specs.Entries.{statementRow}
 use Rattle.naming.specs.EnclosingLaws.{queryOf}
@@ -59,7 +61,7 @@ use Rattle.laws.specs.Keeps.{keeps-guarded}
 use Rattle.laws.specs.KeepsNested.{keeps-process-plain-expr}
 use Rattle.analyzer.specs.Budgets.{above-later}
 use Rattle.analyzer.specs.Sites.{nestedBy, Around, Inside, Under}
-use Rattle.analyzer.specs.Moves.{Enclosing, at-ready, at-rows, inside-next, under-less, under-next, under-inside}
+use Rattle.analyzer.specs.Moves.{Enclosing, at-ready, at-rows, inside-next, under-less, under-next, under-inside, room-behind}
 use Rattle.analyzer.specs.Steadies.{fits, steady-use}
 use Rattle.analyzer.specs.Queries.{DoesQuery}
 use Rattle.analyzer.specs.Asks.{tree, AsksExpr, AsksLiteral, Begun, AsksQuery}
@@ -200,8 +202,9 @@ module _ (t : List ℕ) (ok : Accepted t) (outer spans : List ℕ) (st : Stateme
             (plain-steps m) (omega (arith, enough))
             (record { grown = grows m (some-stand t x); agrees = after-one m (some-stand t x) }) (asks .under)
 
-        pub room-at : 4 * s .count + 4736 ≤ length work″
-        room-at = at-rows t spans s firsts′ work″ 0 (after .at)
+        -- The rows have n words, as the code counts them.
+        pub room-at : (n : ℕ) → n ≡ Widths.row (s .width) * s .count → n + answers (s .width) ≤ length work″
+        room-at n is = omega (arith, is, at-rows t spans s firsts′ work″ 0 (after .at))
 
         -- The scopes around nested queries are as they were.
         outer-then : (m : Mods) (parents : List Scope) (v : State) → Outer outer parents → Agree t spans p firsts work v
@@ -213,20 +216,20 @@ module _ (t : List ℕ) (ok : Accepted t) (outer spans : List ℕ) (st : Stateme
 
         -- ---- the body
 
-        abbrev lent : List ℕ
-        lent = tail work″ (4 * s .count) room-at
+        abbrev lent : (n : ℕ) → n ≡ Widths.row (s .width) * s .count → List ℕ
+        lent n n-is = tail (s .width) work″ n (room-at n n-is)
 
-        lent-table : (z : State) → Agree t spans s firsts′ work″ z → z .run .fault ≡ sound → Table t lent (z .run .schedules)
-        lent-table z a e =
-            table-of t work″ lent (z .run .schedules) (omega (arith, room-at, tail-length work″ (4 * s .count) room-at))
-            (tail-answers work″ (4 * s .count) room-at) (a .whole e .table)
+        lent-table : (n : ℕ) (n-is : n ≡ Widths.row (s .width) * s .count) (z : State) → Agree t spans s firsts′ work″ z → z .run .fault ≡ sound → Table (s .width) t (lent n n-is) (z .run .schedules)
+        lent-table n n-is z a e =
+            table-of (s .width) t work″ (lent n n-is) (z .run .schedules) (omega (arith, room-at n n-is, tail-length (s .width) work″ n (room-at n n-is)))
+            (tail-answers (s .width) work″ n (room-at n n-is)) (a .whole e .table)
 
         abbrev keyValue : Scope
         keyValue = foldl addLocal noScope (vars (chainAt t (st .first) ++ chainAt t (st .second)))
 
-        module _ (body : List ℕ) (bodied : EveryBody t inner (st .first) (st .second) body) (query : ℕ)
+        module _ (n : ℕ) (n-is : n ≡ Widths.row (s .width) * s .count) (body : List ℕ) (bodied : EveryBody t inner (st .first) (st .second) body) (query : ℕ)
             (which : query ≡ cond (isSound (s .fault)) (st .query) 0) where
-          begun : isSound (s .fault) ≡ true → Begun t body lent query 0 0
+          begun : isSound (s .fault) ≡ true → Begun t (s .width) body (lent n n-is) query 0 0
           begun b =
               let q : query ≡ st .query = which ∙ rw b in
               let at = after .at in
@@ -239,36 +242,33 @@ module _ (t : List ℕ) (ok : Accepted t) (outer spans : List ℕ) (st : Stateme
                 value-low = omega arith;
                 key-lies = inl refl;
                 value-lies = inl refl;
-                room = rw q (omega (
-                  arith,
-                  at .room,
-                  at .agrees .count,
-                  above-later t (asks .under .at .query) (st .query) (opens .0 .larger) (opens .1),
-                  tail-length work″ (4 * s .count) room-at,
-                ));
+                room = rw q (room-behind (s .width) (length work″) _ (s .count) n n-is _ (at .room) (room-at n n-is)
+                    (omega (arith, at .agrees .count, above-later t (asks .under .at .query) (st .query) (opens .0 .larger) (opens .1)))
+                    (length (lent n n-is)) (tail-length (s .width) work″ n (room-at n n-is)));
                 parents = keyValue ∷ (at .state .scope ∷ at .parents);
                 beneath = bodied (at .state .scope ∷ at .parents) o;
                 schedules = at .state .run .schedules;
-                table = lent-table (at .state) (at .agrees) fine;
+                table = lent-table n n-is (at .state) (at .agrees) fine;
               }
 
-          pub query-asks : AsksQuery t body lent query 0 0
+          pub query-asks : AsksQuery t (s .width) body (lent n n-is) query 0 0
           query-asks = go (bool-cases (isSound (s .fault)))
             where
-              go : (isSound (s .fault) ≡ true) ⊎ (isSound (s .fault) ≡ false) → AsksQuery t body lent query 0 0
+              go : (isSound (s .fault) ≡ true) ⊎ (isSound (s .fault) ≡ false) → AsksQuery t (s .width) body (lent n n-is) query 0 0
               go (inl b) = inr (begun b)
               go (inr b) = inl (which ∙ rw b)
 
-          module _ (fault : Fault) (part : List ℕ) (long : length part ≡ length lent) (does : DoesQuery t body query 0 0 (x .levels) lent fault part)
+          module _ (fault : Fault) (part : List ℕ) (long : length part ≡ length (lent n n-is))
+              (does : DoesQuery t (s .width) body query 0 0 (x .levels) (lent n n-is) fault part)
               (r : Progress) (ends : r ≡ cond (isSound (s .fault)) (failed s fault) s) where
             abbrev now-work : List ℕ
-            now-work = whole work″ (4 * s .count) room-at part long
+            now-work = whole (s .width) work″ n (room-at n n-is) part long
 
             -- Where no query is asked for, work is as it was.
             same-work : query ≡ 0 → now-work ≡ work″
             same-work z =
-                ap (λ (l : List ℕ). take (4 * s .count) work″ ++ (l ++ postOf (4 * s .count) (length work″ - 4 * s .count) work″)) (does .none z .1)
-                ∙ put-same (4 * s .count) (length work″ - 4 * s .count) work″
+                ap (λ (l : List ℕ). take n work″ ++ (l ++ postOf n (length work″ - n) work″)) (does .none z .1)
+                ∙ put-same n (length work″ - n) work″
 
             same-count : r .count ≡ s .count
             same-count = ap (λ (z : Progress). z .count) ends ∙ go (isSound (s .fault))
@@ -276,6 +276,17 @@ module _ (t : List ℕ) (ok : Accepted t) (outer spans : List ℕ) (st : Stateme
                 go : (b : Bool) → cond b (failed s fault) s .count ≡ s .count
                 go true = refl
                 go false = refl
+
+            same-width : r .width ≡ s .width
+            same-width = ap (λ (z : Progress). z .width) ends ∙ go (isSound (s .fault))
+              where
+                go : (b : Bool) → cond b (failed s fault) s .width ≡ s .width
+                go true = refl
+                go false = refl
+
+            -- The rows are as they were.
+            rows-stay : (j : ℕ) → j < Widths.row (s .width) * s .count → getD now-work j 0 ≡ getD work″ j 0
+            rows-stay j l = whole-front (s .width) work″ n (room-at n n-is) part long j (omega (arith, n-is))
 
             abbrev analysed : List Scope → State → State
             analysed parents z = setRun (nested (keyValue ∷ (z .scope ∷ parents)) (st .query) [] (z .run)) z
@@ -291,16 +302,16 @@ module _ (t : List ℕ) (ok : Accepted t) (outer spans : List ℕ) (st : Stateme
                   let ne : query ≡ 0 → ⊥ = λ e. omega (arith, q, opens .0 .not-first) in
                   let run = nested (keyValue ∷ (z .scope ∷ parents)) query (chainAt t 0 ++ chainAt t 0) (z .run) in
                   let is : run ≡ nested (keyValue ∷ (z .scope ∷ parents)) (st .query) [] (z .run) = rw (chain-none t ok, q) in
-                  let end = does .one ne (keyValue ∷ (z .scope ∷ parents)) (z .run) (bodied (z .scope ∷ parents) (o fine)) fine (lent-table z a fine) in
+                  let end = does .one ne (keyValue ∷ (z .scope ∷ parents)) (z .run) (bodied (z .scope ∷ parents) (o fine)) fine (lent-table n n-is z a fine) in
                   rw (sym is) (record {
                     fault = end .0;
                     count = a .count;
                     whole = λ e. record {
                       scope = held .scope;
                       used-first = held .used-first;
-                      rows = held-same work″ now-work (s .count) (z .definitions) (held .rows) (whole-front work″ (4 * s .count) room-at part long);
-                      table = table-of t part now-work (run .schedules)
-                          (omega (arith, room-at, whole-length work″ (4 * s .count) room-at part long)) (whole-answers work″ (4 * s .count) room-at part long) (end .1 e);
+                      rows = held-same (s .width) work″ now-work (s .count) (z .definitions) (held .rows) rows-stay;
+                      table = table-of (s .width) t part now-work (run .schedules)
+                          (omega (arith, room-at n n-is, whole-length (s .width) work″ n (room-at n n-is) part long)) (whole-answers (s .width) work″ n (room-at n n-is) part long) (end .1 e);
                     };
                   })
 
@@ -320,9 +331,10 @@ module _ (t : List ℕ) (ok : Accepted t) (outer spans : List ℕ) (st : Stateme
             unfolding processEvery
             every-does m stands = record {
               grown = grown-then t p s r work work″ now-work (grows m stands) (record {
-                long = whole-length work″ (4 * s .count) room-at part long;
+                long = whole-length (s .width) work″ n (room-at n n-is) part long;
                 up = omega (arith, same-count);
-                before = whole-front work″ (4 * s .count) room-at part long;
+                wide = same-width;
+                before = rows-stay;
               });
               agrees = λ parents v o a. turned parents (guarded (plain parents m) v) (after-one m stands parents v o a) (outer-then m parents v o a);
             }

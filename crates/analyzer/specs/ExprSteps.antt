@@ -13,6 +13,7 @@ use Rattle.basics.specs.Truth.{bool-cases, eq-cases, not-both}
 use Rattle.names.specs.Sets.{members}
 use Rattle.names.specs.declared.Names.{Names}
 use Rattle.records.specs.declared.Row.{Row}
+use Rattle.widths.specs.declared.Width.{Width}
 use Rattle.trees.specs.Sheet.{rowAt}
 use Rattle.trees.specs.Kinds.{isCall, isAssign, isColEq}
 use Rattle.trees.specs.Trees.{Tree, rowOf}
@@ -47,6 +48,7 @@ use Rattle.recording.specs.Records.{NamesFit, EachRecorded, ready-names}
 use Rattle.frame.specs.declared.Progress.{Progress}
 use Rattle.frame.specs.Faults.{isSound, meaning}
 use Rattle.frame.specs.Held.{Held}
+use Rattle.frame.specs.Table.{Table}
 use Rattle.frame.specs.Frames.{guarded, Agree, Grown, grown-then}
 use Rattle.frame.specs.Steps.{agree-sound, not-sound}
 use Rattle.laws.specs.Guards.{guarded-sound, guarded-stays, fault-cases, pairings-stay}
@@ -126,8 +128,10 @@ module _ (t : List ℕ) (ok : Accepted t) (outer spans : List ℕ) (row : ℕ) (
               whole = λ e. record {
                 scope = bound .agrees b spans (s .scope) (names parents) (held .scope) (hold parents o);
                 used-first = held .used-first;
-                rows = subst (λ (n : ℕ). Held work n (s .definitions)) (sym (bound .count)) (held .rows);
-                table = held .table;
+                rows =
+                    subst (λ (v : Width). Held v work (q .count) (s .definitions)) (sym (bound .wide))
+                    (subst (λ (n : ℕ). Held (p .width) work n (s .definitions)) (sym (bound .count)) (held .rows));
+                table = subst (λ (v : Width). Table v t work (s .run .schedules)) (sym (bound .wide)) (held .table);
               };
             })
         go (inr b) =
@@ -135,7 +139,7 @@ module _ (t : List ℕ) (ok : Accepted t) (outer spans : List ℕ) (row : ℕ) (
             rw (guarded-stays s faulty (bind (names parents)), bound .same b) a
 
     bound-grown : Grown t p work q work
-    bound-grown = record { long = refl; up = omega (arith, bound .count); before = λ j l. refl }
+    bound-grown = record { long = refl; up = omega (arith, bound .count); wide = bound .wide; before = λ j l. refl }
 
     steps : (parents : List Scope) → Step (sheetAt t) 0 0 (guarded (bind (names parents)))
     steps parents s =

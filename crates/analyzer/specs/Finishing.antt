@@ -13,12 +13,12 @@ use Rattle.conclude.specs.Concluded.{Concluded}
 use Rattle.analyzer.specs.Ends.{OpenedFrom, Finished}
 
 pub opened-from : (p r : Progress) (k : Scope) → Opened (p .scope) k → r ≡ scoped p k → OpenedFrom p r
-opened-from p r k put is = rw is (record { count = refl; fault = refl; scope = put })
+opened-from p r k put is = rw is (record { count = refl; fault = refl; wide = refl; scope = put })
 
 module _ (t w : List ℕ) (q : ℕ) (k : Scope) (p : Progress) (l : List ℕ) (r : Fault) (same : r ≡ p .fault) where
   -- The query is concluded.
-  pub finished : (whole : Scope) → whole ≡ withInputsOf k (p .scope) → (v : List ℕ) → Concluded t w q whole l (p .count) v → Finished t w q k p l r v
-  finished whole is v done = record {
+  pub finished : (whole : Scope) → whole ≡ withInputsOf k (p .scope) → (u : List ℕ) → Concluded (p .width) t w q whole l (p .count) u → Finished t w q k p l r u
+  finished whole is u done = record {
     fault = same;
     enters = λ fine a schedules h table.
         done .enters a schedules
@@ -36,5 +36,5 @@ module _ (t w : List ℕ) (q : ℕ) (k : Scope) (p : Progress) (l : List ℕ) (r
   }
 
   -- It is not, at a fault.
-  pub unfinished : (isSound (p .fault) ≡ true → ⊥) → (v : List ℕ) → Finished t w q k p l r v
-  unfinished faulty v = record { fault = same; enters = λ fine. absurd (faulty fine) }
+  pub unfinished : (isSound (p .fault) ≡ true → ⊥) → (u : List ℕ) → Finished t w q k p l r u
+  unfinished faulty u = record { fault = same; enters = λ fine. absurd (faulty fine) }

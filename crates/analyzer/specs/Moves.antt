@@ -1,9 +1,13 @@
 -- From one call to the next: what the code may rely on after a step, and what two steps do together.
 use mathlib.Core.Path.{_≡_, subst}
 use mathlib.Core.List.{List, _∷_}
-use Prim.Native.Nat.{ℕ, _+_, _*_, _≤_}
+use Prim.Native.Nat.{ℕ, _+_, _-_, _*_, _/_, _≤_}
+use native.Mathlib.Nat.{mul-le-mul-left, div-mul-le-self}
 use native.Mathlib.Omega.{arith}
 use lib.ListN.{length}
+use Rattle.widths.specs.declared.Width.{Width}
+use Rattle.widths.specs.Widths as Widths
+use Rattle.blocks.specs.Layout.{answers}
 use Rattle.scopes.specs.Scopes.{Scope}
 use Rattle.analysis.specs.States.{sound, State}
 use Rattle.sizes.specs.Adds.{Step, adds-length}
@@ -11,7 +15,8 @@ use Rattle.gather.specs.Sheets.{sheetAt}
 use Rattle.gather.specs.Spans.{Agrees}
 use Rattle.gather.specs.Outers.{Outer}
 use Rattle.frame.specs.declared.Progress.{Progress}
-use Rattle.frame.specs.Frames.{Agree, Runs, Ready, grown-then}
+use Rattle.frame.specs.Tails.{tail-rows}
+use Rattle.frame.specs.Frames.{Room, Agree, Runs, Ready, grown-then}
 use Rattle.laws.specs.Guards.{was-sound}
 use Rattle.laws.specs.Same.{same-outer}
 use Rattle.laws.specs.Keeps.{Keeps}
@@ -24,6 +29,23 @@ pub record Steady (t : List ℕ) (n : ℕ) (f : State → State) : Type 0 where
   pub keeps : Keeps f
   pub stays : (s : State) → (s .run .fault ≡ sound → ⊥) → f s ≡ s
 
+-- Where there is room for k rows, there is room for fewer, in words.
+room-words : (v : Width) (n k c : ℕ) → Room v n k → c ≤ k → Widths.row v * c + answers v ≤ n
+room-words v n k c h l =
+    let few : c ≤ (n - answers v) / Widths.row v = omega (arith, h .rows) in
+    omega (arith, h .enough, mul-le-mul-left (Widths.row v) few, div-mul-le-self (n - answers v) (Widths.row v))
+
+pub room-same : {v u : Width} {n m k : ℕ} → v ≡ u → n ≡ m → Room u m k → Room v n k
+room-same e f h = rw (e, f) h
+
+-- A nested query is lent the m words behind c rows, which are a words: there is room for the rows that are left.
+pub room-behind : (v : Width) (n k c a : ℕ) → a ≡ Widths.row v * c → (more : ℕ) → Room v n k → a + answers v ≤ n → c + more ≤ k → (m : ℕ) → m ≡ n - a
+    → Room v m more
+room-behind v n k c a is more h low l m behind = rw behind (record {
+  enough = omega arith;
+  rows = rw is (omega (arith, h .rows, tail-rows v n c (omega arith)));
+})
+
 module _ (t : List ℕ) where
   -- ---- room
 
@@ -35,7 +57,7 @@ module _ (t : List ℕ) where
     parents = h .parents;
     state = h .state;
     agrees = h .agrees;
-    room = omega (arith, h .room);
+    room = record { enough = h .room .enough; rows = omega (arith, h .room .rows) };
   }
 
   abbrev pub inside-less : (inner : List ℕ) (p : Progress) (fs w : List ℕ) (more m : ℕ) → m ≤ more → Inside t inner p fs w more → Inside t inner p fs w m
@@ -48,24 +70,25 @@ module _ (t : List ℕ) where
 
   -- What a function outside the cycle asks.
   abbrev pub at-ready : (spans : List ℕ) (p : Progress) (fs w : List ℕ) (more : ℕ) → At t spans p fs w more → Ready t p fs w more
-  at-ready spans p fs w more h = record { spans = spans; state = h .state; agrees = h .agrees; room = omega (arith, h .room) }
+  at-ready spans p fs w more h = record { spans = spans; state = h .state; agrees = h .agrees; room = record { enough = h .room .enough; rows = omega (arith, h .room .rows) } }
 
   -- There is room for the rows that there are, and for the table.
-  pub at-rows : (spans : List ℕ) (p : Progress) (fs w : List ℕ) (more : ℕ) → At t spans p fs w more → 4 * p .count + 4736 ≤ length w
-  at-rows spans p fs w more h = omega (arith, h .room, h .agrees .count)
+  pub at-rows : (spans : List ℕ) (p : Progress) (fs w : List ℕ) (more : ℕ) → At t spans p fs w more
+      → Widths.row (p .width) * p .count + answers (p .width) ≤ length w
+  at-rows spans p fs w more h = room-words (p .width) (length w) _ (p .count) (h .room) (omega (arith, h .agrees .count))
 
   -- ---- after a step
 
   abbrev pub at-next : (spans : List ℕ) (p r : Progress) (fs gs w v : List ℕ) (more n m k : ℕ) (f : State → State) → Step (sheetAt t) k n f
-      → n + m ≤ more → length v ≡ length w → (h : At t spans p fs w more) → Agree t spans r gs v (f (h .state)) → At t spans r gs v m
-  at-next spans p r fs gs w v more n m k f adds l long h a = record {
+      → n + m ≤ more → length v ≡ length w → r .width ≡ p .width → (h : At t spans p fs w more) → Agree t spans r gs v (f (h .state)) → At t spans r gs v m
+  at-next spans p r fs gs w v more n m k f adds l long wide h a = record {
     query = h .query;
     from = h .from;
     to = h .to;
     parents = h .parents;
     state = f (h .state);
     agrees = a;
-    room = omega (arith, h .room, long, adds-length (sheetAt t) (adds (h .state)) .1);
+    room = room-same wide long (record { enough = h .room .enough; rows = omega (arith, h .room .rows, adds-length (sheetAt t) (adds (h .state)) .1) });
   }
 
   -- The scopes around nested queries stay.
@@ -82,7 +105,7 @@ module _ (t : List ℕ) where
       let ps = a .parents in
       record {
         spans = h .spans;
-        at = at-next (h .spans) p r fs gs w v more n m (y ps .below) (f ps) (y ps .adds) l (runs .grown .long) a
+        at = at-next (h .spans) p r fs gs w v more n m (y ps .below) (f ps) (y ps .adds) l (runs .grown .long) (runs .grown .wide) a
             (runs .agrees ps (h .spans) (a .state) (h .around) (a .agrees));
         around = around-next inner ps n (f ps) (y ps) (a .state) (h .around);
       }
@@ -94,7 +117,7 @@ module _ (t : List ℕ) where
       let a = h .at in
       let ps = a .parents in
       record {
-        at = at-next spans p r fs gs w v more n m k (f ps) (adds ps) l (runs .grown .long) a (runs .agrees ps (a .state) (h .beneath) (a .agrees));
+        at = at-next spans p r fs gs w v more n m k (f ps) (adds ps) l (runs .grown .long) (runs .grown .wide) a (runs .agrees ps (a .state) (h .beneath) (a .agrees));
         beneath = h .beneath;
       }
 

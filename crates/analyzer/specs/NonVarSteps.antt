@@ -90,6 +90,10 @@ module _ (t : List ℕ) where
     kept-count true v = refl
     kept-count false v = refl
 
+    kept-width : (b : Bool) (v : Progress) → cond b (failed v IndexVariable) v .width ≡ v .width
+    kept-width true v = refl
+    kept-width false v = refl
+
     module _ (spans : List ℕ) (s : State) (a : Agree t spans p firsts work s) where
       used : State
       used = guarded (gatherUsedVars (sheetAt t) i [] e) s
@@ -131,6 +135,7 @@ module _ (t : List ℕ) where
           grown = record {
             long = h .long;
             up = omega (arith, h .up, kept-count (isSound (u .progress .fault) && ltb (p .count) (u .progress .count)) (u .progress));
+            wide = kept-width (isSound (u .progress .fault) && ltb (p .count) (u .progress .count)) (u .progress) ∙ h .wide;
             before = h .before;
           };
           agrees = λ spans s a. fails-agree spans s a;
@@ -165,7 +170,7 @@ module _ (t : List ℕ) where
   pub non-var-none : (inner : List ℕ) (row : ℕ) → row ≡ 0 → (x : Context) (p : Progress) (firsts work : List ℕ)
       → DoesOthers t inner (otherAt t row) x p firsts work p firsts work
   non-var-none inner row z x p firsts work m stands = rw z (record {
-    grown = record { long = refl; up = omega arith; before = λ j l. refl };
+    grown = record { long = refl; up = omega arith; wide = refl; before = λ j l. refl };
     agrees = λ parents spans s o a. a;
   })
 

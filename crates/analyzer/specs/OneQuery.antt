@@ -5,7 +5,12 @@ use mathlib.Core.List.{List, [], _∷_, _++_, foldl-append}
 use mathlib.Core.Logic.{_⊎_, inl, inr}
 use Prim.Native.Nat.{ℕ, zero, suc, _+_, _-_, _*_, _≤_, _<_}
 use native.Mathlib.Omega.{arith}
+use lib.Dec.{ltb}
 use lib.ListN.{length, getD}
+use Rattle.widths.specs.declared.Width.{Width}
+use Rattle.widths.specs.declared.Width.the-variants.{Two, Eight}
+use Rattle.widths.specs.Widths as Widths
+use Rattle.blocks.specs.Layout.{answers}
 use Rattle.records.specs.Layout.{firstAt}
 use Rattle.trees.specs.Lists.{isSome, concatMap}
 use Rattle.trees.specs.Trees.{Tree}
@@ -50,12 +55,12 @@ use Rattle.laws.specs.KeepsNested.{keeps-outputs}
 use Rattle.laws.specs.Chained.{comprs-chains}
 use Rattle.laws.specs.Outputs as outputs
 use Rattle.laws.specs.Outputs.{opened, opened-outputs, opened-inputs, opened-flag}
-use Rattle.laws.specs.Lows.{accepted-low, outputs-low, in-bounds}
+use Rattle.laws.specs.Lows.{chains-low, in-bounds}
 use Rattle.laws.specs.Fronts.{ended, front, analyze-sound, analyze-faulty, front-fits, front-low}
 use Rattle.analyzer.specs.Witnesses.{is-sound}
 use Rattle.analyzer.specs.Budgets.{budget, budgetAt}
 use Rattle.analyzer.specs.Sites.{nestedBy, Around, Inside}
-use Rattle.analyzer.specs.Moves.{inside-next, around-next, at-rows}
+use Rattle.analyzer.specs.Moves.{room-same, inside-next, around-next, at-rows}
 use Rattle.analyzer.specs.Steadies.{fits, steady-comprs}
 use Rattle.analyzer.specs.Asks.{tree, stmtsAt, AsksComprs, AsksStmts, Begun, AsksQuery}
 use Rattle.analyzer.specs.Does.{DoesComprs, DoesStmts}
@@ -88,15 +93,20 @@ weights-fit : (l : List Stmt) → total weight l ≤ total budget l
 weights-fit [] = omega arith
 weights-fit (st ∷ l) = omega (arith, weights-fit l)
 
+-- The width has room for a name.
+some-names : (z : Width) → ltb 0 (64 * Widths.words z) ≡ true
+some-names Two = refl
+some-names Eight = refl
+
 -- ---- no query, or no level left
 
-pub does-none : (t outer : List ℕ) (query key value levels : ℕ) (work : List ℕ) → query ≡ 0 → DoesQuery t outer query key value levels work Sound work
-does-none t outer query key value levels work z = record { none = λ e. (refl, refl); one = λ ne. absurd (ne z) }
+pub does-none : (t : List ℕ) (z : Width) (outer : List ℕ) (query key value levels : ℕ) (work : List ℕ) → query ≡ 0 → DoesQuery t z outer query key value levels work Sound work
+does-none t z outer query key value levels work e₀ = record { none = λ e. (refl, refl); one = λ ne. absurd (ne e₀) }
 
-pub does-nothing : (t outer : List ℕ) (query key value levels : ℕ) (work : List ℕ) → levels ≡ 0 → DoesQuery t outer query key value levels work Sound work
+pub does-nothing : (t : List ℕ) (z : Width) (outer : List ℕ) (query key value levels : ℕ) (work : List ℕ) → levels ≡ 0 → DoesQuery t z outer query key value levels work Sound work
 unfolding analyzeOnce
-does-nothing t outer query key value levels work z =
-    rw z (record { none = λ e. (refl, refl); one = λ ne parents run o fine table. (sym fine, λ e. table) })
+does-nothing t z outer query key value levels work e₀ =
+    rw e₀ (record { none = λ e. (refl, refl); one = λ ne parents run o fine table. (sym fine, λ e. table) })
 
 -- ---- the scope of outputs
 
@@ -111,8 +121,8 @@ module _ (t spans : List ℕ) (p r : Progress) (o : OpenedFrom p r) (fs w : List
         record {
           scope = agrees-opened (p .scope) spans (r .scope) (s .scope) (h .scope) (o .scope);
           used-first = h .used-first;
-          rows = subst (λ (n : ℕ). Held w n (s .definitions)) (sym (o .count)) (h .rows);
-          table = h .table;
+          rows = rw (o .wide, o .count) (h .rows);
+          table = rw (o .wide) (h .table);
         };
   }
 
@@ -122,10 +132,10 @@ opened-definitions s = refl
 
 -- ---- a query that is to be analysed
 
-pub begun-of : (t outer work : List ℕ) (query key value : ℕ) → (query ≡ 0 → ⊥) → AsksQuery t outer work query key value
-    → Begun t outer work query key value
-begun-of t outer work query key value some (inl z) = absurd (some z)
-begun-of t outer work query key value some (inr b) = b
+pub begun-of : (t : List ℕ) (z : Width) (outer work : List ℕ) (query key value : ℕ) → (query ≡ 0 → ⊥) → AsksQuery t z outer work query key value
+    → Begun t z outer work query key value
+begun-of t z outer work query key value some (inl e) = absurd (some e)
+begun-of t z outer work query key value some (inr b) = b
 
 abbrev outputsAt : List ℕ → ℕ → ℕ → List Tree
 outputsAt t key value = chainAt t key ++ chainAt t value
@@ -135,19 +145,19 @@ abbrev runWith : List QuerySchedule → Run
 runWith schedules = record { schedules = schedules; fault = sound }
 
 -- Its scope is gathered, and nothing is recorded yet.
-pub record Started (t outer work : List ℕ) (query key value : ℕ) (spans firsts : List ℕ) (row : ℕ) (p : Progress) : Type 0 where
+pub record Started (t : List ℕ) (z : Width) (outer work : List ℕ) (query key value : ℕ) (spans firsts : List ℕ) (row : ℕ) (p : Progress) : Type 0 where
   pub ok : Accepted t
-  pub begun : Begun t outer work query key value
+  pub begun : Begun t z outer work query key value
   pub scope : Scope
   pub gathered : Gathered t outer query key value scope spans
   pub zeros : (x : ℕ) → getD firsts x 0 ≡ 0
   pub is : row ≡ firstAt t query
-  pub begins : p ≡ begin scope
+  pub begins : p ≡ begin scope z
 
-module _ (t outer work : List ℕ) (query key value : ℕ) (spans firsts : List ℕ) (row : ℕ) (p : Progress)
-    (x : Started t outer work query key value spans firsts row p) where
+module _ (t : List ℕ) (z : Width) (outer work : List ℕ) (query key value : ℕ) (spans firsts : List ℕ) (row : ℕ) (p : Progress)
+    (x : Started t z outer work query key value spans firsts row p) where
   -- The start, below these parents, with this table.
-  start-agrees : (parents : List spec.Scope) (run : Run) → Outer outer parents → run .fault ≡ sound → Table t work (run .schedules)
+  start-agrees : (parents : List spec.Scope) (run : Run) → Outer outer parents → run .fault ≡ sound → Table z t work (run .schedules)
       → Agree t spans p firsts work (start (sheetAt t) parents query (outputsAt t key value) run)
   start-agrees parents run o fine table = rw (x .begins) (record {
     fault = sym fine;
@@ -155,10 +165,13 @@ module _ (t outer work : List ℕ) (query key value : ℕ) (spans firsts : List 
     whole = λ e. record {
       scope = x .gathered parents o;
       used-first = firsts-none firsts (x .zeros);
-      rows = held-none work;
+      rows = held-none z work;
       table = table;
     };
   })
+
+  pub same-width : p .width ≡ z
+  same-width = ap (λ (q : Progress). q .width) (x .begins)
 
   stmts-are : stmtsAt t row ≡ stmtsOf (sheetAt t) query
   unfolding stmtsOf
@@ -179,7 +192,7 @@ module _ (t outer work : List ℕ) (query key value : ℕ) (spans firsts : List 
             parents = b .parents;
             state = start (sheetAt t) (b .parents) query (outputsAt t key value) (runWith (b .schedules));
             agrees = start-agrees (b .parents) (runWith (b .schedules)) (b .beneath) refl (b .table);
-            room = omega (arith, ap (total budget) stmts-are, b .room);
+            room = room-same same-width refl (omega (arith, ap (total budget) stmts-are, b .room));
           };
           beneath = b .beneath;
         };
@@ -190,18 +203,18 @@ module _ (t outer work : List ℕ) (query key value : ℕ) (spans firsts : List 
       }
 
 -- Its statements are processed, and its scope is opened.
-pub record Enclosed (t outer work : List ℕ) (query key value : ℕ) (spans : List ℕ) (n : ℕ) (s wide : Progress) (inner fs w : List ℕ) : Type 0 where
+pub record Enclosed (t : List ℕ) (z : Width) (outer work : List ℕ) (query key value : ℕ) (spans : List ℕ) (n : ℕ) (s wide : Progress) (inner fs w : List ℕ) : Type 0 where
   pub firsts : List ℕ
   pub row : ℕ
   pub p : Progress
-  pub started : Started t outer work query key value spans firsts row p
+  pub started : Started t z outer work query key value spans firsts row p
   pub did : DoesStmts t outer spans row 0 n p firsts work s fs w
   pub opens : OpenedFrom s wide
   pub encloses : Encloses outer (wide .scope) spans inner
 
-module _ (t outer work : List ℕ) (query key value : ℕ) (spans : List ℕ) (n : ℕ) (s wide : Progress) (inner fs w : List ℕ)
-    (x : Enclosed t outer work query key value spans n s wide inner fs w) where
-  abbrev b : Begun t outer work query key value
+module _ (t : List ℕ) (z : Width) (outer work : List ℕ) (query key value : ℕ) (spans : List ℕ) (n : ℕ) (s wide : Progress) (inner fs w : List ℕ)
+    (x : Enclosed t z outer work query key value spans n s wide inner fs w) where
+  abbrev b : Begun t z outer work query key value
   b = x .started .begun
 
   abbrev ok : Accepted t
@@ -216,6 +229,9 @@ module _ (t outer work : List ℕ) (query key value : ℕ) (spans : List ℕ) (n
   abbrev body : List spec.Scope → Run → State
   body parents run = processStmts (sheetAt t) (nestedBy t n) parents 0 (stmtsOf (sheetAt t) query) (begin-at parents run)
 
+  wide-width : wide .width ≡ z
+  wide-width = x .opens .wide ∙ x .did .grown .wide ∙ same-width t z outer work query key value spans (x .firsts) (x .row) (x .p) (x .started)
+
   few-rows : (parents : List spec.Scope) (run : Run) → length (body parents run .definitions) ≤ budgetAt t query
   few-rows parents run =
       omega (
@@ -225,14 +241,14 @@ module _ (t outer work : List ℕ) (query key value : ℕ) (spans : List ℕ) (n
         weights-fit (stmtsOf (sheetAt t) query),
       )
 
-  module _ (parents : List spec.Scope) (run : Run) (o : Outer outer parents) (fine : run .fault ≡ sound) (table : Table t work (run .schedules)) where
+  module _ (parents : List spec.Scope) (run : Run) (o : Outer outer parents) (fine : run .fault ≡ sound) (table : Table z t work (run .schedules)) where
     body-agrees : Agree t spans s fs w (body parents run)
     body-agrees =
         let y = x .started in
         subst (λ (l : List Stmt). Agree t spans s fs w (processStmts (sheetAt t) (nestedBy t n) parents 0 l (begin-at parents run)))
-        (stmts-are t outer work query key value spans (x .firsts) (x .row) (x .p) y)
+        (stmts-are t z outer work query key value spans (x .firsts) (x .row) (x .p) y)
         (x .did .agrees parents (begin-at parents run) o
-        (start-agrees t outer work query key value spans (x .firsts) (x .row) (x .p) y parents run o fine table))
+        (start-agrees t z outer work query key value spans (x .firsts) (x .row) (x .p) y parents run o fine table))
 
     wide-agrees : Agree t spans wide fs w (opened (body parents run))
     wide-agrees = opened-agrees t spans s wide (x .opens) fs w (body parents run) body-agrees
@@ -258,13 +274,12 @@ module _ (t outer work : List ℕ) (query key value : ℕ) (spans : List ℕ) (n
       parents = b .parents;
       state = opened (body (b .parents) (runWith (b .schedules)));
       agrees = wide-agrees (b .parents) (runWith (b .schedules)) (b .beneath) refl (b .table);
-      room = omega (
+      room = room-same wide-width (x .did .grown .long) (omega (
         arith,
         b .room,
         few-rows (b .parents) (runWith (b .schedules)),
-        x .did .grown .long,
         ap length (opened-definitions (body (b .parents) (runWith (b .schedules)))),
-      );
+      ));
     };
     around = wide-around (b .parents) (runWith (b .schedules)) (b .beneath) refl (b .table);
   }
@@ -285,15 +300,18 @@ module _ (t outer work : List ℕ) (query key value : ℕ) (spans : List ℕ) (n
       inside-last =
           inside-next t inner u v fs₁ fs₂ w₁ w₂ 0 0 0 value-step (λ parents. steady-comprs t n parents (comprs (tree t value))) (omega arith) did-value inside-value
 
-      pub room-last : 4 * v .count + 4736 ≤ length w₂
+      last-width : v .width ≡ z
+      last-width = did-value .grown .wide ∙ did-key .grown .wide ∙ wide-width
+
+      pub room-last : Widths.row (v .width) * v .count + answers (v .width) ≤ length w₂
       room-last = at-rows t (inside-last .spans) v fs₂ w₂ 0 (inside-last .at)
 
-      pub based-last : isSound (v .fault) ≡ true → Based t (answersOf w₂)
+      pub based-last : isSound (v .fault) ≡ true → Based (v .width) t (answersOf (v .width) w₂)
       based-last fine =
           let a = inside-last .at .agrees in
           a .whole (sym (a .fault) ∙ sound-is (v .fault) fine) .table .based
 
-      module _ (parents : List spec.Scope) (run : Run) (o : Outer outer parents) (fine : run .fault ≡ sound) (table : Table t work (run .schedules)) where
+      module _ (parents : List spec.Scope) (run : Run) (o : Outer outer parents) (fine : run .fault ≡ sound) (table : Table z t work (run .schedules)) where
         abbrev before : State
         before = opened (body parents run)
 
@@ -346,30 +364,32 @@ module _ (t outer work : List ℕ) (query key value : ℕ) (spans : List ℕ) (n
                 placed = λ i p e. own .placed i p (ap (λ (l : List Span). spanIn l i) (sym (same .locals)) ∙ e);
               }
 
-          this-low : Low (this .scope) (this .definitions)
-          this-low = front-low n (sheetAt t) parents query outs run well (accepted-low t ok) (outputs-low t ok key value) (table .low)
+          this-low : Low (64 * Widths.words z) (this .scope) (this .definitions)
+          this-low =
+              front-low n (sheetAt t) parents query outs run well (64 * Widths.words z) (some-names z) (table .narrow)
+              (chains-low (64 * Widths.words z) (some-names z) (sheetAt t) (table .narrow) key value) (table .low)
 
           this-fits : Fits (sheetAt t) this
           this-fits = front-fits n (sheetAt t) parents query outs run well (table .fits)
 
-          ending : Ending t w₂ query (withInputsOf (s .scope) (v .scope)) spans (v .count) this
+          ending : Ending (v .width) t w₂ query (withInputsOf (s .scope) (v .scope)) spans (v .count) this
           unfolding sheetAt
           ending = record {
             query = refl;
             count = refl;
             scope = scope-agrees;
-            rows = subst (Held w₂ (v .count)) (beside .definitions) (last-agrees .whole well-last .rows);
+            rows = subst (Held (v .width) w₂ (v .count)) (beside .definitions) (last-agrees .whole well-last .rows);
             few = omega (arith, last-agrees .count, ap length (beside .definitions));
-            in-bounds = in-bounds (countsAt t) (specialAt t) t (ok .within) (ok .fine) this this-fits this-low;
+            in-bounds = rw last-width (in-bounds (countsAt t) (specialAt t) t (ok .within) (ok .fine) z this this-fits this-low);
             fits = this-fits;
-            low = this-low;
+            low = rw last-width this-low;
           }
 
         -- ---- the end
 
         module _ (r : Fault) (w₃ : List ℕ) (done : Finished t w₂ query (s .scope) v spans r w₃) where
           abbrev Ends : Run → Type 0
-          Ends e = (meaning r ≡ e .fault) × (e .fault ≡ sound → Table t w₃ (e .schedules))
+          Ends e = (meaning r ≡ e .fault) × (e .fault ≡ sound → Table z t w₃ (e .schedules))
 
           same-fault : meaning r ≡ end .run .fault
           same-fault = ap meaning (done .fault) ∙ last-agrees .fault ∙ ap (λ (u : Run). u .fault) (beside .run)
@@ -379,16 +399,16 @@ module _ (t outer work : List ℕ) (query key value : ℕ) (spans : List ℕ) (n
             where
               go : (end .run .fault ≡ sound) ⊎ (end .run .fault ≡ sound → ⊥) → Ends (analyzeOnce (suc n) (sheetAt t) parents query outs run)
               go (inl well) =
-                  let held : Table t w₂ (end .run .schedules) =
-                  subst (λ (u : Run). Table t w₂ (u .schedules)) (beside .run) (last-agrees .whole (well-last well) .table) in
+                  let held : Table (v .width) t w₂ (end .run .schedules) =
+                  subst (λ (u : Run). Table (v .width) t w₂ (u .schedules)) (beside .run) (last-agrees .whole (well-last well) .table) in
                   let there = done .enters (is-sound (v .fault) (last-agrees .fault ∙ well-last well)) (this well) (end .run .schedules) (ending well) held in
-                  subst Ends (sym (analyze-sound n (sheetAt t) parents query outs run well)) (same-fault ∙ well, λ e. there)
+                  subst Ends (sym (analyze-sound n (sheetAt t) parents query outs run well)) (same-fault ∙ well, λ e. rw last-width at there)
               go (inr faulty) =
                   subst Ends (sym (analyze-faulty n (sheetAt t) parents query outs run faulty)) (same-fault, λ e. absurd (faulty e))
 
       pub does-query : (levels : ℕ) → levels ≡ suc n → (r : Fault) (w₃ : List ℕ) → Finished t w₂ query (s .scope) v spans r w₃
-          → DoesQuery t outer query key value levels work r w₃
+          → DoesQuery t z outer query key value levels work r w₃
       does-query levels e r w₃ done = rw e (record {
-        none = λ z. absurd (omega (arith, b .from, z));
+        none = λ e₀. absurd (omega (arith, b .from, e₀));
         one = λ ne parents run o fine table. ends parents run o fine table r w₃ done;
       })

@@ -83,7 +83,7 @@ module _ (t inner : List ℕ) (check : Bool) (x : Context) (b : Row) (p : Progre
       p fs w (cond e (failed p (Lengths (b .line) (b .col))) p) fs w
   unfolding assignPairing
   mismatched m true e = record {
-    grown = record { long = refl; up = omega arith; before = λ j l. refl };
+    grown = record { long = refl; up = omega arith; wide = refl; before = λ j l. refl };
     agrees = λ parents spans s o a.
         subst (Agree t spans (failed p (Lengths (b .line) (b .col))) fs w)
         (sym (guarded-sound (fail (lengths (b .line) (b .col))) s (agree-sound t spans p fs w s a e)))

@@ -102,7 +102,7 @@ module _ (t : List ℕ) where
   module _ (ok : Accepted t) (inner : List ℕ) where
     pub non-vars-do-none : (row : ℕ) → row ≡ 0 → (x : Context) (p : Progress) (firsts work : List ℕ) → DoesNonVars t inner row x p firsts work p firsts work
     non-vars-do-none row z x p firsts work m stands = record {
-      grown = record { long = refl; up = omega arith; before = λ j l. refl };
+      grown = record { long = refl; up = omega arith; wide = refl; before = λ j l. refl };
       agrees = λ parents spans s o a. subst (Agree t spans p firsts work)
           (sym (ap (λ (es : List Tree). parts (x .levels) parents (x .statement) m es s) (non-vars-none t (s .scope) ok row z))) a;
     }

@@ -6,6 +6,7 @@ use Prim.Native.Nat.{ℕ, _≤_}
 use lib.ListN.{getD}
 use Rattle.names.specs.Sets.{Empty}
 use Rattle.names.specs.declared.Names.{Names}
+use Rattle.widths.specs.declared.Width.{Width}
 use Rattle.records.specs.declared.Row.{Row}
 use Rattle.trees.specs.Sheet.{rowAt}
 use Rattle.trees.specs.Kinds.{isPattern}
@@ -34,15 +35,15 @@ comprs-use-append : (a b : List Tree) (s : State) → comprsUse (a ++ b) s ≡ c
 unfolding comprsUse
 comprs-use-append a b s = concatMap-append _ a b
 
-module _ (t : List ℕ) (k : Scope) (work : List ℕ) where
+module _ (t : List ℕ) (v : Width) (k : Scope) (work : List ℕ) where
   -- ---- one part
 
-  pub other-none : (row : ℕ) → row ≡ 0 → (mods : ℕ) (a : Names) → OtherUsed t k row mods work a a
+  pub other-none : (row : ℕ) → row ≡ 0 → (mods : ℕ) (a : Names) → OtherUsed t v k row mods work a a
   other-none row z mods a s h stored = rw z (adds-none a)
 
   pub other-one : (row : ℕ) → (row ≡ 0 → ⊥) → (mods : ℕ) (none a by own b : Names) → Empty (none .words)
-      → NamesWalk t k none row false a by → ComprsUsed t k work row false by own → ComprsUsed t k work mods true own b
-      → OtherUsed t k row mods work a b
+      → NamesWalk t k none row false a by → ComprsUsed t v k work row false by own → ComprsUsed t v k work mods true own b
+      → OtherUsed t v k row mods work a b
   unfolding allUsed
   other-one row some mods none a by own b clear u₀ u₁ u₂ s h stored =
       let e = exprBy t false row in
@@ -60,13 +61,13 @@ module _ (t : List ℕ) (k : Scope) (work : List ℕ) where
   -- ---- all of them
 
   module _ (ok : Accepted t) where
-    pub leaves-used-none : (row : ℕ) → row ≡ 0 → (mods : ℕ) (a : Names) → LeavesUsed t k row mods work a a
+    pub leaves-used-none : (row : ℕ) → row ≡ 0 → (mods : ℕ) (a : Names) → LeavesUsed t v k row mods work a a
     leaves-used-none row z mods a s h stored = rw (non-vars-none t (s .scope) ok row z) (adds-none a)
 
     pub leaves-used-turn : (row : ℕ) → (row ≡ 0 → ⊥) → row ≤ getD t 2 0 → (w : Row) → w ≡ rowAt t row
         → (items : ℕ) → items ≡ cond (isPattern w) (w .first) 0 → (other : ℕ) → NonVar t k row w other
-        → (mods : ℕ) (a s₀ s₁ s₂ : Names) → OtherUsed t k other mods work a s₀ → LeavesUsed t k items mods work s₀ s₁
-        → LeavesUsed t k (w .next) mods work s₁ s₂ → LeavesUsed t k row mods work a s₂
+        → (mods : ℕ) (a s₀ s₁ s₂ : Names) → OtherUsed t v k other mods work a s₀ → LeavesUsed t v k items mods work s₀ s₁
+        → LeavesUsed t v k (w .next) mods work s₁ s₂ → LeavesUsed t v k row mods work a s₂
     leaves-used-turn row some high w is items ps other os mods a s₀ s₁ s₂ h₀ h₁ h₂ s h stored =
         let cs = comprs (treeAt (sheetAt t) mods) in
         let others : ℕ → List Tree = λ r. nonVars (sheetAt t) (s .scope) (leavesAt t r) in
@@ -82,7 +83,7 @@ module _ (t : List ℕ) (k : Scope) (work : List ℕ) where
 
   -- The parts of key and value.
   pub others-used : (key value : ℕ) (x : Context) (none by r : Names) → Empty (none .words)
-      → LeavesUsed t k key (x .mods) work none by → LeavesUsed t k value (x .mods) work by r → OthersUsed t k key value x work r
+      → LeavesUsed t v k key (x .mods) work none by → LeavesUsed t v k value (x .mods) work by r → OthersUsed t v k key value x work r
   others-used key value x none by r clear h₀ h₁ m stands s h stored =
       let cs = comprs (treeAt (sheetAt t) (x .mods)) in
       let others : ℕ → List Tree = λ r. nonVars (sheetAt t) (s .scope) (leavesAt t r) in

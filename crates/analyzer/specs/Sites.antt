@@ -1,7 +1,7 @@
 -- Where in a sheet's analysis the code is, and what it does from there.
 use mathlib.Core.Path.{_≡_}
 use mathlib.Core.List.{List, _∷_}
-use Prim.Native.Nat.{ℕ, _+_, _*_, _≤_}
+use Prim.Native.Nat.{ℕ, _+_, _≤_}
 use lib.ListN.{length, getD}
 use Rattle.scopes.specs.Scopes.{Scope}
 use Rattle.analysis.specs.States.{sound, State}
@@ -11,7 +11,7 @@ use Rattle.homes.specs.Lying.{Lies}
 use Rattle.gather.specs.Sheets.{countsAt, sheetAt}
 use Rattle.gather.specs.Outers.{Outer}
 use Rattle.frame.specs.declared.Progress.{Progress}
-use Rattle.frame.specs.Frames.{Agree, Grown}
+use Rattle.frame.specs.Frames.{Room, Agree, Grown}
 use Rattle.analyzer.specs.Budgets.{aboveAt}
 
 module _ (t : List ℕ) where
@@ -32,7 +32,7 @@ module _ (t : List ℕ) where
     pub parents : List Scope
     pub state : State
     pub agrees : Agree t spans p firsts work state
-    pub room : 4 * (length (state .definitions) + (more + aboveAt t query)) + 4736 ≤ length work
+    pub room : Room (p .width) (length work) (length (state .definitions) + (more + aboveAt t query))
 
   -- Around a nested query stand this query's scope and its parents.
   abbrev pub Around : List ℕ → List Scope → State → Type 0

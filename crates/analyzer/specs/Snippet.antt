@@ -7,6 +7,8 @@ use native.Mathlib.Omega.{arith}
 use lib.Dec.{leb}
 use lib.ListN.{length, getD, replicate, getD-replicate}
 use borrow.Author.Tests.{lt-leb}
+use Rattle.widths.specs.declared.Width.{Width}
+use Rattle.widths.specs.Widths as limit
 use Rattle.trees.specs.Trees.{Tree}
 use Rattle.scopes.specs.Scopes.{varExists}
 use Rattle.analysis.specs.States.{sound, Run}
@@ -19,23 +21,23 @@ use Rattle.answer.specs.Stored.{Stored}
 use Rattle.frame.specs.Table.{answersOf, Table}
 use Rattle.analyzer.specs.Analysed.{Analysed}
 use Rattle.analyzer.specs.Asks.{AsksQuery}
-use Rattle.analyzer.specs.Budgets.{all-fit}
+use Rattle.analyzer.specs.Budgets.{all-fit, work-fits}
 use Rattle.analyzer.specs.Queries.{DoesQuery}
 
 -- A number past all lines for every name.
-pub nothing-around : Outer (replicate 128 65536) []
+pub nothing-around : Outer (replicate 512 65536) []
 unfolding varExists
 nothing-around = record {
   has = λ w low lined.
-      sym (ap (λ (n : ℕ). leb n (w .line)) (getD-replicate 128 (w .name) 65536 0 low) ∙ lt-leb 65536 (w .line) lined);
+      sym (ap (λ (n : ℕ). leb n (w .line)) (getD-replicate 512 (w .name) 65536 0 low) ∙ lt-leb 65536 (w .line) lined);
 }
 
 -- No schedule, no fault.
 abbrev fresh : Run
 fresh = record { schedules = []; fault = sound }
 
-module _ (t : List ℕ) (ok : Accepted t) (outer : List ℕ) (none : Outer outer []) (work : List ℕ) (table : Table t work []) where
-  pub outer-asks : 1 ≤ getD t 4 0 → 8192 ≤ length work → AsksQuery t outer work 1 0 0
+module _ (v : Width) (t : List ℕ) (ok : Accepted t) (outer : List ℕ) (none : Outer outer []) (work : List ℕ) (table : Table v t work []) where
+  pub outer-asks : 1 ≤ getD t 4 0 → limit.work v ≤ length work → AsksQuery t v outer work 1 0 0
   outer-asks some enough = inr (record {
     from = omega arith;
     to = some;
@@ -43,7 +45,7 @@ module _ (t : List ℕ) (ok : Accepted t) (outer : List ℕ) (none : Outer outer
     value-low = omega arith;
     key-lies = inl refl;
     value-lies = inl refl;
-    room = omega (arith, all-fit t ok some, enough);
+    room = work-fits v (length work) _ enough (all-fit t ok some);
     parents = [];
     beneath = none;
     schedules = [];
@@ -57,10 +59,10 @@ module _ (t : List ℕ) (ok : Accepted t) (outer : List ℕ) (none : Outer outer
   unfolding analyzeQuerySnippetOnce
   snippet-is = ap (λ (es : List Tree). analyzeOnce 8 (sheetAt t) [] 1 es fresh) outputs
 
-  pub analysed : (r : Fault) (v : List ℕ) → DoesQuery t outer 1 0 0 8 work r v → Analysed t v r
-  analysed r v does =
+  pub analysed : (r : Fault) (w : List ℕ) → DoesQuery t v outer 1 0 0 8 work r w → Analysed v t w r
+  analysed r w does =
       let end = does .one (λ z. omega (arith, z)) [] fresh none refl table in
       record {
         fault = end .0 ∙ ap (λ (u : Run). u .fault) snippet-is;
-        stored = λ e. subst (λ (u : Run). Stored (answersOf v) (u .schedules)) snippet-is (end .1 (ap (λ (u : Run). u .fault) snippet-is ∙ e) .stored);
+        stored = λ e. subst (λ (u : Run). Stored v (answersOf v w) (u .schedules)) snippet-is (end .1 (ap (λ (u : Run). u .fault) snippet-is ∙ e) .stored);
       }

@@ -370,7 +370,7 @@ module _ (t : List ℕ) where
 
             -- ---- what it does
 
-            module _ (used : Names) (found : OthersUsed t (z .scope) (st .first) (st .second) x ys used) (end : Progress) (zs : List ℕ)
+            module _ (used : Names) (found : OthersUsed t (z .width) (z .scope) (st .first) (st .second) x ys used) (end : Progress) (zs : List ℕ)
                 (one : OneRecorded (x .statement) used z ys end zs) where
               abbrev pattern-of : List Tree
               pattern-of = leavesAt t (st .first) ++ leavesAt t (st .second)

@@ -13,10 +13,13 @@ use Rattle.basics.specs.Members.{all-mem}
 use Rattle.names.specs.Sets.{members, Empty}
 use Rattle.names.specs.Laws.{elem-members}
 use Rattle.names.specs.declared.Names.{Names}
+use Rattle.widths.specs.declared.Width.{Width}
+use Rattle.widths.specs.declared.Width.the-variants.{Two, Eight}
+use Rattle.widths.specs.Widths as Widths
 use Rattle.records.specs.declared.Statement.{Statement}
 use Rattle.records.specs.Layout.{statementAt}
 use Rattle.turns.specs.Definitions.{Definition}
-use Rattle.rows.specs.Rows.{definitionAt}
+use Rattle.rows.specs.Rows.{definitionAt, rowOf}
 use Rattle.trees.specs.Lists.{concatMap}
 use Rattle.trees.specs.ListLaws.{all-append, all-weaken}
 use Rattle.trees.specs.Trees.{Tree, treeAt}
@@ -65,12 +68,22 @@ use Rattle.analyzer.specs.Asks.{AsksLiteral, stmtsAt, AsksStmts}
 use Rattle.analyzer.specs.Does.{DoesStep, literalStep, DoesStmts}
 use Rattle.analyzer.specs.ComprRows.{at-low, at-lies}
 
+-- A row that is there begins in front of the end of the rows.
+row-below : (v : Width) (j c : ℕ) → j < c → Widths.row v * j < Widths.row v * c
+row-below Two j c l = omega arith
+row-below Eight j c l = omega arith
+
+-- It says the statement of its definition.
+row-statement : (v : ℕ) (w : List ℕ) (j : ℕ) (d : Definition) → definitionAt v w j ≡ rowOf v d → getD w (v * j) 0 ≡ d .statement
+unfolding rowOf
+row-statement v w j d = ap (λ (x : Definition). x .statement)
+
 module _ (t : List ℕ) (ok : Accepted t) (outer spans : List ℕ) (row i levels : ℕ) where
   -- No statement is left.
   pub stmts-end : row ≡ 0 → (p : Progress) (firsts work : List ℕ) → DoesStmts t outer spans row i levels p firsts work p firsts work
   unfolding processStmts
   stmts-end z p firsts work = rw (z, stmts-none t ok) (record {
-    grown = record { long = refl; up = omega arith; before = λ j l. refl };
+    grown = record { long = refl; up = omega arith; wide = refl; before = λ j l. refl };
     agrees = λ parents s o a. a;
   })
 
@@ -220,14 +233,17 @@ module _ (t : List ℕ) (ok : Accepted t) (outer spans : List ℕ) (row i levels
             ∙ guarded-stays s faulty (λ v. processLiteral (sheetAt t) (nestedBy t levels) parents i (modsOf (sheetAt t) (v .scope) chained) (own .literal) v)
 
         -- The rows in front are of earlier statements.
-        front : meaning (q .fault) ≡ sound → (j : ℕ) → j < p .count → getD work₂ (4 * j) 0 ≡ i → ⊥
+        front : meaning (q .fault) ≡ sound → (j : ℕ) → j < p .count → getD work₂ (Widths.row (q .width) * j) 0 ≡ i → ⊥
         front fine j l e =
             let w = asks .under .at in
             let after = literal-agrees (w .parents) (w .state) (asks .under .beneath) (w .agrees) in
             let before : w .state .run .fault ≡ sound =
             was-sound (w .state) (literal (w .parents) (mods (w .state))) (both-stay (w .parents) (w .state)) (sym (after .fault) ∙ fine) in
-            let low = all-mem (below i) (w .state .definitions) (asks .older before) (w .agrees .whole before .rows .each j l) in
-            omega (arith, ltb-true (definitionAt work j .statement) i low, literal-runs .grown .before (4 * j) (omega arith))
+            let f = w .agrees .whole before .rows .each j l in
+            let low = ltb-true (f .0 .statement) i (all-mem (below i) (w .state .definitions) (asks .older before) (f .1)) in
+            let v = Widths.row (p .width) in
+            let same = literal-runs .grown .before (v * j) (row-below (p .width) j (p .count) l) in
+            omega (arith, low, same, row-statement v work j (f .0) (f .2), ap (λ (x : Width). getD work₂ (Widths.row x * j) 0) (literal-runs .grown .wide), e)
 
         module _ (r : Progress) (work₃ : List ℕ) (least : LeastOne i (p .count) q work₂ r work₃) where
           abbrev turn : List Scope → State → State

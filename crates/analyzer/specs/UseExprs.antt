@@ -8,6 +8,7 @@ use native.Mathlib.Omega.{arith}
 use lib.ListN.{length}
 use Rattle.basics.specs.Truth.{bool-cases}
 use Rattle.names.specs.declared.Names.{Names}
+use Rattle.blocks.specs.Layout.{answers}
 use Rattle.trees.specs.Trees.{Tree}
 use Rattle.trees.specs.Traverse.{comprs}
 use Rattle.scopes.specs.Scopes.{Scope}
@@ -34,7 +35,7 @@ use Rattle.laws.specs.Guards.{fault-cases, guarded-sound, guarded-stays, comprs
 use Rattle.laws.specs.Same.{same-used}
 use Rattle.laws.specs.KeepsNested.{keeps-use-expr}
 use Rattle.analyzer.specs.Sites.{nestedBy, Around, RunsIn}
-use Rattle.analyzer.specs.Moves.{at-ready, at-rows, inside-next, runs-in, runs-in-then, runs-in-as}
+use Rattle.analyzer.specs.Moves.{at-ready, inside-next, runs-in, runs-in-then, runs-in-as}
 use Rattle.analyzer.specs.Steadies.{steady-gather}
 use Rattle.analyzer.specs.Asks.{AsksComprs, AsksExpr}
 use Rattle.analyzer.specs.Does.{DoesComprs, DoesUse}
@@ -71,9 +72,6 @@ module _ (t inner : List ℕ) (extras : Names) (row : ℕ) (rest : Bool) (x : Co
     pub use-ready : Ready t p firsts work (bracketVars expr)
     use-ready = at-ready t (h .inside .spans) p firsts work (bracketVars expr) (h .inside .at)
 
-    pub use-room : 4736 ≤ length work
-    use-room = omega (arith, at-rows t (h .inside .spans) p firsts work (bracketVars expr) (h .inside .at))
-
     module _ (u : Using) (f₁ w₁ : List ℕ) (uses : UsesVars t extras (x .statement) row rest p firsts work u f₁ w₁) where
       -- Its comprehensions.
       abbrev pub own-asks : AsksComprs t inner (u .comprs) (u .progress) f₁ w₁
@@ -91,10 +89,19 @@ module _ (t inner : List ℕ) (extras : Names) (row : ℕ) (rest : Bool) (x : Co
       mods-asks s₂ f₂ w₂ d =
           asks-next t inner (x .levels) (u .comprs) (comprs (exprBy t rest (u .comprs))) (u .progress) s₂ f₁ f₂ w₁ w₂ own-asks d (x .mods) (h .mods-lie)
 
+      -- After both there is room for the table, as there was.
+      pub use-room : (s₂ : Progress) (f₂ w₂ : List ℕ) → DoesComprs t inner (comprs (exprBy t rest (u .comprs))) (x .levels) (u .progress) f₁ w₁ s₂ f₂ w₂
+          → (s₃ : Progress) (f₃ w₃ : List ℕ) → DoesComprs t inner (comprs (exprBy t true (x .mods))) (x .levels) s₂ f₂ w₂ s₃ f₃ w₃
+          → answers (s₃ .width) ≤ length w₃
+      use-room s₂ f₂ w₂ d s₃ f₃ w₃ e =
+          let before = mods-asks s₂ f₂ w₂ d in
+          let after = asks-next t inner (x .levels) (x .mods) (comprs (exprBy t true (x .mods))) s₂ s₃ f₂ f₃ w₂ w₃ before e (x .mods) (before .lies) in
+          after .inside .at .room .enough
+
   module _ (u : Using) (f₁ w₁ : List ℕ) (uses : UsesVars t extras (x .statement) row rest p firsts work u f₁ w₁)
       (s₂ : Progress) (f₂ w₂ : List ℕ) (at₂ : DoesComprs t inner (comprs (exprBy t rest (u .comprs))) (x .levels) (u .progress) f₁ w₁ s₂ f₂ w₂)
       (s₃ : Progress) (f₃ w₃ : List ℕ) (d₃ : DoesComprs t inner (comprs (exprBy t true (x .mods))) (x .levels) s₂ f₂ w₂ s₃ f₃ w₃)
-      (names : Names) (all : AllUsed t (s₃ .scope) (u .names) (comprs (exprBy t rest (u .comprs))) x w₃ names) where
+      (names : Names) (all : AllUsed t (s₃ .width) (s₃ .scope) (u .names) (comprs (exprBy t rest (u .comprs))) x w₃ names) where
     d₂ : DoesComprs t inner (comprs expr) (x .levels) (u .progress) f₁ w₁ s₂ f₂ w₂
     d₂ = does-at t rest row (u .comprs) (uses .comprs) inner (x .levels) (u .progress) f₁ w₁ s₂ f₂ w₂ at₂
 
@@ -152,10 +159,10 @@ module _ (t inner : List ℕ) (extras : Names) (row : ℕ) (rest : Bool) (x : Co
   -- There are no comprehensions.
   module _ (ok : Accepted t) (u : Using) (f₁ w₁ : List ℕ) (uses : UsesVars t extras (x .statement) row rest p firsts work u f₁ w₁)
       (none : u .comprs ≡ 0) (no-mods : x .mods ≡ 0) (r : Using) (w : WithoutComprs u x r) where
-    all-own : AllUsed t (u .progress .scope) (u .names) (comprs (exprBy t rest (u .comprs))) x w₁ (r .names)
+    all-own : AllUsed t (u .progress .width) (u .progress .scope) (u .names) (comprs (exprBy t rest (u .comprs))) x w₁ (r .names)
     all-own =
-        all-used t (u .progress .scope) (u .names) (u .comprs) rest x w₁ (r .names) (r .names) (r .names) (w .names)
-        (used-none t ok (u .progress .scope) w₁ (u .comprs) none rest (r .names)) (used-none t ok (u .progress .scope) w₁ (x .mods) no-mods true (r .names))
+        all-used t (u .progress .width) (u .progress .scope) (u .names) (u .comprs) rest x w₁ (r .names) (r .names) (r .names) (w .names)
+        (used-none t ok (u .progress .width) (u .progress .scope) w₁ (u .comprs) none rest (r .names)) (used-none t ok (u .progress .width) (u .progress .scope) w₁ (x .mods) no-mods true (r .names))
 
     is : record { progress = u .progress; names = r .names; comprs = u .comprs } ≡ r
     is = ap₂ (λ (q : Progress) (n : ℕ). record { progress = q; names = r .names; comprs = n }) (sym (w .progress)) (sym (w .comprs))

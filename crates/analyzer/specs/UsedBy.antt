@@ -7,6 +7,7 @@ use Rattle.basics.specs.Lists.{filter, elem}
 use Rattle.basics.specs.Members.{elem-append}
 use Rattle.names.specs.Sets.{Union}
 use Rattle.names.specs.declared.Names.{Names}
+use Rattle.widths.specs.declared.Width.{Width}
 use Rattle.trees.specs.Trees.{Tree}
 use Rattle.trees.specs.Traverse.{comprs}
 use Rattle.scopes.specs.Scopes.{owns}
@@ -48,11 +49,11 @@ joined a b c r k l n ha hb u g = record {
     turned false false true = refl
     turned false false false = refl
 
-pub all-used : (t : List ℕ) (k : Scope) (names : Names) (row : ℕ) (rest : Bool) (x : Context) (work : List ℕ) (by own r : Names)
-    → Union (names .words) (x .names .words) (by .words) → ComprsUsed t k work row rest by own → ComprsUsed t k work (x .mods) true own r
-    → AllUsed t k names (comprs (exprBy t rest row)) x work r
+pub all-used : (t : List ℕ) (v : Width) (k : Scope) (names : Names) (row : ℕ) (rest : Bool) (x : Context) (work : List ℕ) (by own r : Names)
+    → Union (names .words) (x .names .words) (by .words) → ComprsUsed t v k work row rest by own → ComprsUsed t v k work (x .mods) true own r
+    → AllUsed t v k names (comprs (exprBy t rest row)) x work r
 unfolding allUsed
-all-used t k names row rest x work by own r union first second e same m st l s sets stored h =
+all-used t v k names row rest x work by own r union first second e same m st l s sets stored h =
     let of-mods = exprBy t true (x .mods) in
     let here : Adds by (comprsUse (comprs e) s) own = rw same (first s sets stored) in
     let adds = adds-then by own r (comprsUse (comprs e) s) (comprsUse (comprs of-mods) s) here (second s sets stored) in

@@ -26,7 +26,7 @@ pub fn assign(
     firsts: &[u64],
     work: &mut [u64],
 ) -> Progress
-    requires { ⌜ Accepted (now tables) × (row ≤ getD (now tables) 2 0) × (128 ≤ length (now firsts)) × Ready (now tables) (u .progress) (now firsts) (now work) (max 1 (patternVars (exprBy (now tables) false row))) ⌝ }
+    requires { ⌜ Accepted (now tables) × (row ≤ getD (now tables) 2 0) × (512 ≤ length (now firsts)) × Ready (now tables) (u .progress) (now firsts) (now work) (max 1 (patternVars (exprBy (now tables) false row))) ⌝ }
     ensures { λ r. ⌜ Assigns (now (tables .entry)) (exprBy (now (tables .entry)) false row) check statement u (now (firsts .entry)) (now (work .entry)) r (now (work .exit)) ⌝ }
 {
     let names = u.names;
@@ -37,7 +37,7 @@ pub fn assign(
 }
 
 fn checked(tables: &[u16], row: usize, check: bool, p: Progress, firsts: &[u64]) -> Progress
-    requires { ⌜ Accepted (now tables) × (row ≤ getD (now tables) 2 0) × (128 ≤ length (now firsts)) ⌝ }
+    requires { ⌜ Accepted (now tables) × (row ≤ getD (now tables) 2 0) × (512 ≤ length (now firsts)) ⌝ }
     ensures { λ r. ⌜ Checked (now (tables .entry)) row check p (now (firsts .entry)) r ⌝ }
 {
     if check {

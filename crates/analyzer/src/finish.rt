@@ -4,23 +4,27 @@ use conclude::conclude;
 use frame::Fault;
 use frame::Progress;
 use gather::scope::Scope;
+use widths::Width;
 ghost use mathlib.Core.Path.{_≡_};
 ghost use mathlib.Core.Bool.{true};
 ghost use Prim.Native.Nat.{_+_, _*_, _≤_};
 ghost use lib.ListN.{length, getD};
+ghost use Rattle.widths.specs.Widths.{row};
+ghost use Rattle.blocks.specs.Layout.{answers};
 ghost use Rattle.gather.specs.Sheets.{Accepted};
 ghost use Rattle.frame.specs.Faults.{isSound};
 ghost use Rattle.frame.specs.Table.{answersOf, Based};
 ghost use Rattle.analyzer.specs.Ends.{begin, OpenedFrom, Finished};
 
 // Nothing is recorded yet.
-pub fn begun(scope: Scope) -> Progress
-    ensures { λ r. ⌜ r ≡ begin scope ⌝ }
+pub fn begun(scope: Scope, width: Width) -> Progress
+    ensures { λ r. ⌜ r ≡ begin scope width ⌝ }
 {
     Progress {
         scope,
         count: 0,
         fault: Fault::Sound,
+        width,
     }
 }
 
@@ -42,12 +46,13 @@ pub fn finish(
     spans: &[u64],
     work: &mut [u64],
 ) -> Fault
-    requires { ⌜ Accepted (now tables) × (1 ≤ query) × (query ≤ getD (now tables) 4 0) × (128 ≤ length (now spans)) × (4 * p .count + 4736 ≤ length (now work)) × (isSound (p .fault) ≡ true → Based (now tables) (answersOf (now work))) ⌝ }
+    requires { ⌜ Accepted (now tables) × (1 ≤ query) × (query ≤ getD (now tables) 4 0) × (512 ≤ length (now spans)) × (row (p .width) * p .count + answers (p .width) ≤ length (now work)) × (isSound (p .fault) ≡ true → Based (p .width) (now tables) (answersOf (p .width) (now work))) ⌝ }
     ensures { λ r. ⌜ Finished (now (tables .entry)) (now (work .entry)) query scope p (now (spans .entry)) r (now (work .exit)) ⌝ }
 {
     if p.is_sound() {
         let whole = scope.with_inputs_of(p.scope);
-        conclude(tables, query, whole, spans, p.count, work);
+        let width = p.width;
+        conclude(tables, query, whole, spans, p.count, work, width);
     }
     p.fault
 }

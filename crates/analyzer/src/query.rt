@@ -46,6 +46,7 @@ use used::assigned::pattern_of;
 use using::Using;
 use using::mods::use_mods;
 use using::vars::use_vars;
+use widths::Width;
 ghost use mathlib.Core.Path.{_≡_};
 ghost use Prim.Native.Nat.{_≤_};
 ghost use lib.ListN.{length, getD};
@@ -81,7 +82,7 @@ fn process_comprs(
     firsts: &mut [u64],
     work: &mut [u64],
 ) -> Progress
-    requires { ⌜ Accepted (now tables) × (128 ≤ length (now inner)) × (128 ≤ length (now firsts)) × (row ≤ getD (now tables) 2 0) × AsksComprs (now tables) (now inner) row p (now firsts) (now work) ⌝ }
+    requires { ⌜ Accepted (now tables) × (512 ≤ length (now inner)) × (512 ≤ length (now firsts)) × (row ≤ getD (now tables) 2 0) × AsksComprs (now tables) (now inner) row p (now firsts) (now work) ⌝ }
     ensures { λ r. ⌜ DoesComprs (now (tables .entry)) (now (inner .entry)) (comprs (exprBy (now (tables .entry)) rest row)) levels p (now (firsts .entry)) (now (work .entry)) r (now (firsts .exit)) (now (work .exit)) ⌝ }
 {
     if row == 0 {
@@ -91,7 +92,8 @@ fn process_comprs(
     let k = kids_of(w);
     let next = next_of(w, rest);
     let query = pending(p, w, work);
-    let at = 4 * p.count;
+    let width = p.width;
+    let at = width.row() * p.count;
     let fault = analyze_query(
         tables,
         inner,
@@ -100,6 +102,7 @@ fn process_comprs(
         w.second as usize,
         levels,
         &mut work[at..],
+        width,
     );
     let mut s = after_compr(w, p, fault, firsts, work);
     s = process_comprs(tables, inner, k.first, true, levels, s, firsts, work);
@@ -120,7 +123,7 @@ fn use_expr(
     firsts: &mut [u64],
     work: &mut [u64],
 ) -> Using
-    requires { ⌜ Accepted (now tables) × (128 ≤ length (now inner)) × (128 ≤ length (now firsts)) × (row ≤ getD (now tables) 2 0) × Listed extras × AsksExpr (now tables) (now inner) row 0 context p (now firsts) (now work) (bracketVars (exprBy (now tables) rest row)) ⌝ }
+    requires { ⌜ Accepted (now tables) × (512 ≤ length (now inner)) × (512 ≤ length (now firsts)) × (row ≤ getD (now tables) 2 0) × Listed extras × AsksExpr (now tables) (now inner) row 0 context p (now firsts) (now work) (bracketVars (exprBy (now tables) rest row)) ⌝ }
     ensures { λ r. ⌜ DoesUse (now (tables .entry)) (now (inner .entry)) extras (exprBy (now (tables .entry)) rest row) context p (now (firsts .entry)) (now (work .entry)) r (now (firsts .exit)) (now (work .exit)) ⌝ }
 {
     let statement = context.statement;
@@ -155,7 +158,7 @@ fn assign_pair(
     firsts: &mut [u64],
     work: &mut [u64],
 ) -> Progress
-    requires { ⌜ Accepted (now tables) × (128 ≤ length (now inner)) × (128 ≤ length (now firsts)) × (left ≤ getD (now tables) 2 0) × (right ≤ getD (now tables) 2 0) × AsksExpr (now tables) (now inner) left right context p (now firsts) (now work) (total pairCost (pairAt (now tables) left right)) ⌝ }
+    requires { ⌜ Accepted (now tables) × (512 ≤ length (now inner)) × (512 ≤ length (now firsts)) × (left ≤ getD (now tables) 2 0) × (right ≤ getD (now tables) 2 0) × AsksExpr (now tables) (now inner) left right context p (now firsts) (now work) (total pairCost (pairAt (now tables) left right)) ⌝ }
     ensures { λ r. ⌜ DoesPairs (now (tables .entry)) (now (inner .entry)) (pairAt (now (tables .entry)) left right) check context p (now (firsts .entry)) (now (work .entry)) r (now (firsts .exit)) (now (work .exit)) ⌝ }
 {
     if left == 0 {
@@ -180,7 +183,7 @@ fn process_pairs(
     firsts: &mut [u64],
     work: &mut [u64],
 ) -> Progress
-    requires { ⌜ Accepted (now tables) × (128 ≤ length (now inner)) × (128 ≤ length (now firsts)) × (left ≤ getD (now tables) 2 0) × (right ≤ getD (now tables) 2 0) × AsksExpr (now tables) (now inner) left right context p (now firsts) (now work) (total pairCost (pairsAt (now tables) left right)) ⌝ }
+    requires { ⌜ Accepted (now tables) × (512 ≤ length (now inner)) × (512 ≤ length (now firsts)) × (left ≤ getD (now tables) 2 0) × (right ≤ getD (now tables) 2 0) × AsksExpr (now tables) (now inner) left right context p (now firsts) (now work) (total pairCost (pairsAt (now tables) left right)) ⌝ }
     ensures { λ r. ⌜ DoesPairs (now (tables .entry)) (now (inner .entry)) (pairsAt (now (tables .entry)) left right) check context p (now (firsts .entry)) (now (work .entry)) r (now (firsts .exit)) (now (work .exit)) ⌝ }
 {
     if left == 0 {
@@ -238,7 +241,7 @@ fn process_non_var(
     firsts: &mut [u64],
     work: &mut [u64],
 ) -> Progress
-    requires { ⌜ Accepted (now tables) × (128 ≤ length (now inner)) × (128 ≤ length (now firsts)) × (row ≤ getD (now tables) 2 0) × AsksExpr (now tables) (now inner) row 0 context p (now firsts) (now work) (total bracketVars (otherAt (now tables) row)) ⌝ }
+    requires { ⌜ Accepted (now tables) × (512 ≤ length (now inner)) × (512 ≤ length (now firsts)) × (row ≤ getD (now tables) 2 0) × AsksExpr (now tables) (now inner) row 0 context p (now firsts) (now work) (total bracketVars (otherAt (now tables) row)) ⌝ }
     ensures { λ r. ⌜ DoesOthers (now (tables .entry)) (now (inner .entry)) (otherAt (now (tables .entry)) row) context p (now (firsts .entry)) (now (work .entry)) r (now (firsts .exit)) (now (work .exit)) ⌝ }
 {
     if row == 0 {
@@ -265,7 +268,7 @@ fn process_non_vars(
     firsts: &mut [u64],
     work: &mut [u64],
 ) -> Progress
-    requires { ⌜ Accepted (now tables) × (128 ≤ length (now inner)) × (128 ≤ length (now firsts)) × (row ≤ getD (now tables) 2 0) × AsksExpr (now tables) (now inner) row 0 context p (now firsts) (now work) (total bracketVars (leavesAt (now tables) row)) ⌝ }
+    requires { ⌜ Accepted (now tables) × (512 ≤ length (now inner)) × (512 ≤ length (now firsts)) × (row ≤ getD (now tables) 2 0) × AsksExpr (now tables) (now inner) row 0 context p (now firsts) (now work) (total bracketVars (leavesAt (now tables) row)) ⌝ }
     ensures { λ r. ⌜ DoesNonVars (now (tables .entry)) (now (inner .entry)) row context p (now (firsts .entry)) (now (work .entry)) r (now (firsts .exit)) (now (work .exit)) ⌝ }
 {
     if row == 0 {
@@ -290,10 +293,10 @@ fn process_some_in(
     firsts: &mut [u64],
     work: &mut [u64],
 ) -> Progress
-    requires { ⌜ Accepted (now tables) × (128 ≤ length (now outer)) × (128 ≤ length (now spans)) × (128 ≤ length (now firsts)) × (st .form ≡ 2) × AsksLiteral (now tables) (now outer) (now spans) st context p (now firsts) (now work) ⌝ }
+    requires { ⌜ Accepted (now tables) × (512 ≤ length (now outer)) × (512 ≤ length (now spans)) × (512 ≤ length (now firsts)) × (st .form ≡ 2) × AsksLiteral (now tables) (now outer) (now spans) st context p (now firsts) (now work) ⌝ }
     ensures { λ r. ⌜ DoesStep (now (tables .entry)) (someInStep (now (tables .entry)) st context) (now (outer .entry)) (now (spans .entry)) context p (now (firsts .entry)) (now (work .entry)) r (now (firsts .exit)) (now (work .exit)) ⌝ }
 {
-    let mut inner: [u64; 128] = [0; 128];
+    let mut inner: [u64; 512] = [0; 512];
     enclose(outer, p.scope, spans, &mut inner);
     let none = Names::empty();
     let key = st.first as usize;
@@ -331,11 +334,11 @@ fn process_every(
     firsts: &mut [u64],
     work: &mut [u64],
 ) -> Progress
-    requires { ⌜ Accepted (now tables) × (128 ≤ length (now outer)) × (128 ≤ length (now spans)) × (128 ≤ length (now firsts)) × (st .form ≡ 5) × AsksLiteral (now tables) (now outer) (now spans) st context p (now firsts) (now work) ⌝ }
+    requires { ⌜ Accepted (now tables) × (512 ≤ length (now outer)) × (512 ≤ length (now spans)) × (512 ≤ length (now firsts)) × (st .form ≡ 5) × AsksLiteral (now tables) (now outer) (now spans) st context p (now firsts) (now work) ⌝ }
     ensures { λ r. ⌜ DoesStep (now (tables .entry)) (everyStep (now (tables .entry)) st context) (now (outer .entry)) (now (spans .entry)) context p (now (firsts .entry)) (now (work .entry)) r (now (firsts .exit)) (now (work .exit)) ⌝ }
 {
-    let mut inner: [u64; 128] = [0; 128];
-    let mut body: [u64; 128] = [0; 128];
+    let mut inner: [u64; 512] = [0; 512];
+    let mut body: [u64; 512] = [0; 512];
     enclose(outer, p.scope, spans, &mut inner);
     let none = Names::empty();
     let u = use_expr(
@@ -358,8 +361,18 @@ fn process_every(
         &mut body,
     );
     let query = body_of(s, st.query as usize);
-    let at = 4 * s.count;
-    let fault = analyze_query(tables, &body, query, 0, 0, context.levels, &mut work[at..]);
+    let width = s.width;
+    let at = width.row() * s.count;
+    let fault = analyze_query(
+        tables,
+        &body,
+        query,
+        0,
+        0,
+        context.levels,
+        &mut work[at..],
+        width,
+    );
     after_body(s, fault)
 }
 
@@ -375,10 +388,10 @@ fn process_expr(
     firsts: &mut [u64],
     work: &mut [u64],
 ) -> Progress
-    requires { ⌜ Accepted (now tables) × (128 ≤ length (now outer)) × (128 ≤ length (now spans)) × (128 ≤ length (now firsts)) × AsksWhole (now tables) (now outer) (now spans) row context p (now firsts) (now work) ⌝ }
+    requires { ⌜ Accepted (now tables) × (512 ≤ length (now outer)) × (512 ≤ length (now spans)) × (512 ≤ length (now firsts)) × AsksWhole (now tables) (now outer) (now spans) row context p (now firsts) (now work) ⌝ }
     ensures { λ r. ⌜ DoesStep (now (tables .entry)) (exprStep (now (tables .entry)) call row context) (now (outer .entry)) (now (spans .entry)) context p (now (firsts .entry)) (now (work .entry)) r (now (firsts .exit)) (now (work .exit)) ⌝ }
 {
-    let mut inner: [u64; 128] = [0; 128];
+    let mut inner: [u64; 512] = [0; 512];
     let arg = extra_arg(tables, row, call);
     let extras = extra_vars(tables, outer, arg);
     let s = bind_extras(p, extras);
@@ -412,7 +425,7 @@ fn process_literal(
     firsts: &mut [u64],
     work: &mut [u64],
 ) -> Progress
-    requires { ⌜ Accepted (now tables) × (128 ≤ length (now outer)) × (128 ≤ length (now spans)) × (128 ≤ length (now firsts)) × AsksLiteral (now tables) (now outer) (now spans) st context p (now firsts) (now work) ⌝ }
+    requires { ⌜ Accepted (now tables) × (512 ≤ length (now outer)) × (512 ≤ length (now spans)) × (512 ≤ length (now firsts)) × AsksLiteral (now tables) (now outer) (now spans) st context p (now firsts) (now work) ⌝ }
     ensures { λ r. ⌜ DoesStep (now (tables .entry)) (literalStep (now (tables .entry)) st context) (now (outer .entry)) (now (spans .entry)) context p (now (firsts .entry)) (now (work .entry)) r (now (firsts .exit)) (now (work .exit)) ⌝ }
 {
     if st.form == SOME_VARS {
@@ -449,7 +462,7 @@ fn process_stmts(
     firsts: &mut [u64],
     work: &mut [u64],
 ) -> Progress
-    requires { ⌜ Accepted (now tables) × (128 ≤ length (now outer)) × (128 ≤ length (now spans)) × (128 ≤ length (now firsts)) × (row ≤ getD (now tables) 3 0) × AsksStmts (now tables) (now outer) (now spans) row statement p (now firsts) (now work) ⌝ }
+    requires { ⌜ Accepted (now tables) × (512 ≤ length (now outer)) × (512 ≤ length (now spans)) × (512 ≤ length (now firsts)) × (row ≤ getD (now tables) 3 0) × AsksStmts (now tables) (now outer) (now spans) row statement p (now firsts) (now work) ⌝ }
     ensures { λ r. ⌜ DoesStmts (now (tables .entry)) (now (outer .entry)) (now (spans .entry)) row statement levels p (now (firsts .entry)) (now (work .entry)) r (now (firsts .exit)) (now (work .exit)) ⌝ }
 {
     if row == 0 {
@@ -491,9 +504,10 @@ pub fn analyze_query(
     value: usize,
     levels: usize,
     work: &mut [u64],
+    width: Width,
 ) -> Fault
-    requires { ⌜ Accepted (now tables) × (128 ≤ length (now outer)) × AsksQuery (now tables) (now outer) (now work) query key value ⌝ }
-    ensures { λ r. ⌜ DoesQuery (now (tables .entry)) (now (outer .entry)) query key value levels (now (work .entry)) r (now (work .exit)) ⌝ }
+    requires { ⌜ Accepted (now tables) × (512 ≤ length (now outer)) × AsksQuery (now tables) width (now outer) (now work) query key value ⌝ }
+    ensures { λ r. ⌜ DoesQuery (now (tables .entry)) width (now (outer .entry)) query key value levels (now (work .entry)) r (now (work .exit)) ⌝ }
 {
     if query == 0 {
         return Fault::Sound;
@@ -501,11 +515,11 @@ pub fn analyze_query(
     if levels == 0 {
         return Fault::Sound;
     }
-    let mut spans: [u64; 128] = [0; 128];
-    let mut firsts: [u64; 128] = [0; 128];
-    let mut inner: [u64; 128] = [0; 128];
+    let mut spans: [u64; 512] = [0; 512];
+    let mut firsts: [u64; 512] = [0; 512];
+    let mut inner: [u64; 512] = [0; 512];
     let scope = gather_local_vars(tables, outer, query, key, value, &mut spans);
-    let start = begun(scope);
+    let start = begun(scope, width);
     let row = first_at(tables, query) as usize;
     let s = process_stmts(
         tables,

@@ -3,8 +3,10 @@
 use crate::query::analyze_query;
 use conclude::bases::set_bases;
 use frame::Fault;
+use widths::Width;
 ghost use Prim.Native.Nat.{_≤_};
 ghost use lib.ListN.{length, getD};
+ghost use Rattle.widths.specs.Widths as limit;
 ghost use Rattle.gather.specs.Sheets.{Accepted};
 ghost use Rattle.analyzer.specs.Analysed.{Analysed};
 
@@ -14,12 +16,12 @@ const NEVER: u64 = 65536;
 // How deep queries may nest.
 const DEEPEST: usize = 8;
 
-// The answers are left in the last 4,736 words of work.
-pub fn analyze_sheet(tables: &[u16], work: &mut [u64]) -> Fault
-    requires { ⌜ Accepted (now tables) × (1 ≤ getD (now tables) 4 0) × (8192 ≤ length (now work)) ⌝ }
-    ensures { λ r. ⌜ Analysed (now (tables .entry)) (now (work .exit)) r ⌝ }
+// The answers are left in the last words of work, as many as the width's answers have.
+pub fn analyze_sheet(tables: &[u16], work: &mut [u64], width: Width) -> Fault
+    requires { ⌜ Accepted (now tables) × (1 ≤ getD (now tables) 4 0) × (getD (now tables) 0 0 ≤ limit.names width) × (limit.work width ≤ length (now work)) ⌝ }
+    ensures { λ r. ⌜ Analysed width (now (tables .entry)) (now (work .exit)) r ⌝ }
 {
-    set_bases(tables, work);
-    let outer: [u64; 128] = [NEVER; 128];
-    analyze_query(tables, &outer, 1, 0, 0, DEEPEST, work)
+    set_bases(tables, work, width);
+    let outer: [u64; 512] = [NEVER; 512];
+    analyze_query(tables, &outer, 1, 0, 0, DEEPEST, work, width)
 }

@@ -10,11 +10,13 @@ use names::Names;
 use records::row_at;
 use used::assigned::pattern_of;
 use using::Using;
+use widths::Width;
 ghost use mathlib.Core.Path.{_≡_};
 ghost use mathlib.Core.Bool.{_&&_};
 ghost use Prim.Native.Nat.{_≤_};
 ghost use lib.Dec.{eqb};
 ghost use lib.ListN.{length, getD};
+ghost use Rattle.blocks.specs.Layout.{answers};
 ghost use Rattle.trees.specs.Traverse.{comprs};
 ghost use Rattle.gather.specs.Sheets.{Accepted};
 ghost use Rattle.gather.specs.Exprs.{exprBy};
@@ -30,14 +32,15 @@ pub fn all_used(
     context: Context,
     work: &[u64],
 ) -> Names
-    requires { ⌜ Accepted (now tables) × (row ≤ getD (now tables) 2 0) × (context .mods ≤ getD (now tables) 2 0) × (4736 ≤ length (now work)) ⌝ }
-    ensures { λ r. ⌜ AllUsed (now (tables .entry)) (p .scope) names (comprs (exprBy (now (tables .entry)) rest row)) context (now (work .entry)) r ⌝ }
+    requires { ⌜ Accepted (now tables) × (row ≤ getD (now tables) 2 0) × (context .mods ≤ getD (now tables) 2 0) × (answers (p .width) ≤ length (now work)) ⌝ }
+    ensures { λ r. ⌜ AllUsed (now (tables .entry)) (p .width) (p .scope) names (comprs (exprBy (now (tables .entry)) rest row)) context (now (work .entry)) r ⌝ }
 {
     let scope = p.scope;
     let mods = context.mods;
+    let width = p.width;
     let by = names.union(context.names);
-    let own = comprs_used(tables, scope, work, row, rest, by);
-    comprs_used(tables, scope, work, mods, true, own)
+    let own = comprs_used(tables, scope, work, row, rest, by, width);
+    comprs_used(tables, scope, work, mods, true, own, width)
 }
 
 // Are there no comprehensions, neither of an expression nor of the modifiers?
@@ -72,17 +75,18 @@ fn other_used(
     mods: usize,
     work: &[u64],
     names: Names,
+    width: Width,
 ) -> Names
-    requires { ⌜ Accepted (now tables) × (row ≤ getD (now tables) 2 0) × (mods ≤ getD (now tables) 2 0) × (4736 ≤ length (now work)) ⌝ }
-    ensures { λ r. ⌜ OtherUsed (now (tables .entry)) scope row mods (now (work .entry)) names r ⌝ }
+    requires { ⌜ Accepted (now tables) × (row ≤ getD (now tables) 2 0) × (mods ≤ getD (now tables) 2 0) × (answers width ≤ length (now work)) ⌝ }
+    ensures { λ r. ⌜ OtherUsed (now (tables .entry)) width scope row mods (now (work .entry)) names r ⌝ }
 {
     if row == 0 {
         return names;
     }
     let none = Names::empty();
     let by = used_names(tables, scope, none, row, false, names);
-    let own = comprs_used(tables, scope, work, row, false, by);
-    comprs_used(tables, scope, work, mods, true, own)
+    let own = comprs_used(tables, scope, work, row, false, by, width);
+    comprs_used(tables, scope, work, mods, true, own, width)
 }
 
 // The parts of the pattern at a row, with the rest of its chain, that are no variables.
@@ -94,8 +98,8 @@ fn leaves_used(
     work: &[u64],
     names: Names,
 ) -> Names
-    requires { ⌜ Accepted (now tables) × (row ≤ getD (now tables) 2 0) × (mods ≤ getD (now tables) 2 0) × (4736 ≤ length (now work)) ⌝ }
-    ensures { λ r. ⌜ LeavesUsed (now (tables .entry)) (p .scope) row mods (now (work .entry)) names r ⌝ }
+    requires { ⌜ Accepted (now tables) × (row ≤ getD (now tables) 2 0) × (mods ≤ getD (now tables) 2 0) × (answers (p .width) ≤ length (now work)) ⌝ }
+    ensures { λ r. ⌜ LeavesUsed (now (tables .entry)) (p .width) (p .scope) row mods (now (work .entry)) names r ⌝ }
 {
     if row == 0 {
         return names;
@@ -103,7 +107,8 @@ fn leaves_used(
     let w = row_at(tables, row);
     let items = pattern_of(w);
     let other = non_var(tables, p, row, w);
-    let mut s = other_used(tables, p.scope, other, mods, work, names);
+    let width = p.width;
+    let mut s = other_used(tables, p.scope, other, mods, work, names, width);
     s = leaves_used(tables, p, items, mods, work, s);
     leaves_used(tables, p, w.next as usize, mods, work, s)
 }
@@ -117,8 +122,8 @@ pub fn others_used(
     context: Context,
     work: &[u64],
 ) -> Names
-    requires { ⌜ Accepted (now tables) × (key ≤ getD (now tables) 2 0) × (value ≤ getD (now tables) 2 0) × (context .mods ≤ getD (now tables) 2 0) × (4736 ≤ length (now work)) ⌝ }
-    ensures { λ r. ⌜ OthersUsed (now (tables .entry)) (p .scope) key value context (now (work .entry)) r ⌝ }
+    requires { ⌜ Accepted (now tables) × (key ≤ getD (now tables) 2 0) × (value ≤ getD (now tables) 2 0) × (context .mods ≤ getD (now tables) 2 0) × (answers (p .width) ≤ length (now work)) ⌝ }
+    ensures { λ r. ⌜ OthersUsed (now (tables .entry)) (p .width) (p .scope) key value context (now (work .entry)) r ⌝ }
 {
     let none = Names::empty();
     let mods = context.mods;

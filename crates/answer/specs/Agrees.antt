@@ -17,66 +17,68 @@ use Rattle.scopes.specs.Scopes.{Span, spanIn}
 use Rattle.analysis.specs.States.{QuerySchedule}
 use Rattle.answers.specs.Rows.{queryRows, placeRows, localRow, setRows}
 use Rattle.turns.specs.Turns.{mark}
-use Rattle.answer.specs.Stored.{wordAt, setAt, placeAt, SpanIn, Analysed, StoredAt}
+use Rattle.widths.specs.declared.Width.{Width}
+use Rattle.blocks.specs.Layout.{wordAt, setAt, spanAt, placeAt}
+use Rattle.answer.specs.Stored.{SpanIn, Analysed, StoredAt}
 use Rattle.answer.specs.Sound.{mark-low}
 use Rattle.answer.specs.Ranges.{texts, texts-same, concat-append, concat-concat, concat-map, concat-filter}
 use Rattle.answer.specs.Texts.{queryText, placeLine, placesText, localLine, nameLine, setsText, query-never, query-once, places-never, places-once, sets-never, sets-once}
 
-module _ (w : List ℕ) (q : ℕ) where
-  module _ (a : QuerySchedule) (s : Analysed w q a) where
-    once : wordAt w q 0 ≡ 0 → ⊥
+module _ (v : Width) (w : List ℕ) (q : ℕ) where
+  module _ (a : QuerySchedule) (s : Analysed v w q a) where
+    once : wordAt v w q 0 ≡ 0 → ⊥
     once e = omega (arith, s .placed, e)
 
-    query-analysed : concatMap rowLine (queryRows q (some a)) ≡ queryText w q
+    query-analysed : concatMap rowLine (queryRows q (some a)) ≡ queryText v w q
     query-analysed =
-        let p : mark (turns.placed (a .definitions) (a .count) nameBound) ≡ wordAt w q 0 - 1 = omega (arith, s .placed) in
-        append-nil _ ∙ ap₂ (λ (m n : ℕ). rowLine (q ∷ m ∷ n ∷ [])) p (sym (s .input)) ∙ sym (query-once w q once)
+        let p : mark (turns.placed (a .definitions) (a .count) nameBound) ≡ wordAt v w q 0 - 1 = omega (arith, s .placed) in
+        append-nil _ ∙ ap₂ (λ (m n : ℕ). rowLine (q ∷ m ∷ n ∷ [])) p (sym (s .input)) ∙ sym (query-once v w q once)
 
     place-same : (k : ℕ) → k < a .count
         → (let i = getD (turns.order (a .definitions) (a .count) nameBound) k 0 in
-        rowLine (q ∷ k ∷ i ∷ mark (turns.reached (a .definitions) (a .count) nameBound i) ∷ [])) ≡ placeLine w q k
+        rowLine (q ∷ k ∷ i ∷ mark (turns.reached (a .definitions) (a .count) nameBound i) ∷ [])) ≡ placeLine v w q k
     unfolding placeLine
     place-same k l =
         let i = getD (turns.order (a .definitions) (a .count) nameBound) k 0 in
         let n = s .places k l in
         let m = mark-low (turns.reached (a .definitions) (a .count) nameBound i) in
-        let e : i ≡ placeAt w q k / 2 = omega (arith, n .both, m) in
-        let g : mark (turns.reached (a .definitions) (a .count) nameBound i) ≡ placeAt w q k % 2 = omega (arith, n .both, m) in
+        let e : i ≡ placeAt v w q k / 2 = omega (arith, n .both, m) in
+        let g : mark (turns.reached (a .definitions) (a .count) nameBound i) ≡ placeAt v w q k % 2 = omega (arith, n .both, m) in
         ap₂ (λ (x y : ℕ). rowLine (q ∷ k ∷ x ∷ y ∷ [])) e g
 
-    places-analysed : concatMap rowLine (placeRows q (some a)) ≡ placesText w q
+    places-analysed : concatMap rowLine (placeRows q (some a)) ≡ placesText v w q
     unfolding texts
     places-analysed =
         concat-map rowLine _ (range 0 (a .count))
-        ∙ texts-same _ (placeLine w q) 0 (a .count) (λ k l u. place-same k u)
-        ∙ ap (texts (placeLine w q) 0) (sym (s .count)) ∙ sym (places-once w q once)
+        ∙ texts-same _ (placeLine v w q) 0 (a .count) (λ k l u. place-same k u)
+        ∙ ap (texts (placeLine v w q) 0) (sym (s .count)) ∙ sym (places-once v w q once)
 
-    local-same : (x : ℕ) → concatMap rowLine (localRow q x (spanIn (a .scope .locals) x)) ≡ localLine w q x
+    local-same : (x : ℕ) → concatMap rowLine (localRow q x (spanIn (a .scope .locals) x)) ≡ localLine v w q x
     unfolding localLine
     local-same x = go (spanIn (a .scope .locals) x) (s .locals x) (s .spans x)
       where
-        go : (o : Option Span) → isSome o ≡ member (setAt w q 3) x → ((p : Span) → o ≡ some p → SpanIn (wordAt w q (16 + x)) p)
+        go : (o : Option Span) → isSome o ≡ member (setAt v w q 0) x → ((p : Span) → o ≡ some p → SpanIn (spanAt v w q x) p)
             → concatMap rowLine (localRow q x o)
-            ≡ cond (member (setAt w q 3) x) (rowLine (q ∷ 1 ∷ x ∷ (wordAt w q (16 + x) / 65536) ∷ (wordAt w q (16 + x) % 65536) ∷ [])) []
+            ≡ cond (member (setAt v w q 0) x) (rowLine (q ∷ 1 ∷ x ∷ (spanAt v w q x / 65536) ∷ (spanAt v w q x % 65536) ∷ [])) []
         go none h spans = rw (sym h)
         go (some p) h spans =
             let n = spans p refl in
-            let e : p .line ≡ wordAt w q (16 + x) / 65536 = omega (arith, n .line, n .col, n .both) in
-            let g : p .col ≡ wordAt w q (16 + x) % 65536 = omega (arith, n .line, n .col, n .both) in
+            let e : p .line ≡ spanAt v w q x / 65536 = omega (arith, n .line, n .col, n .both) in
+            let g : p .col ≡ spanAt v w q x % 65536 = omega (arith, n .line, n .col, n .both) in
             rw (sym h) (append-nil _ ∙ ap₂ (λ (l k : ℕ). rowLine (q ∷ 1 ∷ x ∷ l ∷ k ∷ [])) e g)
 
-    locals-analysed : concatMap rowLine (concatMap (λ x. localRow q x (spanIn (a .scope .locals) x)) (range 0 nameBound)) ≡ texts (localLine w q) 0 128
+    locals-analysed : concatMap rowLine (concatMap (λ x. localRow q x (spanIn (a .scope .locals) x)) (range 0 nameBound)) ≡ texts (localLine v w q) 0 512
     unfolding texts
-    locals-analysed = concat-concat rowLine _ (range 0 nameBound) ∙ texts-same _ (localLine w q) 0 128 (λ x l u. local-same x)
+    locals-analysed = concat-concat rowLine _ (range 0 nameBound) ∙ texts-same _ (localLine v w q) 0 512 (λ x l u. local-same x)
 
-    names-analysed : (set : ℕ) (names : NameSet) → ((x : ℕ) → contains names x ≡ member (setAt w q (2 * set + 1)) x)
-        → concatMap rowLine (map (λ x. q ∷ set ∷ x ∷ 0 ∷ 0 ∷ []) (elements names)) ≡ texts (nameLine w q set) 0 128
+    names-analysed : (set : ℕ) (names : NameSet) → ((x : ℕ) → contains names x ≡ member (setAt v w q (set - 1)) x)
+        → concatMap rowLine (map (λ x. q ∷ set ∷ x ∷ 0 ∷ 0 ∷ []) (elements names)) ≡ texts (nameLine v w q set) 0 512
     unfolding texts elements nameLine
     names-analysed set names has =
         concat-map rowLine _ (elements names) ∙ concat-filter _ (contains names) (range 0 nameBound)
-        ∙ texts-same _ (nameLine w q set) 0 128 (λ x l u. ap (λ (b : Bool). cond b (rowLine (q ∷ set ∷ x ∷ 0 ∷ 0 ∷ [])) []) (has x))
+        ∙ texts-same _ (nameLine v w q set) 0 512 (λ x l u. ap (λ (b : Bool). cond b (rowLine (q ∷ set ∷ x ∷ 0 ∷ 0 ∷ [])) []) (has x))
 
-    sets-analysed : concatMap rowLine (setRows q (some a)) ≡ setsText w q
+    sets-analysed : concatMap rowLine (setRows q (some a)) ≡ setsText v w q
     sets-analysed =
         let k = concatMap (λ x. localRow q x (spanIn (a .scope .locals) x)) (range 0 nameBound) in
         let l = map (λ x. q ∷ 2 ∷ x ∷ 0 ∷ 0 ∷ []) (elements (a .scope .unscoped)) in
@@ -84,16 +86,16 @@ module _ (w : List ℕ) (q : ℕ) where
         concat-append rowLine k (l ++ m)
         ∙ ap₂ (λ (x y : List ℕ). x ++ y) locals-analysed (concat-append rowLine l m ∙ ap₂ (λ (x y : List ℕ). x ++ y)
         (names-analysed 2 (a .scope .unscoped) (s .unscoped)) (names-analysed 3 (a .scope .inputs) (s .inputs)))
-        ∙ sym (sets-once w q once)
+        ∙ sym (sets-once v w q once)
 
-  pub query-stored : (o : Option QuerySchedule) → StoredAt w q o → concatMap rowLine (queryRows q o) ≡ queryText w q
-  query-stored none s = append-nil _ ∙ sym (query-never w q s)
+  pub query-stored : (o : Option QuerySchedule) → StoredAt v w q o → concatMap rowLine (queryRows q o) ≡ queryText v w q
+  query-stored none s = append-nil _ ∙ sym (query-never v w q s)
   query-stored (some a) s = query-analysed a s
 
-  pub places-stored : (o : Option QuerySchedule) → StoredAt w q o → concatMap rowLine (placeRows q o) ≡ placesText w q
-  places-stored none s = sym (places-never w q s)
+  pub places-stored : (o : Option QuerySchedule) → StoredAt v w q o → concatMap rowLine (placeRows q o) ≡ placesText v w q
+  places-stored none s = sym (places-never v w q s)
   places-stored (some a) s = places-analysed a s
 
-  pub sets-stored : (o : Option QuerySchedule) → StoredAt w q o → concatMap rowLine (setRows q o) ≡ setsText w q
-  sets-stored none s = sym (sets-never w q s)
+  pub sets-stored : (o : Option QuerySchedule) → StoredAt v w q o → concatMap rowLine (setRows q o) ≡ setsText v w q
+  sets-stored none s = sym (sets-never v w q s)
   sets-stored (some a) s = sets-analysed a s

@@ -2,35 +2,40 @@
 use mathlib.Core.Path.{_≡_, sym, ap, _∙_}
 use mathlib.Core.Bool.{true, false}
 use mathlib.Core.List.{List, [], _∷_}
+use mathlib.Core.Logic.{⊎-elim}
 use Prim.Native.Nat.{ℕ, _+_, _-_, _*_, _/_, _%_, _≤_, _<_}
 use native.Mathlib.Omega.{arith}
-use lib.ListN.{getD}
+use Rattle.basics.specs.Truth.{lt-cases, not-both}
 use Rattle.names.specs.Sets.{member, Next}
+use Rattle.names.specs.Laws.{member-out}
+use Rattle.widths.specs.declared.Width.{Width}
+use Rattle.widths.specs.Widths.{words, wordsAt, Same}
+use Rattle.widths.specs.Laws.{words-length}
+use Rattle.blocks.specs.Layout.{setAt, spanAt}
 use Rattle.writer.specs.Writes.{Puts}
 use Rattle.writer.specs.Decimal.{rowLine}
-use Rattle.answer.specs.Stored.{wordAt, setAt}
 use Rattle.answer.specs.Ranges.{texts}
 use Rattle.answer.specs.Lines.{puts-as, run-first, run-next, run-skip}
 use Rattle.answer.specs.Texts.{localLine, nameLine}
 
 -- ---- the loop
 
--- The name x is the next of the set, or 128; and the lines of the names below it are written.
+-- The name x is the next of the set, or 512; and the lines of the names below it are written.
 pub record Listed (f : ℕ → List ℕ) (ws b : List ℕ) (at x : ℕ) (c : List ℕ) (r : ℕ) : Type 0 where
-  pub high : x ≤ 128
-  pub here : x < 128 → member ws x ≡ true
+  pub high : x ≤ 512
+  pub here : x < 512 → member ws x ≡ true
   pub wrote : Puts b at (texts f 0 x) c r
 
 module _ (f : ℕ → List ℕ) (ws : List ℕ) (none : (n : ℕ) → member ws n ≡ false → f n ≡ []) (b : List ℕ) (at : ℕ) where
-  pub listed-first : (x : ℕ) → Next ws 128 0 x → Listed f ws b at x b at
+  pub listed-first : (x : ℕ) → Next ws 512 0 x → Listed f ws b at x b at
   listed-first x n = record {
     high = n .high;
     here = n .found;
     wrote = run-skip f b at 0 0 x (omega arith) (omega arith) (λ k l u. none k (n .gap k l u)) b at (run-first f b at 0);
   }
 
-  pub listed-next : (x : ℕ) (c : List ℕ) (r : ℕ) → Listed f ws b at x c r → x < 128 → (d : List ℕ) (s : ℕ) → Puts c r (f x) d s
-      → (y : ℕ) → Next ws 128 (x + 1) y → Listed f ws b at y d s
+  pub listed-next : (x : ℕ) (c : List ℕ) (r : ℕ) → Listed f ws b at x c r → x < 512 → (d : List ℕ) (s : ℕ) → Puts c r (f x) d s
+      → (y : ℕ) → Next ws 512 (x + 1) y → Listed f ws b at y d s
   listed-next x c r l low d s put y n = record {
     high = n .high;
     here = n .found;
@@ -39,38 +44,41 @@ module _ (f : ℕ → List ℕ) (ws : List ℕ) (none : (n : ℕ) → member ws 
         (run-next f b at 0 x (omega arith) c r d s (l .wrote) put);
   }
 
-pub listed-all : (f : ℕ → List ℕ) (ws b : List ℕ) (at x : ℕ) (c : List ℕ) (r : ℕ) → Listed f ws b at x c r → 128 ≤ x → Puts b at (texts f 0 128) c r
+pub listed-all : (f : ℕ → List ℕ) (ws b : List ℕ) (at x : ℕ) (c : List ℕ) (r : ℕ) → Listed f ws b at x c r → 512 ≤ x → Puts b at (texts f 0 512) c r
 listed-all f ws b at x c r l h =
-    let e : x ≡ 128 = omega (arith, l .high) in
-    puts-as b at c r (texts f 0 x) (texts f 0 128) (ap (texts f 0) e) (l .wrote)
+    let e : x ≡ 512 = omega (arith, l .high) in
+    puts-as b at c r (texts f 0 x) (texts f 0 512) (ap (texts f 0) e) (l .wrote)
 
 -- ---- the sets
 
-module _ (w : List ℕ) (q : ℕ) where
-  -- The words of a set, as they are read.
-  pub set-read : (i : ℕ) → (getD w (144 * (q - 1) + i) 0 ∷ getD w ((144 * (q - 1) + i) + 1) 0 ∷ []) ≡ setAt w q i
-  set-read i =
-      let e : (144 * (q - 1) + i) + 1 ≡ 144 * (q - 1) + (i + 1) = omega arith in
-      ap (λ (n : ℕ). getD w (144 * (q - 1) + i) 0 ∷ getD w n 0 ∷ []) e
+-- A set of w words has members that it has room for alone.
+pub same-low : (w : ℕ) (l : List ℕ) (at : ℕ) (ws : List ℕ) → Same (wordsAt w l at) ws → (x : ℕ) → member ws x ≡ true → x < 64 * w
+same-low w l at ws is x h =
+    ⊎-elim (λ (low : x < 64 * w). low)
+    (λ (high : 64 * w ≤ x). absurd (not-both h (sym (is .has x) ∙ member-out (wordsAt w l at) x (omega (arith, words-length w l at))))) (lt-cases x (64 * w))
 
-  module _ (ws : List ℕ) (is : ws ≡ setAt w q 3) (x : ℕ) where
-    pub is-local : member ws x ≡ true → member (setAt w q 3) x ≡ true
-    is-local h = sym (ap (λ (l : List ℕ). member l x) is) ∙ h
+module _ (v : Width) (w : List ℕ) (q : ℕ) where
+  module _ (ws : List ℕ) (is : Same (setAt v w q 0) ws) (x : ℕ) where
+    pub is-local : member ws x ≡ true → member (setAt v w q 0) x ≡ true
+    is-local h = is .has x ∙ h
+
+    pub local-low : member ws x ≡ true → x < 64 * words v
+    local-low h = same-low (words v) w _ ws is x h
 
     pub local-here : member ws x ≡ true
-        → rowLine (q ∷ 1 ∷ x ∷ (wordAt w q (16 + x) / 65536) ∷ (wordAt w q (16 + x) % 65536) ∷ []) ≡ localLine w q x
+        → rowLine (q ∷ 1 ∷ x ∷ (spanAt v w q x / 65536) ∷ (spanAt v w q x % 65536) ∷ []) ≡ localLine v w q x
     unfolding localLine
     local-here h = rw (is-local h)
 
-    pub local-none : member ws x ≡ false → localLine w q x ≡ []
+    pub local-none : member ws x ≡ false → localLine v w q x ≡ []
     unfolding localLine
-    local-none h = rw (sym (ap (λ (l : List ℕ). member l x) is) ∙ h)
+    local-none h = rw (is .has x ∙ h)
 
-  module _ (set : ℕ) (ws : List ℕ) (is : ws ≡ setAt w q (2 * set + 1)) (x : ℕ) where
-    pub name-here : member ws x ≡ true → rowLine (q ∷ set ∷ x ∷ 0 ∷ 0 ∷ []) ≡ nameLine w q set x
+  module _ (set : ℕ) (ws : List ℕ) (is : Same (setAt v w q (set - 1)) ws) (x : ℕ) where
+    pub name-here : member ws x ≡ true → rowLine (q ∷ set ∷ x ∷ 0 ∷ 0 ∷ []) ≡ nameLine v w q set x
     unfolding nameLine
-    name-here h = rw (sym (ap (λ (l : List ℕ). member l x) is) ∙ h)
+    name-here h = rw (is .has x ∙ h)
 
-    pub name-none : member ws x ≡ false → nameLine w q set x ≡ []
+    pub name-none : member ws x ≡ false → nameLine v w q set x ≡ []
     unfolding nameLine
-    name-none h = rw (sym (ap (λ (l : List ℕ). member l x) is) ∙ h)
+    name-none h = rw (is .has x ∙ h)

@@ -14,6 +14,7 @@ use Rattle.trees.specs.Lists.{concatMap}
 use Rattle.analysis.specs.States.{QuerySchedule, scheduleOf}
 use Rattle.answers.specs.Rows.{queryRows, placeRows, setRows, allRows}
 use Rattle.answers.specs.Text.{section, answerText}
+use Rattle.widths.specs.declared.Width.{Width}
 use Rattle.answer.specs.Stored.{StoredAt, Stored}
 use Rattle.answer.specs.Ranges.{texts, texts-same, concat-concat}
 use Rattle.answer.specs.Lines.{puts-as}
@@ -30,16 +31,16 @@ module _ (rows : ℕ → Option QuerySchedule → List (List ℕ)) (f : ℕ → 
       (sym (concat-concat rowLine _ (range 1 (suc n)) ∙ ap (texts _ 1) (sym (add-one n)) ∙ texts-same _ f 1 (n + 1) (λ q l u. same q l (omega arith))))
 
 -- What a call that writes a section ensures.
-abbrev pub PutsSection : (ℕ → Option QuerySchedule → List (List ℕ)) → String → List ℕ → ℕ → List ℕ → ℕ → List ℕ → ℕ → Type 0
-PutsSection rows heading w n b at c r =
-    (schedules : List QuerySchedule) → Stored w schedules → Puts b at (section heading (allRows rows n schedules)) c r
+abbrev pub PutsSection : (ℕ → Option QuerySchedule → List (List ℕ)) → String → Width → List ℕ → ℕ → List ℕ → ℕ → List ℕ → ℕ → Type 0
+PutsSection rows heading v w n b at c r =
+    (schedules : List QuerySchedule) → Stored v w schedules → Puts b at (section heading (allRows rows n schedules)) c r
 
-module _ (w : List ℕ) (n : ℕ) (few : n ≤ 32) (b : List ℕ) (at : ℕ) (c : List ℕ) (r : ℕ) where
+module _ (v : Width) (w : List ℕ) (n : ℕ) (few : n ≤ 32) (b : List ℕ) (at : ℕ) (c : List ℕ) (r : ℕ) where
   -- The heading, the lines of the queries, and an empty line.
   pub put-section : (rows : ℕ → Option QuerySchedule → List (List ℕ)) (f : ℕ → List ℕ) (heading : String)
-      → ((q : ℕ) (o : Option QuerySchedule) → StoredAt w q o → concatMap rowLine (rows q o) ≡ f q)
+      → ((q : ℕ) (o : Option QuerySchedule) → StoredAt v w q o → concatMap rowLine (rows q o) ≡ f q)
       → (d : List ℕ) (s : ℕ) → Puts b at (bytes heading ++ (newline ∷ [])) d s
-      → (e : List ℕ) (t k : ℕ) → k ≡ n + 1 → Puts d s (texts f 1 k) e t → Puts e t (newline ∷ []) c r → PutsSection rows heading w n b at c r
+      → (e : List ℕ) (t k : ℕ) → k ≡ n + 1 → Puts d s (texts f 1 k) e t → Puts e t (newline ∷ []) c r → PutsSection rows heading v w n b at c r
   put-section rows f heading same d s first e t k is lines last schedules stored =
       puts-as b at c r _ (section heading (allRows rows n schedules))
       (ap (λ (m : ℕ). (bytes heading ++ (newline ∷ [])) ++ (texts f 1 m ++ (newline ∷ []))) is
@@ -48,12 +49,12 @@ module _ (w : List ℕ) (n : ℕ) (few : n ≤ 32) (b : List ℕ) (at : ℕ) (c 
 
 -- ---- the answer
 
-abbrev pub PutsAnswer : List ℕ → ℕ → List ℕ → ℕ → List ℕ → ℕ → Type 0
-PutsAnswer w n b at c r = (schedules : List QuerySchedule) → Stored w schedules → Puts b at (answerText n schedules) c r
+abbrev pub PutsAnswer : Width → List ℕ → ℕ → List ℕ → ℕ → List ℕ → ℕ → Type 0
+PutsAnswer v w n b at c r = (schedules : List QuerySchedule) → Stored v w schedules → Puts b at (answerText n schedules) c r
 
-pub put-all : (w : List ℕ) (n : ℕ) (b : List ℕ) (at : ℕ) (c : List ℕ) (r : ℕ) (d : List ℕ) (s : ℕ) (e : List ℕ) (t : ℕ)
-    → PutsSection queryRows "query placed input" w n b at c r → PutsSection placeRows "query place index reached" w n c r d s
-    → PutsSection setRows "query set name line col" w n d s e t → PutsAnswer w n b at e t
+pub put-all : (v : Width) (w : List ℕ) (n : ℕ) (b : List ℕ) (at : ℕ) (c : List ℕ) (r : ℕ) (d : List ℕ) (s : ℕ) (e : List ℕ) (t : ℕ)
+    → PutsSection queryRows "query placed input" v w n b at c r → PutsSection placeRows "query place index reached" v w n c r d s
+    → PutsSection setRows "query set name line col" v w n d s e t → PutsAnswer v w n b at e t
 unfolding answerText
-put-all w n b at c r d s e t queries places sets schedules stored =
+put-all v w n b at c r d s e t queries places sets schedules stored =
     puts-then b at _ c r _ e t (queries schedules stored) (puts-then c r _ d s _ e t (places schedules stored) (sets schedules stored))

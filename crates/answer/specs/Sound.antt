@@ -14,18 +14,20 @@ use Rattle.trees.specs.Sheet.{nameBound}
 use Rattle.scopes.specs.Scopes.{spanIn}
 use Rattle.analysis.specs.States.{QuerySchedule, scheduleOf}
 use Rattle.turns.specs.Turns.{mark}
-use Rattle.answer.specs.Stored.{wordAt, setAt, placeAt, Analysed, StoredAt, Stored}
+use Rattle.widths.specs.declared.Width.{Width}
+use Rattle.blocks.specs.Layout.{wordAt, setAt, spanAt, placeAt}
+use Rattle.answer.specs.Stored.{Analysed, StoredAt, Stored}
 
 -- The words of a query that is analysed.
-pub record Bounds (w : List ℕ) (q : ℕ) : Type 0 where
-  pub state : wordAt w q 0 ≤ 2
-  pub input : wordAt w q 1 ≤ 1
-  pub room : wordAt w q 9 + wordAt w q 2 ≤ 128
-  pub span : (x : ℕ) → member (setAt w q 3) x ≡ true → wordAt w q (16 + x) < 4294967296
-  pub place : (k : ℕ) → k < wordAt w q 2 → placeAt w q k < 131072
+pub record Bounds (v : Width) (w : List ℕ) (q : ℕ) : Type 0 where
+  pub state : wordAt v w q 0 ≤ 2
+  pub input : wordAt v w q 1 ≤ 1
+  pub room : wordAt v w q 3 + wordAt v w q 2 ≤ 128
+  pub span : (x : ℕ) → member (setAt v w q 0) x ≡ true → spanAt v w q x < 4294967296
+  pub place : (k : ℕ) → k < wordAt v w q 2 → placeAt v w q k < 131072
 
-abbrev pub Sound : List ℕ → Type 0
-Sound w = (q : ℕ) → 1 ≤ q → q ≤ 32 → 1 ≤ wordAt w q 0 → Bounds w q
+abbrev pub Sound : Width → List ℕ → Type 0
+Sound v w = (q : ℕ) → 1 ≤ q → q ≤ 32 → 1 ≤ wordAt v w q 0 → Bounds v w q
 
 pub mark-low : (b : Bool) → mark b ≤ 1
 mark-low true = omega arith
@@ -35,8 +37,8 @@ held : {A : Type 0} (o : Option A) → isSome o ≡ true → (C : Type 0) → ((
 held none h C f = absurd (not-both h refl)
 held (some a) h C f = f a refl
 
-module _ (w : List ℕ) (q : ℕ) where
-  analysed-bounds : (a : QuerySchedule) → Analysed w q a → Bounds w q
+module _ (v : Width) (w : List ℕ) (q : ℕ) where
+  analysed-bounds : (a : QuerySchedule) → Analysed v w q a → Bounds v w q
   analysed-bounds a s = record {
     state = omega (arith, s .placed, mark-low (turns.placed (a .definitions) (a .count) nameBound));
     input = omega (arith, s .input, mark-low (a .scope .usesInput));
@@ -49,9 +51,9 @@ module _ (w : List ℕ) (q : ℕ) where
         omega (arith, n .index, n .both, mark-low (turns.reached (a .definitions) (a .count) nameBound i));
   }
 
-  stored-bounds : (o : Option QuerySchedule) → StoredAt w q o → 1 ≤ wordAt w q 0 → Bounds w q
+  stored-bounds : (o : Option QuerySchedule) → StoredAt v w q o → 1 ≤ wordAt v w q 0 → Bounds v w q
   stored-bounds none s h = absurd (omega (arith, s))
   stored-bounds (some a) s h = analysed-bounds a s
 
-pub stored-sound : (w : List ℕ) (schedules : List QuerySchedule) → Stored w schedules → Sound w
-stored-sound w schedules s q l u h = stored-bounds w q (scheduleOf schedules q) (s q l u) h
+pub stored-sound : (v : Width) (w : List ℕ) (schedules : List QuerySchedule) → Stored v w schedules → Sound v w
+stored-sound v w schedules s q l u h = stored-bounds v w q (scheduleOf schedules q) (s q l u) h

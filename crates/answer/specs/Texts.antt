@@ -7,59 +7,60 @@ use lib.Dec.{eqb}
 use borrow.Author.Tests.{eq-eqb, ne-eqb}
 use Rattle.names.specs.Sets.{member}
 use Rattle.writer.specs.Decimal.{rowLine}
-use Rattle.answer.specs.Stored.{wordAt, setAt, placeAt}
+use Rattle.widths.specs.declared.Width.{Width}
+use Rattle.blocks.specs.Layout.{wordAt, setAt, spanAt, placeAt}
 use Rattle.answer.specs.Ranges.{texts}
 
-module _ (w : List ℕ) (q : ℕ) where
+module _ (v : Width) (w : List ℕ) (q : ℕ) where
   -- One text where the query is never analysed, and another where it is.
   abbrev analysed : List ℕ → List ℕ → List ℕ
-  analysed never once = cond (eqb (wordAt w q 0) 0) never once
+  analysed never once = cond (eqb (wordAt v w q 0) 0) never once
 
   unfoldable pub queryText : List ℕ
-  queryText = analysed (rowLine (q ∷ 2 ∷ 0 ∷ [])) (rowLine (q ∷ (wordAt w q 0 - 1) ∷ wordAt w q 1 ∷ []))
+  queryText = analysed (rowLine (q ∷ 2 ∷ 0 ∷ [])) (rowLine (q ∷ (wordAt v w q 0 - 1) ∷ wordAt v w q 1 ∷ []))
 
   unfoldable pub placeLine : ℕ → List ℕ
-  placeLine k = rowLine (q ∷ k ∷ (placeAt w q k / 2) ∷ (placeAt w q k % 2) ∷ [])
+  placeLine k = rowLine (q ∷ k ∷ (placeAt v w q k / 2) ∷ (placeAt v w q k % 2) ∷ [])
 
   unfoldable pub placesText : List ℕ
-  placesText = analysed [] (texts placeLine 0 (wordAt w q 2))
+  placesText = analysed [] (texts placeLine 0 (wordAt v w q 2))
 
   -- Nothing at a name that is no local.
   unfoldable pub localLine : ℕ → List ℕ
   localLine x =
-      cond (member (setAt w q 3) x) (rowLine (q ∷ 1 ∷ x ∷ (wordAt w q (16 + x) / 65536) ∷ (wordAt w q (16 + x) % 65536) ∷ [])) []
+      cond (member (setAt v w q 0) x) (rowLine (q ∷ 1 ∷ x ∷ (spanAt v w q x / 65536) ∷ (spanAt v w q x % 65536) ∷ [])) []
 
   -- Nothing at a name that is not in the set.
   unfoldable pub nameLine : ℕ → ℕ → List ℕ
-  nameLine set x = cond (member (setAt w q (2 * set + 1)) x) (rowLine (q ∷ set ∷ x ∷ 0 ∷ 0 ∷ [])) []
+  nameLine set x = cond (member (setAt v w q (set - 1)) x) (rowLine (q ∷ set ∷ x ∷ 0 ∷ 0 ∷ [])) []
 
   unfoldable pub setsText : List ℕ
-  setsText = analysed [] (texts localLine 0 128 ++ (texts (nameLine 2) 0 128 ++ texts (nameLine 3) 0 128))
+  setsText = analysed [] (texts localLine 0 512 ++ (texts (nameLine 2) 0 512 ++ texts (nameLine 3) 0 512))
 
   -- ---- by the first word
 
-  module _ (never : wordAt w q 0 ≡ 0) where
+  module _ (never : wordAt v w q 0 ≡ 0) where
     pub query-never : queryText ≡ rowLine (q ∷ 2 ∷ 0 ∷ [])
     unfolding queryText
-    query-never = rw (eq-eqb (wordAt w q 0) 0 never)
+    query-never = rw (eq-eqb (wordAt v w q 0) 0 never)
 
     pub places-never : placesText ≡ []
     unfolding placesText
-    places-never = rw (eq-eqb (wordAt w q 0) 0 never)
+    places-never = rw (eq-eqb (wordAt v w q 0) 0 never)
 
     pub sets-never : setsText ≡ []
     unfolding setsText
-    sets-never = rw (eq-eqb (wordAt w q 0) 0 never)
+    sets-never = rw (eq-eqb (wordAt v w q 0) 0 never)
 
-  module _ (once : wordAt w q 0 ≡ 0 → ⊥) where
-    pub query-once : queryText ≡ rowLine (q ∷ (wordAt w q 0 - 1) ∷ wordAt w q 1 ∷ [])
+  module _ (once : wordAt v w q 0 ≡ 0 → ⊥) where
+    pub query-once : queryText ≡ rowLine (q ∷ (wordAt v w q 0 - 1) ∷ wordAt v w q 1 ∷ [])
     unfolding queryText
-    query-once = rw (ne-eqb (wordAt w q 0) 0 once)
+    query-once = rw (ne-eqb (wordAt v w q 0) 0 once)
 
-    pub places-once : placesText ≡ texts placeLine 0 (wordAt w q 2)
+    pub places-once : placesText ≡ texts placeLine 0 (wordAt v w q 2)
     unfolding placesText
-    places-once = rw (ne-eqb (wordAt w q 0) 0 once)
+    places-once = rw (ne-eqb (wordAt v w q 0) 0 once)
 
-    pub sets-once : setsText ≡ texts localLine 0 128 ++ (texts (nameLine 2) 0 128 ++ texts (nameLine 3) 0 128)
+    pub sets-once : setsText ≡ texts localLine 0 512 ++ (texts (nameLine 2) 0 512 ++ texts (nameLine 3) 0 512)
     unfolding setsText
-    sets-once = rw (ne-eqb (wordAt w q 0) 0 once)
+    sets-once = rw (ne-eqb (wordAt v w q 0) 0 once)

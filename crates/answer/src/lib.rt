@@ -1,6 +1,5 @@
 // The text of an answer, from the words that the analysis stores (specs/Stored.antt).
 
-pub mod layout;
 pub mod places;
 pub mod queries;
 pub mod rows;
@@ -9,17 +8,25 @@ pub mod sets;
 use crate::places::put_places;
 use crate::queries::put_queries;
 use crate::sets::put_sets;
+use widths::Width;
 ghost use Prim.Native.Nat.{_≤_};
 ghost use lib.ListN.{length};
+ghost use Rattle.blocks.specs.Layout as layout;
 ghost use Rattle.answer.specs.Sound.{Sound};
 ghost use Rattle.answer.specs.Sections.{PutsAnswer};
 
 // The three sections, about this many queries. Answers the place behind them.
-pub fn put_answer(answers: &[u64], queries: usize, answer: &mut [u8], at: usize) -> usize
-    requires { ⌜ (4736 ≤ length (now answers)) × (queries ≤ 32) × Sound (now answers) ⌝ }
-    ensures { λ r. ⌜ PutsAnswer (now (answers .entry)) queries (now (answer .entry)) at (now (answer .exit)) r ⌝ }
+pub fn put_answer(
+    answers: &[u64],
+    queries: usize,
+    answer: &mut [u8],
+    at: usize,
+    width: Width,
+) -> usize
+    requires { ⌜ (layout.answers width ≤ length (now answers)) × (queries ≤ 32) × Sound width (now answers) ⌝ }
+    ensures { λ r. ⌜ PutsAnswer width (now (answers .entry)) queries (now (answer .entry)) at (now (answer .exit)) r ⌝ }
 {
-    let places = put_queries(answers, queries, answer, at);
-    let sets = put_places(answers, queries, answer, places);
-    put_sets(answers, queries, answer, sets)
+    let places = put_queries(answers, queries, answer, at, width);
+    let sets = put_places(answers, queries, answer, places, width);
+    put_sets(answers, queries, answer, sets, width)
 }

@@ -1,15 +1,17 @@
 // The section `query place index reached`.
 
-use crate::layout::BASE;
-use crate::layout::BLOCK;
-use crate::layout::COUNT;
-use crate::layout::PLACES;
-use crate::layout::STATE;
 use crate::rows::put_four;
+use blocks::BASE;
+use blocks::COUNT;
+use blocks::STATE;
+use blocks::statement_at;
+use blocks::word_at;
+use widths::Width;
 use writer::put;
 use writer::put_bytes;
 ghost use Prim.Native.Nat.{_≤_};
 ghost use lib.ListN.{length};
+ghost use Rattle.blocks.specs.Layout as layout;
 ghost use Rattle.writer.specs.Writes.{Puts};
 ghost use Rattle.answers.specs.Rows.{placeRows};
 ghost use Rattle.answer.specs.Sound.{Sound};
@@ -17,34 +19,39 @@ ghost use Rattle.answer.specs.Texts.{placesText};
 ghost use Rattle.answer.specs.Sections.{PutsSection};
 
 // The lines of a query: none where it is never analysed.
-fn put_query_places(answers: &[u64], q: usize, answer: &mut [u8], at: usize) -> usize
-    requires { ⌜ (4736 ≤ length (now answers)) × (1 ≤ q) × (q ≤ 32) × Sound (now answers) ⌝ }
-    ensures { λ r. ⌜ Puts (now (answer .entry)) at (placesText (now (answers .entry)) q) (now (answer .exit)) r ⌝ }
+fn put_query_places(answers: &[u64], q: usize, answer: &mut [u8], at: usize, width: Width) -> usize
+    requires { ⌜ (layout.answers width ≤ length (now answers)) × (1 ≤ q) × (q ≤ 32) × Sound width (now answers) ⌝ }
+    ensures { λ r. ⌜ Puts (now (answer .entry)) at (placesText width (now (answers .entry)) q) (now (answer .exit)) r ⌝ }
 {
-    let block = BLOCK * (q - 1);
-    if answers[block + STATE] == 0 {
+    if word_at(width, answers, q, STATE) == 0 {
         return at;
     }
-    let count = answers[block + COUNT] as usize;
-    let first = PLACES + answers[block + BASE] as usize;
+    let count = word_at(width, answers, q, COUNT) as usize;
+    let base = word_at(width, answers, q, BASE) as usize;
     let mut place = at;
     let mut k = 0;
     while k < count {
-        let held = answers[first + k] as usize;
+        let held = statement_at(width, answers, base, k) as usize;
         place = put_four(answer, place, q, k, held / 2, held % 2);
         k += 1;
     }
     place
 }
 
-pub fn put_places(answers: &[u64], queries: usize, answer: &mut [u8], at: usize) -> usize
-    requires { ⌜ (4736 ≤ length (now answers)) × (queries ≤ 32) × Sound (now answers) ⌝ }
-    ensures { λ r. ⌜ PutsSection placeRows "query place index reached" (now (answers .entry)) queries (now (answer .entry)) at (now (answer .exit)) r ⌝ }
+pub fn put_places(
+    answers: &[u64],
+    queries: usize,
+    answer: &mut [u8],
+    at: usize,
+    width: Width,
+) -> usize
+    requires { ⌜ (layout.answers width ≤ length (now answers)) × (queries ≤ 32) × Sound width (now answers) ⌝ }
+    ensures { λ r. ⌜ PutsSection placeRows "query place index reached" width (now (answers .entry)) queries (now (answer .entry)) at (now (answer .exit)) r ⌝ }
 {
     let mut place = put_bytes(answer, at, b"query place index reached\n");
     let mut q = 1;
     while q <= queries {
-        place = put_query_places(answers, q, answer, place);
+        place = put_query_places(answers, q, answer, place, width);
         q += 1;
     }
     put(answer, place, b'\n')

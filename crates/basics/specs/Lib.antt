@@ -4,3 +4,4 @@ pub mod Ranges
 pub mod Members
 pub mod Subsets
 pub mod Refusals
+pub mod Limits

@@ -71,11 +71,20 @@ module _ (n r : ℕ) (w : Row) (d : Descends n r w) where
 -- ---- names
 
 module _ (c : Counts) (t : List ℕ) (within : Within c) (facts : SheetFacts c (inTables t)) where
-  low-by : (section v : ℕ) → v ≤ limitOf c section → (section ≡ nameSection) ⊎ (section ≡ 0) → v < 128
+  low-by : (section v : ℕ) → v ≤ limitOf c section → (section ≡ nameSection) ⊎ (section ≡ 0) → v < 512
   low-by section v h (inl e) = let l : v ≤ limitOf c nameSection = subst (λ (k : ℕ). v ≤ limitOf c k) e h in omega (arith, within .few-names)
   low-by section v h (inr e) = let l : v ≤ limitOf c 0 = subst (λ (k : ℕ). v ≤ limitOf c k) e h in omega arith
 
-  pub name-low : (r : ℕ) → 1 ≤ r → r ≤ c .exprs → rowAt t r .name < 128
+  counted-by : (section v : ℕ) → v ≤ limitOf c section → (section ≡ nameSection) ⊎ (section ≡ 0) → v ≤ c .names
+  counted-by section v h (inl e) = let l : v ≤ limitOf c nameSection = subst (λ (k : ℕ). v ≤ limitOf c k) e h in omega (arith, l)
+  counted-by section v h (inr e) = let l : v ≤ limitOf c 0 = subst (λ (k : ℕ). v ≤ limitOf c k) e h in omega (arith, l)
+
+  -- A row's name is one of the sheet's.
+  pub name-counted : (r : ℕ) → 1 ≤ r → r ≤ c .exprs → rowAt t r .name ≤ c .names
+  unfolding rowAt
+  name-counted r a b = counted-by _ (exprAt t r .name) (facts .expr r a b .name .fine .in-range) (name-in-kind (exprAt t r .kind))
+
+  pub name-low : (r : ℕ) → 1 ≤ r → r ≤ c .exprs → rowAt t r .name < 512
   unfolding rowAt
   name-low r a b = low-by _ (exprAt t r .name) (facts .expr r a b .name .fine .in-range) (name-in-kind (exprAt t r .kind))
 

@@ -8,6 +8,10 @@ use lib.ListN.{length, getD, take, drop, replicate, length-drop}
 use lib.Seq.{take-length}
 use Rattle.basics.specs.Refusals as refusals
 use Rattle.basics.specs.Truth.{not-both}
+use Rattle.widths.specs.declared.Width.{Width}
+use Rattle.widths.specs.declared.Width.the-variants.{Two, Eight}
+use Rattle.widths.specs.Widths.{work}
+use Rattle.blocks.specs.Layout.{answers}
 use Rattle.writer.specs.Writes.{Wrote, Puts, starts, fits-whole, fits-not}
 use Rattle.records.specs.Layout.{firstAt}
 use Rattle.branches.specs.RowTrees.{rows-length}
@@ -32,20 +36,26 @@ use Rattle.call.specs.Replies.{faultReply, Replies, fault-replies, fits-
 
 -- ---- the lent words
 
--- The words from the first answer on.
-abbrev pub lentAnswers : List ℕ → List ℕ
-lentAnswers w = take (length w - (length w - 4736)) (drop (length w - 4736) w)
+-- Work has room for all answers.
+pub answers-in : (v : Width) → answers v ≤ work v
+answers-in Two = omega arith
+answers-in Eight = omega arith
 
-pub lent-answers : (w : List ℕ) → lentAnswers w ≡ answersOf w
-lent-answers w =
-    ap (λ (n : ℕ). take n (drop (length w - 4736) w)) (sym (length-drop (length w - 4736) w)) ∙ take-length (drop (length w - 4736) w)
+-- The last k words.
+abbrev pub lentAnswers : ℕ → List ℕ → List ℕ
+lentAnswers k w = take (length w - (length w - k)) (drop (length w - k) w)
+
+pub lent-answers : (v : Width) (k : ℕ) → k ≡ answers v → (w : List ℕ) → lentAnswers k w ≡ answersOf v w
+lent-answers v k is w =
+    ap (λ (n : ℕ). take n (drop (length w - k) w)) (sym (length-drop (length w - k) w)) ∙ take-length (drop (length w - k) w)
+    ∙ ap (λ (n : ℕ). drop (length w - n) w) is
 
 -- ---- question 8
 
-module _ (w : List ℕ) (n : ℕ) (b : List ℕ) (zeros : b ≡ replicate (length b) 0) (c : List ℕ) (r : ℕ) (put : PutsAnswer (lentAnswers w) n b 0 c r)
-    (schedules : List QuerySchedule) (stored : Stored (answersOf w) schedules) where
+module _ (v : Width) (k : ℕ) (is : k ≡ answers v) (w : List ℕ) (n : ℕ) (b : List ℕ) (zeros : b ≡ replicate (length b) 0) (c : List ℕ) (r : ℕ)
+    (put : PutsAnswer v (lentAnswers k w) n b 0 c r) (schedules : List QuerySchedule) (stored : Stored v (answersOf v w) schedules) where
   puts : Puts b 0 (answerText n schedules) c r
-  puts = put schedules (subst (λ (l : List ℕ). Stored l schedules) (sym (lent-answers w)) stored)
+  puts = put schedules (subst (λ (l : List ℕ). Stored v l schedules) (sym (lent-answers v k is w)) stored)
 
   wrote : Wrote c (answerText n schedules) r
   wrote = puts .1 [] (subst (λ (l : List ℕ). Wrote l [] 0) (sym zeros) (starts (length b)))
@@ -54,17 +64,17 @@ module _ (w : List ℕ) (n : ℕ) (b : List ℕ) (zeros : b ≡ replicate (lengt
   fits h =
       let whole = fits-whole c (answerText n schedules) r wrote h in
       let text = answerText n schedules in
-      let is : c ≡ text ++ replicate (length b - length text) 0 = whole .1 ∙ ap (λ (k : ℕ). text ++ replicate (k - length text) 0) (puts .0) in
-      subst (Replies (length b) (fitting (length b) text) (record { number = 0; line = 0; col = 0 })) (sym is)
+      let left : c ≡ text ++ replicate (length b - length text) 0 = whole .1 ∙ ap (λ (m : ℕ). text ++ replicate (m - length text) 0) (puts .0) in
+      subst (Replies (length b) (fitting (length b) text) (record { number = 0; line = 0; col = 0 })) (sym left)
       (fits-replies (length b) text (omega (arith, whole .0, puts .0)))
 
   pub fits-none : length c < r → (e : List ℕ) → e ≡ replicate (length c) 0
       → Replies (length b) (fitting (length b) (answerText n schedules)) (record { number = refusals.textTooLong; line = 0; col = 0 }) e
-  fits-none h e is =
+  fits-none h e cleared =
       let text = answerText n schedules in
       let over = fits-not c text r wrote h in
       subst (Replies (length b) (fitting (length b) text) (record { number = refusals.textTooLong; line = 0; col = 0 }))
-      (sym (is ∙ ap (λ (k : ℕ). replicate k 0) (puts .0))) (not-replies (length b) text (omega (arith, puts .0)))
+      (sym (cleared ∙ ap (λ (m : ℕ). replicate m 0) (puts .0))) (not-replies (length b) text (omega (arith, puts .0)))
 
 -- ---- question 7
 
@@ -75,7 +85,7 @@ meaning-sound (code.UsedBefore l c) h = absurd (not-both h refl)
 meaning-sound (code.Lengths l c) h = absurd (not-both h refl)
 meaning-sound code.IndexVariable h = absurd (not-both h refl)
 
-module _ (t w : List ℕ) (f : Fault) (a : Analysed t w f) where
+module _ (v : Width) (t w : List ℕ) (f : Fault) (a : Analysed v t w f) where
   abbrev run : Run
   run = analyzeQuerySnippetOnce (sheetAt t)
 
@@ -92,8 +102,8 @@ module _ (t w : List ℕ) (f : Fault) (a : Analysed t w f) where
     ends : run .fault ≡ sound
     ends = sym (a .fault) ∙ meaning-sound f h
 
-    pub answers-sound : Sound (answersOf w)
-    answers-sound = stored-sound (answersOf w) (run .schedules) (a .stored ends)
+    pub answers-sound : Sound v (answersOf v w)
+    answers-sound = stored-sound v (answersOf v w) (run .schedules) (a .stored ends)
 
     queries-count : length (sheetAt t .queries) ≡ getD t 4 0
     unfolding sheetAt sheetOf
@@ -101,7 +111,7 @@ module _ (t w : List ℕ) (f : Fault) (a : Analysed t w f) where
 
     -- The writer says what it does for any schedules that are stored.
     pub answering : (room : ℕ) (r : Reply) (b : List ℕ)
-        → ((schedules : List QuerySchedule) → Stored (answersOf w) schedules → Replies room (fitting room (answerText (getD t 4 0) schedules)) r b)
+        → ((schedules : List QuerySchedule) → Stored v (answersOf v w) schedules → Replies room (fitting room (answerText (getD t 4 0) schedules)) r b)
         → Replies room (analysedOnce (sheetAt t) room) r b
     unfolding analysedOnce
     answering room r b k =

@@ -6,10 +6,12 @@ use mathlib.Core.Logic.{_⊎_, inl, inr}
 use Prim.Native.Nat.{ℕ, _≤_}
 use native.Mathlib.Omega.{arith}
 use lib.Dec.{leb}
-use lib.ListN.{length, drop, length-replicate}
+use lib.ListN.{length, getD, drop, length-replicate}
 use lib.Seq.{sets-eq, length-sets}
 use borrow.Author.Tests.{leb-true}
 use Rattle.basics.specs.Truth.{bool-cases, and-left, and-right}
+use Rattle.widths.specs.declared.Width.{Width}
+use Rattle.widths.specs.Widths.{limits, names, work}
 use Rattle.tables.specs.Tables.{tables}
 use Rattle.tables.specs.TableLaws.{length-putSections}
 use Rattle.records.specs.declared.Counts.{Counts}
@@ -44,23 +46,27 @@ module _ (s : List ℕ) where
   unfolding sheetAt
   at-head = rw headed
 
-  module _ (room work : ℕ) (h : verdict s room work ≡ Read) where
+  module _ (w : Width) (room long : ℕ) (h : verdict (limits w) s room long ≡ Read) where
     -- Question 1.
-    pub enough : (8192 ≤ room) × (8192 ≤ work)
+    pub enough : (8192 ≤ room) × (work w ≤ long)
     unfolding verdict
-    enough = go (bool-cases (leb 8192 room && leb 8192 work))
+    enough = go (bool-cases (leb 8192 room && leb (work w) long))
       where
-        go : ((leb 8192 room && leb 8192 work) ≡ true) ⊎ ((leb 8192 room && leb 8192 work) ≡ false) → (8192 ≤ room) × (8192 ≤ work)
-        go (inl e) = (leb-true 8192 room (and-left _ _ e), leb-true 8192 work (and-right (leb 8192 room) _ e))
+        go : ((leb 8192 room && leb (work w) long) ≡ true) ⊎ ((leb 8192 room && leb (work w) long) ≡ false) → (8192 ≤ room) × (work w ≤ long)
+        go (inl e) = (leb-true 8192 room (and-left _ _ e), leb-true (work w) long (and-right (leb 8192 room) _ e))
         go (inr e) = let f : NoRoom ≡ Read = rw e at h in let z : _≡_ {A = ℕ} 0 1 = cc in absurd (omega arith)
+
+    -- Question 5.
+    pub few-names : getD (readTables s) 0 0 ≤ names w
+    few-names = subst (λ (c : Counts). c .names ≤ names w) (sym counts-same) (verdict-read w s room long h .few-names)
 
     -- The sheet in the tables is the one that the bytes give.
     pub sheet-same : sheetAt (readTables s) ≡ sheetIn s
-    sheet-same = at-head ∙ verdict-read s room work h .sheet-is
+    sheet-same = at-head ∙ verdict-read w s room long h .sheet-is
 
     pub accepted : Accepted (readTables s)
     accepted =
-        let p = verdict-read s room work h in
+        let p = verdict-read w s room long h in
         let few : Within (countsAt (readTables s)) = subst Within (sym counts-same) (p .few) in
         let fine : firstLine (countsAt (readTables s)) (inTables (readTables s)) ≡ 0 = ap (λ (c : Counts). firstLine c (inTables (readTables s))) counts-same ∙ p .fine in
         record { room = omega (arith, tables-long); within = few; facts = sheet-facts _ _ few fine; fine = fine }

@@ -3,8 +3,11 @@ use mathlib.Core.Path.{_≡_, refl, sym, ap, subst, _∙_}
 use mathlib.Core.List.{List, _++_}
 use Prim.Native.Nat.{ℕ, _-_, _≤_}
 use native.Mathlib.Omega.{arith}
-use lib.ListN.{length, take, replicate, length-append, length-replicate}
+use lib.ListN.{length, getD, take, replicate, length-append, length-replicate}
 use lib.Seq.{take-at}
+use Rattle.basics.specs.Limits.{Limits}
+use Rattle.widths.specs.declared.Width.{Width}
+use Rattle.widths.specs.Widths.{limits, names, work}
 use Rattle.sheet.specs.declared.Outcome.{Outcome}
 use Rattle.sheet.specs.declared.Outcome.the-variants.{Read, NoRoom, TooLong, BadForm, BadName, BadCount, BadField}
 use Rattle.sheet.specs.Verdict as questions
@@ -18,7 +21,7 @@ use Rattle.answers.specs.Call.{analysed, afterReading, result, leftBy, left}
 use Rattle.gather.specs.Sheets.{sheetAt, Accepted}
 use Rattle.call.specs.declared.replies.Reply.{Reply}
 use Rattle.call.specs.Replies.{outcomeReply, asLeft, Replies, outcome-replies}
-use Rattle.call.specs.ReadSheet.{tables-long, sheet-same, enough, accepted}
+use Rattle.call.specs.ReadSheet.{tables-long, sheet-same, enough, few-names, accepted}
 
 -- ---- zeros
 
@@ -39,23 +42,23 @@ read-number (BadName l) h = absurd (omega arith)
 read-number (BadCount l) h = absurd (omega arith)
 read-number (BadField l) h = absurd (omega arith)
 
-module _ (s : List ℕ) (room long : ℕ) (o : Outcome) (t : List ℕ) (k : SheetTaken s room long o t) where
+module _ (w : Width) (s : List ℕ) (room long : ℕ) (o : Outcome) (t : List ℕ) (k : SheetTaken (limits w) s room long o t) where
   pub line-low : questions.faultLine o ≤ 65535
-  line-low = subst (λ (x : Outcome). questions.faultLine x ≤ 65535) (sym (k .came-to)) (line-fits s room long)
+  line-low = subst (λ (x : Outcome). questions.faultLine x ≤ 65535) (sym (k .came-to)) (line-fits w s room long)
 
   -- One of the questions 1 to 6 refuses the sheet.
   pub refuses : (most : ℕ) → (questions.number o ≡ 0 → ⊥) → (r : Reply) → r ≡ outcomeReply o → (a : List ℕ) → a ≡ replicate most 0
-      → Replies most (result s room long most) r a
+      → Replies most (result (limits w) s room long most) r a
   unfolding result
-  refuses most h r e a z tables work =
-      ap (λ (x : Reply). asLeft x (replicate tables 0) (replicate work 0) a) e
-      ∙ ap (asLeft (outcomeReply o) (replicate tables 0) (replicate work 0)) z
-      ∙ outcome-replies s most o h tables work
-      ∙ ap (λ (x : Outcome). leftBy tables work most (afterReading s most x)) (k .came-to)
+  refuses most h r e a z entries words =
+      ap (λ (x : Reply). asLeft x (replicate entries 0) (replicate words 0) a) e
+      ∙ ap (asLeft (outcomeReply o) (replicate entries 0) (replicate words 0)) z
+      ∙ outcome-replies s most o h entries words
+      ∙ ap (λ (x : Outcome). leftBy entries words most (afterReading s most x)) (k .came-to)
 
   -- The sheet is read.
   module _ (h : questions.number o ≡ 0) where
-    is-read : verdict s room long ≡ Read
+    is-read : verdict (limits w) s room long ≡ Read
     is-read = sym (k .came-to) ∙ read-number o h
 
     tables-are : t ≡ readTables s ++ replicate (room - 8192) 0
@@ -64,17 +67,20 @@ module _ (s : List ℕ) (room long : ℕ) (o : Outcome) (t : List ℕ) (k : Shee
     pub tables-enough : 8192 ≤ length t
     tables-enough = omega (arith, ap length tables-are, length-append (readTables s) (replicate (room - 8192) 0), tables-long s)
 
-    pub work-enough : 8192 ≤ long
-    work-enough = enough s room long is-read .1
+    pub work-enough : work w ≤ long
+    work-enough = enough s w room long is-read .1
 
     lent-tables : take 8192 t ≡ readTables s
     lent-tables = ap (take 8192) tables-are ∙ take-at (readTables s) (replicate (room - 8192) 0) 8192 (tables-long s)
 
     pub lent-accepted : Accepted (take 8192 t)
-    lent-accepted = subst Accepted (sym lent-tables) (accepted s room long is-read)
+    lent-accepted = subst Accepted (sym lent-tables) (accepted s w room long is-read)
+
+    pub lent-names : getD (take 8192 t) 0 0 ≤ names w
+    lent-names = subst (λ (l : List ℕ). getD l 0 0 ≤ names w) (sym lent-tables) (few-names s w room long is-read)
 
     lent-sheet : sheetAt (take 8192 t) ≡ sheetIn s
-    lent-sheet = ap sheetAt lent-tables ∙ sheet-same s room long is-read
+    lent-sheet = ap sheetAt lent-tables ∙ sheet-same s w room long is-read
 
     once : (most : ℕ) → analysedOnce (sheetAt (take 8192 t)) most ≡ analysed (sheetAt (take 8192 t)) most
     unfolding sheetAt
@@ -82,19 +88,19 @@ module _ (s : List ℕ) (room long : ℕ) (o : Outcome) (t : List ℕ) (k : Shee
 
     -- The other questions are put.
     pub answers : (most : ℕ) (r : Reply) (a : List ℕ) → Replies most (analysedOnce (sheetAt (take 8192 t)) most) r a
-        → Replies most (result s room long most) r a
+        → Replies most (result (limits w) s room long most) r a
     unfolding result
-    answers most r a replied tables work =
-        replied tables work
-        ∙ ap (leftBy tables work most) (once most)
-        ∙ ap (λ (g : Sheet). leftBy tables work most (analysed g most)) lent-sheet
-        ∙ ap (λ (g : Outcome). leftBy tables work most (afterReading s most g)) (sym is-read)
+    answers most r a replied entries words =
+        replied entries words
+        ∙ ap (leftBy entries words most) (once most)
+        ∙ ap (λ (g : Sheet). leftBy entries words most (analysed g most)) lent-sheet
+        ∙ ap (λ (g : Outcome). leftBy entries words most (afterReading s most g)) (sym is-read)
 
 -- The lent bytes are as many as they were; then tables and work are cleared.
-pub leaves : (s : List ℕ) (room long most : ℕ) (n : ℕ) → n ≡ most → (r : Reply) (a : List ℕ) → Replies n (result s room long n) r a
-    → (t w : List ℕ) → t ≡ replicate room 0 → w ≡ replicate long 0 → asLeft r t w a ≡ left s room long most
+pub leaves : (lim : Limits) (s : List ℕ) (room long most : ℕ) (n : ℕ) → n ≡ most → (r : Reply) (a : List ℕ) → Replies n (result lim s room long n) r a
+    → (t w : List ℕ) → t ≡ replicate room 0 → w ≡ replicate long 0 → asLeft r t w a ≡ left lim s room long most
 unfolding left
-leaves s room long most n is r a replied t w x y =
+leaves lim s room long most n is r a replied t w x y =
     ap (λ (l : List ℕ). asLeft r l w a) x
     ∙ ap (λ (l : List ℕ). asLeft r (replicate room 0) l a) y
-    ∙ subst (λ (m : ℕ). Replies m (result s room long m) r a) is replied room long
+    ∙ subst (λ (m : ℕ). Replies m (result lim s room long m) r a) is replied room long

@@ -3,12 +3,14 @@
 use crate::replies::Reply;
 use crate::replies::of_fault;
 use analyzer::snippet::analyze_sheet;
-use answer::layout::PLACES;
-use tables::STATEMENTS;
+use blocks::answers_of;
+use widths::Width;
 ghost use mathlib.Core.Path.{_≡_};
 ghost use mathlib.Core.List.{List};
 ghost use Prim.Native.Nat.{_≤_};
-ghost use lib.ListN.{length, replicate};
+ghost use lib.ListN.{length, getD, replicate};
+ghost use Rattle.widths.specs.Widths.{limits};
+ghost use Rattle.blocks.specs.Layout.{answers};
 ghost use Rattle.analysis.specs.States.{QuerySchedule};
 ghost use Rattle.answers.specs.Text.{answerText};
 ghost use Rattle.answers.specs.Call.{fitting};
@@ -19,16 +21,13 @@ ghost use Rattle.gather.specs.Sheets.{sheetAt, Accepted};
 ghost use Rattle.frame.specs.Table.{answersOf};
 ghost use Rattle.call.specs.Replies.{Replies};
 
-// The words of all answers.
-const WORDS: usize = PLACES + STATEMENTS;
-
 // Question 8, of the answers in the last words of work. The lent bytes are zeros.
-fn write_answer(work: &[u64], queries: usize, answer: &mut [u8]) -> Reply
-    requires { ⌜ (4736 ≤ length (now work)) × (queries ≤ 32) × Sound (answersOf (now work)) × (now answer ≡ replicate (length (now answer)) 0) ⌝ }
-    ensures { λ r. ⌜ ((schedules : List QuerySchedule) → Stored (answersOf (now (work .entry))) schedules → Replies (length (now (answer .entry))) (fitting (length (now (answer .entry))) (answerText queries schedules)) r (now (answer .exit))) ⌝ }
+fn write_answer(work: &[u64], queries: usize, answer: &mut [u8], width: Width) -> Reply
+    requires { ⌜ (answers width ≤ length (now work)) × (queries ≤ 32) × Sound width (answersOf width (now work)) × (now answer ≡ replicate (length (now answer)) 0) ⌝ }
+    ensures { λ r. ⌜ ((schedules : List QuerySchedule) → Stored width (answersOf width (now (work .entry))) schedules → Replies (length (now (answer .entry))) (fitting (length (now (answer .entry))) (answerText queries schedules)) r (now (answer .exit))) ⌝ }
 {
-    let from = work.len() - WORDS;
-    let end = answer::put_answer(&work[from..], queries, answer, 0);
+    let from = work.len() - answers_of(width);
+    let end = answer::put_answer(&work[from..], queries, answer, 0, width);
     if answer.len() < end {
         buffers::clear_bytes(answer);
         return Reply {
@@ -45,13 +44,13 @@ fn write_answer(work: &[u64], queries: usize, answer: &mut [u8]) -> Reply
 }
 
 // The lent bytes are zeros.
-pub fn answer_sheet(tables: &[u16], work: &mut [u64], answer: &mut [u8]) -> Reply
-    requires { ⌜ Accepted (now tables) × (8192 ≤ length (now work)) × (now answer ≡ replicate (length (now answer)) 0) ⌝ }
+pub fn answer_sheet(tables: &[u16], work: &mut [u64], answer: &mut [u8], width: Width) -> Reply
+    requires { ⌜ Accepted (now tables) × (getD (now tables) 0 0 ≤ limits width .names) × (limits width .work ≤ length (now work)) × (now answer ≡ replicate (length (now answer)) 0) ⌝ }
     ensures { λ r. ⌜ Replies (length (now (answer .entry))) (analysedOnce (sheetAt (now (tables .entry))) (length (now (answer .entry)))) r (now (answer .exit)) ⌝ }
 {
-    let fault = analyze_sheet(tables, work);
+    let fault = analyze_sheet(tables, work, width);
     if !fault.is_sound() {
         return of_fault(fault);
     }
-    write_answer(work, tables[4] as usize, answer)
+    write_answer(work, tables[4] as usize, answer, width)
 }

@@ -21,6 +21,7 @@ module _ (w : Row) (work : List ℕ) where
   -- From p, where the query of w was analysed with this fault.
   pub record AfterCompr (p : Progress) (fault : Fault) (firsts : List ℕ) (r : Progress) (firsts′ : List ℕ) : Type 0 where
     pub count : r .count ≡ p .count
+    pub wide : r .width ≡ p .width
     pub idle : (isCompr w ≡ false) ⊎ (isSound (p .fault) ≡ false) → (r ≡ p) × (firsts′ ≡ firsts)
     pub rises : isCompr w ≡ true → isSound (p .fault) ≡ true → (t spans : List ℕ) (s : State) (e : Tree) → rowOf e ≡ w
         → Agree t spans (failed p fault) firsts work s → Agree t spans r firsts′ work (rising e s)
@@ -44,6 +45,7 @@ module _ (w : Row) (work : List ℕ) (p : Progress) (fault : Fault) (ws : List �
   pub not-asked : (isCompr w ≡ false) ⊎ (isSound (p .fault) ≡ false) → AfterCompr w work p fault ws p ws
   not-asked f = record {
     count = refl;
+    wide = refl;
     idle = λ h. (refl, refl);
     rises = λ c s. absurd (go f c s);
   }
@@ -61,6 +63,7 @@ module _ (w : Row) (work : List ℕ) (p : Progress) (fault : Fault) (ws : List �
     pub fails : isSound fault ≡ false → (r : Progress) → r ≡ failed p fault → AfterCompr w work p fault ws r ws
     fails bad r is = record {
       count = ap (λ (q : Progress). q .count) is;
+      wide = ap (λ (q : Progress). q .width) is;
       idle = asked;
       rises = λ c′ s′ t spans st e at h. rw (is, faulty-rises fault bad st (h .fault) e) h;
     }
@@ -70,6 +73,7 @@ module _ (w : Row) (work : List ℕ) (p : Progress) (fault : Fault) (ws : List �
         → AfterCompr w work p fault ws r rs
     rose good q is r rs h = record {
       count = h .count ∙ ap (λ (x : Progress). x .count) is;
+      wide = h .wide ∙ ap (λ (x : Progress). x .width) is;
       idle = asked;
       rises = λ c′ s′ t spans st e at a.
           h .rises (ap (λ (x : Progress). isSound (x .fault)) is ∙ good) t spans st e at (subst (λ (x : Progress). Agree t spans x ws work st) (sym is) a);

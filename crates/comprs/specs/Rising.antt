@@ -38,6 +38,7 @@ module _ (w : Row) (work : List ℕ) where
   -- From p, which has no fault, to r.
   pub record Risen (p : Progress) (firsts : List ℕ) (r : Progress) (firsts′ : List ℕ) : Type 0 where
     pub count : r .count ≡ p .count
+    pub wide : r .width ≡ p .width
     pub rises : isSound (p .fault) ≡ true → (t spans : List ℕ) (s : State) (e : Tree) → rowOf e ≡ w
         → Agree t spans p firsts work s → Agree t spans r firsts′ work (rising e s)
 
@@ -78,15 +79,15 @@ module _ (e : Tree) (s : State) (k : Scope) (a : Sets k (s .scope)) (tk : Taken)
 
   -- And those that are, in order.
   own-listed : (sc : spec.Scope) → ((x : ℕ) → owns sc x ≡ owns (s .scope) x)
-      → filter (owns sc) (comprInputs s e) ≡ filter (member (own .words)) (range 0 128)
+      → filter (owns sc) (comprInputs s e) ≡ filter (member (own .words)) (range 0 512)
   unfolding comprInputs elements
   own-listed sc same =
       filter-both (owns sc) (contains (comprScope s e .inputs)) (member (own .words))
-      (λ x. owned (s .scope) a x ∙ ap₂ _&&_ (sym (takes .inputs x)) (sym (same x))) (range 0 128)
+      (λ x. owned (s .scope) a x ∙ ap₂ _&&_ (sym (takes .inputs x)) (sym (same x))) (range 0 512)
 
 -- ---- a comprehension's turn
 
-module _ (w : Row) (work : List ℕ) (p : Progress) (ws : List ℕ) (tk : Taken) (by : TakenBy work (w .third) tk) (own : Names)
+module _ (w : Row) (work : List ℕ) (p : Progress) (ws : List ℕ) (tk : Taken) (by : TakenBy (p .width) work (w .third) tk) (own : Names)
     (owned : OwnInputs (p .scope) (tk .inputs) own) (others : Names) (d : Difference (tk .inputs .words) (own .words) (others .words))
     (k : Scope) (put : Propagated (p .scope) (tk .uses) others k) (rs : List ℕ) (used : UsesNames w own ws rs) where
   module _ (t spans : List ℕ) (s : State) (e : Tree) (is : rowOf e ≡ w) (h : Whole t spans p ws work s) where
@@ -106,7 +107,7 @@ module _ (w : Row) (work : List ℕ) (p : Progress) (ws : List ℕ) (tk : Taken)
     unfolding flagged names useInput owns
     same-owns x = joined-owns flagged names (foldl addInput flagged names) joined x
 
-    uses-listed : comprsUse (e ∷ []) (propagate e s) ≡ filter (member (own .words)) (range 0 128)
+    uses-listed : comprsUse (e ∷ []) (propagate e s) ≡ filter (member (own .words)) (range 0 512)
     unfolding comprsUse propagate setScope comprInputs flagged names
     uses-listed =
         append-nil _ ∙ own-listed e s (p .scope) (h .scope .sets) tk takes own owned (foldl addInput flagged names) same-owns
@@ -128,6 +129,7 @@ module _ (w : Row) (work : List ℕ) (p : Progress) (ws : List ℕ) (tk : Taken)
   unfolding useCompr addFirstUses propagate setScope
   risen r is = record {
     count = ap (λ (q : Progress). q .count) is;
+    wide = ap (λ (q : Progress). q .width) is;
     rises = λ sounds t spans s e at h.
         let clear : s .run .fault ≡ sound = sym (h .fault) ∙ is-sound (p .fault) sounds in
         let now : Agree t spans (scoped p k) rs work (useCompr e (propagate e s)) = record {

@@ -7,6 +7,7 @@ use lib.ListN.{getD}
 use Rattle.basics.specs.Lists.{filter, elem, elem-filter}
 use Rattle.names.specs.Sets.{member, Union}
 use Rattle.names.specs.declared.Names.{Names}
+use Rattle.widths.specs.declared.Width.{Width}
 use Rattle.records.specs.declared.Row.{Row}
 use Rattle.trees.specs.Sheet.{rowAt}
 use Rattle.trees.specs.Kinds.{isCompr}
@@ -39,10 +40,10 @@ rowUse s w = filter (owns (s .scope)) (elements (scopeIn (scheduleOf (s .run .sc
 abbrev pub comprUse : State → Row → List ℕ
 comprUse s w = cond (isCompr w) (rowUse s w) []
 
-module _ (k : Scope) (work : List ℕ) where
+module _ (v : Width) (k : Scope) (work : List ℕ) where
   -- The names come to the set, for every state that the code's stands for.
   abbrev Gives : (State → List ℕ) → Names → Names → Type 0
-  Gives f a b = (s : State) → Sets k (s .scope) → Stored (answersOf work) (s .run .schedules) → Adds a (f s) b
+  Gives f a b = (s : State) → Sets k (s .scope) → Stored v (answersOf v work) (s .run .schedules) → Adds a (f s) b
 
   abbrev pub ComprStep : Row → Names → Names → Type 0
   ComprStep w a b = Gives (λ s. comprUse s w) a b
@@ -53,7 +54,7 @@ module _ (k : Scope) (work : List ℕ) where
     pub step-other : b ≡ false → ComprStep w a a
     step-other p s h stored = rw (sym is, p) (adds-none a)
 
-    pub step-compr : b ≡ true → (tk : Taken) → TakenBy work (w .third) tk → (own : Names) → OwnInputs k (tk .inputs) own
+    pub step-compr : b ≡ true → (tk : Taken) → TakenBy v work (w .third) tk → (own : Names) → OwnInputs k (tk .inputs) own
         → (r : Names) → Union (a .words) (own .words) (r .words) → ComprStep w a r
     step-compr p tk by own owned r union s h stored =
         let takes = by (s .run .schedules) stored in
@@ -81,9 +82,9 @@ module _ (k : Scope) (work : List ℕ) where
 -- ---- the walk
 
 module _ (t : List ℕ) where
-  abbrev pub ComprsUsed : Scope → List ℕ → ℕ → Bool → Names → Names → Type 0
-  ComprsUsed k work row rest a b =
-      (s : State) → Sets k (s .scope) → Stored (answersOf work) (s .run .schedules) → Adds a (comprsUse (comprs (exprBy t rest row)) s) b
+  abbrev pub ComprsUsed : Width → Scope → List ℕ → ℕ → Bool → Names → Names → Type 0
+  ComprsUsed v k work row rest a b =
+      (s : State) → Sets k (s .scope) → Stored v (answersOf v work) (s .run .schedules) → Adds a (comprsUse (comprs (exprBy t rest row)) s) b
 
   -- The comprehensions among expressions.
   abbrev comprsIn : List Tree → List Tree
@@ -104,8 +105,8 @@ module _ (t : List ℕ) where
         go true ih = ap (λ (l : List ℕ). rowUse s (rowOf e) ++ l) ih
         go false ih = ih
 
-  module _ (ok : Accepted t) (k : Scope) (work : List ℕ) where
-    pub used-none : (row : ℕ) → row ≡ 0 → (rest : Bool) (a : Names) → ComprsUsed k work row rest a a
+  module _ (ok : Accepted t) (v : Width) (k : Scope) (work : List ℕ) where
+    pub used-none : (row : ℕ) → row ≡ 0 → (rest : Bool) (a : Names) → ComprsUsed v k work row rest a a
     used-none row z rest a s h stored =
         let none : comprsUse (comprs (exprBy t rest row)) s ≡ [] =
         by-rows s (traverse (exprBy t rest row)) ∙ ap (λ (r : ℕ). concatMap (atExpr s) (traverse (exprBy t rest r))) z
@@ -114,13 +115,13 @@ module _ (t : List ℕ) where
 
     pub used-turn : (row : ℕ) → (row ≡ 0 → ⊥) → row ≤ getD t 2 0 → (rest : Bool) (w : Row) → w ≡ rowAt t row
         → (p : Kids) → p ≡ kidsOf w → (next : ℕ) → next ≡ cond rest (w .next) 0 → (a s₀ s₁ s₂ s₃ s₄ : Names)
-        → ComprStep k work w a s₀ → ComprsUsed k work (p .first) true s₀ s₁ → ComprsUsed k work (p .second) true s₁ s₂
-        → ComprsUsed k work (p .third) true s₂ s₃ → ComprsUsed k work next true s₃ s₄ → ComprsUsed k work row rest a s₄
+        → ComprStep v k work w a s₀ → ComprsUsed v k work (p .first) true s₀ s₁ → ComprsUsed v k work (p .second) true s₁ s₂
+        → ComprsUsed v k work (p .third) true s₂ s₃ → ComprsUsed v k work next true s₃ s₄ → ComprsUsed v k work row rest a s₄
     used-turn row ne high rest w is p ps next ns a s₀ s₁ s₂ s₃ s₄ h₀ h₁ h₂ h₃ h₄ s h stored =
-        let at : ℕ → List ℕ = λ v. concatMap (atExpr s) (traverse (exprBy t true v)) in
-        let part : (v : ℕ) (x y : Names) → ComprsUsed k work v true x y → Adds x (at v) y =
-        λ v x y g. subst (λ (l : List ℕ). Adds x l y) (by-rows s (traverse (exprBy t true v))) (g s h stored) in
-        let here : Adds a (comprUse s (rowAt t row)) s₀ = subst (λ (v : Row). Adds a (comprUse s v) s₀) is (h₀ s h stored) in
+        let at : ℕ → List ℕ = λ i. concatMap (atExpr s) (traverse (exprBy t true i)) in
+        let part : (i : ℕ) (x y : Names) → ComprsUsed v k work i true x y → Adds x (at i) y =
+        λ i x y g. subst (λ (l : List ℕ). Adds x l y) (by-rows s (traverse (exprBy t true i))) (g s h stored) in
+        let here : Adds a (comprUse s (rowAt t row)) s₀ = subst (λ (y : Row). Adds a (comprUse s y) s₀) is (h₀ s h stored) in
         let whole = by-rows s (traverse (exprBy t rest row)) ∙ collected-turn t (atExpr s) ok rest row ne high w is p ps next ns in
         subst (λ (l : List ℕ). Adds a l s₄) (sym whole)
         (adds-then a s₃ s₄ _ (at next)

@@ -13,6 +13,7 @@ use used::row::is_compr;
 ghost use mathlib.Core.Path.{_≡_};
 ghost use Prim.Native.Nat.{_≤_, _<_};
 ghost use lib.ListN.{length};
+ghost use Rattle.blocks.specs.Layout.{answers};
 ghost use Rattle.comprs.specs.Queries.{QueryIn};
 ghost use Rattle.comprs.specs.Propagated.{Propagated};
 ghost use Rattle.comprs.specs.Uses.{named, UsesNames};
@@ -37,7 +38,7 @@ fn propagate(scope: Scope, uses: bool, names: Names) -> Scope
 
 // A variable of this name where w stands.
 fn with_name(w: Row, name: usize) -> Row
-    requires { ⌜ name < 128 ⌝ }
+    requires { ⌜ name < 512 ⌝ }
     ensures { λ r. ⌜ r ≡ named w name ⌝ }
 {
     Row {
@@ -54,7 +55,7 @@ fn with_name(w: Row, name: usize) -> Row
 
 // Each of the names is used where w stands.
 fn use_names(w: Row, names: Names, firsts: &mut [u64])
-    requires { ⌜ 128 ≤ length (now firsts) ⌝ }
+    requires { ⌜ 512 ≤ length (now firsts) ⌝ }
     ensures { λ _. ⌜ UsesNames w names (now (firsts .entry)) (now (firsts .exit)) ⌝ }
 {
     let mut x = names.next(0);
@@ -67,11 +68,12 @@ fn use_names(w: Row, names: Names, firsts: &mut [u64])
 
 // The comprehension w, whose query is analysed without a fault. Of its inputs those that are own names are used, and the others are inputs again.
 fn rise(w: Row, p: Progress, firsts: &mut [u64], work: &[u64]) -> Progress
-    requires { ⌜ (128 ≤ length (now firsts)) × (4736 ≤ length (now work)) × (1 ≤ w .third) × (w .third ≤ 32) ⌝ }
+    requires { ⌜ (512 ≤ length (now firsts)) × (answers (p .width) ≤ length (now work)) × (1 ≤ w .third) × (w .third ≤ 32) ⌝ }
     ensures { λ r. ⌜ Risen w (now (work .entry)) p (now (firsts .entry)) r (now (firsts .exit)) ⌝ }
 {
     let query = w.third as usize;
-    let taken = taken_by(work, query);
+    let width = p.width;
+    let taken = taken_by(work, query, width);
     let inputs = taken.inputs;
     let scope = p.scope;
     let own = own_inputs(scope, inputs);
@@ -83,7 +85,7 @@ fn rise(w: Row, p: Progress, firsts: &mut [u64], work: &[u64]) -> Progress
 
 // After the query of w was analysed with this fault, if w is a comprehension and p has none.
 pub fn after_compr(w: Row, p: Progress, fault: Fault, firsts: &mut [u64], work: &[u64]) -> Progress
-    requires { ⌜ (128 ≤ length (now firsts)) × (4736 ≤ length (now work)) × QueryIn w ⌝ }
+    requires { ⌜ (512 ≤ length (now firsts)) × (answers (p .width) ≤ length (now work)) × QueryIn w ⌝ }
     ensures { λ r. ⌜ AfterCompr w (now (work .entry)) p fault (now (firsts .entry)) r (now (firsts .exit)) ⌝ }
 {
     if is_compr(w) {

@@ -1,22 +1,24 @@
 // Which query of a comprehension is still to be analysed.
 
 use crate::taken::block_word;
-use answer::layout::STATE;
+use blocks::STATE;
 use frame::Progress;
 use records::Row;
 use used::row::is_compr;
+use widths::Width;
 ghost use mathlib.Core.Path.{_≡_};
 ghost use Prim.Native.Nat.{_≤_};
 ghost use lib.ListN.{length};
+ghost use Rattle.blocks.specs.Layout.{answers};
 ghost use Rattle.comprs.specs.Queries.{QueryIn};
 ghost use Rattle.comprs.specs.Pending.{unscheduledAt, pendingAt};
 
 // The query, or 0 where it has a schedule: each is analysed at most once.
-fn unscheduled(work: &[u64], query: usize) -> usize
-    requires { ⌜ (4736 ≤ length (now work)) × (1 ≤ query) × (query ≤ 32) ⌝ }
-    ensures { λ r. ⌜ r ≡ unscheduledAt (now (work .entry)) query ⌝ }
+fn unscheduled(work: &[u64], query: usize, width: Width) -> usize
+    requires { ⌜ (answers width ≤ length (now work)) × (1 ≤ query) × (query ≤ 32) ⌝ }
+    ensures { λ r. ⌜ r ≡ unscheduledAt width (now (work .entry)) query ⌝ }
 {
-    let state = block_word(work, query, STATE);
+    let state = block_word(work, query, STATE, width);
     if state == 0 {
         return query;
     }
@@ -25,13 +27,14 @@ fn unscheduled(work: &[u64], query: usize) -> usize
 
 // The query of the comprehension w, or 0: where w is none, after a fault, and where the query has a schedule.
 pub fn pending(p: Progress, w: Row, work: &[u64]) -> usize
-    requires { ⌜ (4736 ≤ length (now work)) × QueryIn w ⌝ }
+    requires { ⌜ (answers (p .width) ≤ length (now work)) × QueryIn w ⌝ }
     ensures { λ r. ⌜ r ≡ pendingAt p w (now (work .entry)) ⌝ }
 {
     if is_compr(w) {
         if p.is_sound() {
             let query = w.third as usize;
-            return unscheduled(work, query);
+            let width = p.width;
+            return unscheduled(work, query, width);
         }
     }
     0

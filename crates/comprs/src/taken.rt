@@ -1,21 +1,19 @@
 // What an analysed query takes from around it. Its block says so, in the last words of the lent work.
 
-use answer::layout::BLOCK;
-use answer::layout::INPUT;
-use answer::layout::STATE;
+use blocks::INPUT;
+use blocks::STATE;
+use blocks::answers_of;
+use blocks::place_of;
 use names::Names;
+use widths::Width;
+use widths::load_set;
 ghost use mathlib.Core.Path.{_≡_};
 ghost use Prim.Native.Nat.{_≤_, _<_};
 ghost use lib.ListN.{length};
-ghost use Rattle.answer.specs.Stored.{wordAt};
+ghost use Rattle.widths.specs.Widths.{Same};
+ghost use Rattle.blocks.specs.Layout.{answers, wordAt, setAt};
 ghost use Rattle.frame.specs.Table.{answersOf};
 ghost use Rattle.comprs.specs.Takes.{TakenBy};
-
-// How many words the answers of all queries have.
-const ANSWERS: usize = 4736;
-
-// Where the two words of a query's inputs begin in its block.
-const INPUTS: usize = 7;
 
 // The inputs, and whether `input` is read.
 pub struct Taken {
@@ -23,22 +21,32 @@ pub struct Taken {
     pub uses: bool,
 }
 
-// A word of the query's block.
-pub fn block_word(work: &[u64], query: usize, i: usize) -> u64
-    requires { ⌜ (4736 ≤ length (now work)) × (1 ≤ query) × (query ≤ 32) × (i < 144) ⌝ }
-    ensures { λ r. ⌜ r ≡ wordAt (answersOf (now (work .entry))) query i ⌝ }
+// A word of the query's block, of the first four.
+pub fn block_word(work: &[u64], query: usize, i: usize, width: Width) -> u64
+    requires { ⌜ (answers width ≤ length (now work)) × (1 ≤ query) × (query ≤ 32) × (i ≤ 3) ⌝ }
+    ensures { λ r. ⌜ r ≡ wordAt width (answersOf width (now (work .entry))) query i ⌝ }
 {
-    let answers = work.len() - ANSWERS;
-    let at = BLOCK * (query - 1) + i;
-    work[answers + at]
+    let first = work.len() - answers_of(width);
+    let at = place_of(width, query, i);
+    work[first + at]
+}
+
+// The inputs of the query.
+fn block_inputs(work: &[u64], query: usize, width: Width) -> Names
+    requires { ⌜ (answers width ≤ length (now work)) × (1 ≤ query) × (query ≤ 32) ⌝ }
+    ensures { λ r. ⌜ Same (setAt width (answersOf width (now (work .entry))) query 2) (r .words) ⌝ }
+{
+    let first = work.len() - answers_of(width);
+    let at = place_of(width, query, 4 + width.words() * 2);
+    load_set(width, work, first + at)
 }
 
 // Nothing, where the query is not analysed.
-pub fn taken_by(work: &[u64], query: usize) -> Taken
-    requires { ⌜ (4736 ≤ length (now work)) × (1 ≤ query) × (query ≤ 32) ⌝ }
-    ensures { λ r. ⌜ TakenBy (now (work .entry)) query r ⌝ }
+pub fn taken_by(work: &[u64], query: usize, width: Width) -> Taken
+    requires { ⌜ (answers width ≤ length (now work)) × (1 ≤ query) × (query ≤ 32) ⌝ }
+    ensures { λ r. ⌜ TakenBy width (now (work .entry)) query r ⌝ }
 {
-    let state = block_word(work, query, STATE);
+    let state = block_word(work, query, STATE, width);
     if state == 0 {
         let inputs = Names::empty();
         return Taken {
@@ -46,10 +54,8 @@ pub fn taken_by(work: &[u64], query: usize) -> Taken
             uses: false,
         };
     }
-    let flag = block_word(work, query, INPUT);
-    let low = block_word(work, query, INPUTS);
-    let high = block_word(work, query, INPUTS + 1);
-    let inputs = Names { words: [low, high] };
+    let flag = block_word(work, query, INPUT, width);
+    let inputs = block_inputs(work, query, width);
     Taken {
         inputs,
         uses: flag == 1,

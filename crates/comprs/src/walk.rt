@@ -9,20 +9,22 @@ use names::Names;
 use records::Row;
 use records::row_at;
 use used::row::is_compr;
+use widths::Width;
 ghost use Prim.Native.Nat.{_≤_};
 ghost use lib.ListN.{length, getD};
+ghost use Rattle.blocks.specs.Layout.{answers};
 ghost use Rattle.gather.specs.Sheets.{Accepted};
 ghost use Rattle.comprs.specs.Queries.{QueryIn};
 ghost use Rattle.comprs.specs.Used.{ComprStep, ComprsUsed};
 
 // A row: the own names among the inputs of a comprehension's query come to `names`.
-fn compr_step(scope: Scope, work: &[u64], w: Row, names: Names) -> Names
-    requires { ⌜ (4736 ≤ length (now work)) × QueryIn w ⌝ }
-    ensures { λ r. ⌜ ComprStep scope (now (work .entry)) w names r ⌝ }
+fn compr_step(scope: Scope, work: &[u64], w: Row, names: Names, width: Width) -> Names
+    requires { ⌜ (answers width ≤ length (now work)) × QueryIn w ⌝ }
+    ensures { λ r. ⌜ ComprStep width scope (now (work .entry)) w names r ⌝ }
 {
     if is_compr(w) {
         let query = w.third as usize;
-        let taken = taken_by(work, query);
+        let taken = taken_by(work, query, width);
         let inputs = taken.inputs;
         let own = own_inputs(scope, inputs);
         return names.union(own);
@@ -38,9 +40,10 @@ pub fn comprs_used(
     row: usize,
     rest: bool,
     names: Names,
+    width: Width,
 ) -> Names
-    requires { ⌜ Accepted (now tables) × (row ≤ getD (now tables) 2 0) × (4736 ≤ length (now work)) ⌝ }
-    ensures { λ r. ⌜ ComprsUsed (now (tables .entry)) scope (now (work .entry)) row rest names r ⌝ }
+    requires { ⌜ Accepted (now tables) × (row ≤ getD (now tables) 2 0) × (answers width ≤ length (now work)) ⌝ }
+    ensures { λ r. ⌜ ComprsUsed (now (tables .entry)) width scope (now (work .entry)) row rest names r ⌝ }
 {
     if row == 0 {
         return names;
@@ -48,9 +51,9 @@ pub fn comprs_used(
     let w = row_at(tables, row);
     let k = kids_of(w);
     let next = next_of(w, rest);
-    let mut s = compr_step(scope, work, w, names);
-    s = comprs_used(tables, scope, work, k.first, true, s);
-    s = comprs_used(tables, scope, work, k.second, true, s);
-    s = comprs_used(tables, scope, work, k.third, true, s);
-    comprs_used(tables, scope, work, next, true, s)
+    let mut s = compr_step(scope, work, w, names, width);
+    s = comprs_used(tables, scope, work, k.first, true, s, width);
+    s = comprs_used(tables, scope, work, k.second, true, s, width);
+    s = comprs_used(tables, scope, work, k.third, true, s, width);
+    comprs_used(tables, scope, work, next, true, s, width)
 }

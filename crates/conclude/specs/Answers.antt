@@ -6,48 +6,53 @@ use native.Mathlib.Omega.{arith}
 use lib.ListN.{length, getD, take, drop, length-drop, List·getD-append}
 use lib.Seq.{take-all, drop-at, drop-length, getD-take, length-take-le}
 use borrow.Rule.Slice.PartMut.{midOf, postOf, putMid, same-len-mid}
-use Rattle.answer.specs.Stored.{wordAt}
+use Rattle.widths.specs.declared.Width.{Width}
+use Rattle.blocks.specs.Layout.{answers, wordAt}
 use Rattle.frame.specs.Table.{answersOf, countAt, Based}
 use Rattle.conclude.specs.Bases.{Roomy}
 
-module _ (w : List ℕ) (enough : 4736 ≤ length w) where
+-- They are the last m.
+module _ (v : Width) (w : List ℕ) (m : ℕ) (m-is : m ≡ answers v) (enough : answers v ≤ length w) where
   -- The part that is lent.
-  pub lent-is : midOf (length w - 4736) (length w - (length w - 4736)) w ≡ answersOf w
-  lent-is = take-all (length w - (length w - 4736)) (drop (length w - 4736) w) (omega (arith, length-drop (length w - 4736) w))
+  pub lent-is : midOf (length w - m) (length w - (length w - m)) w ≡ answersOf v w
+  lent-is =
+      take-all (length w - (length w - m)) (drop (length w - m) w) (omega (arith, length-drop (length w - m) w))
+      ∙ ap (λ (n : ℕ). drop (length w - n) w) m-is
 
-  pub lent-long : 4736 ≤ length (midOf (length w - 4736) (length w - (length w - 4736)) w)
-  lent-long = omega (arith, ap length lent-is, length-drop (length w - 4736) w)
+  pub lent-long : answers v ≤ length (midOf (length w - m) (length w - (length w - m)) w)
+  lent-long = omega (arith, ap length lent-is, length-drop (length w - answers v) w)
 
   -- It has room for the places of a query.
-  pub lent-room : (t : List ℕ) → Based t (answersOf w) → Roomy t → (q : ℕ) → 1 ≤ q → q ≤ getD t 4 0 → (n : ℕ) → n ≡ countAt t q
-      → wordAt (midOf (length w - 4736) (length w - (length w - 4736)) w) q 9 + n ≤ 128
+  pub lent-room : (t : List ℕ) → Based v t (answersOf v w) → Roomy t → (q : ℕ) → 1 ≤ q → q ≤ getD t 4 0 → (n : ℕ) → n ≡ countAt t q
+      → wordAt v (midOf (length w - m) (length w - (length w - m)) w) q 3 + n ≤ 128
   lent-room t based roomy q low high n is =
-      omega (arith, ap (λ (l : List ℕ). wordAt l q 9) lent-is, based q low high, roomy q low high, is)
+      omega (arith, ap (λ (l : List ℕ). wordAt v l q 3) lent-is, based q low high, roomy q low high, is)
 
   -- When it is back as p, those are the answers, and the words in front of them are as they were.
-  module _ (p : List ℕ) (long : length p ≡ length (midOf (length w - 4736) (length w - (length w - 4736)) w)) where
+  module _ (p : List ℕ) (long : length p ≡ length (midOf (length w - m) (length w - (length w - m)) w)) where
     abbrev pub back : List ℕ
-    back = putMid (length w - 4736) (length w - (length w - 4736)) w p
+    back = putMid (length w - m) (length w - (length w - m)) w p
 
     pub back-length : length back ≡ length w
-    back-length = same-len-mid (length w - 4736) (length w - (length w - 4736)) w p long
+    back-length = same-len-mid (length w - m) (length w - (length w - m)) w p long
 
-    front-long : length (take (length w - 4736) w) ≡ length w - 4736
-    front-long = length-take-le (length w - 4736) w (omega arith)
+    front-long : length (take (length w - m) w) ≡ length w - m
+    front-long = length-take-le (length w - m) w (omega arith)
 
-    none-after : postOf (length w - 4736) (length w - (length w - 4736)) w ≡ []
+    none-after : postOf (length w - m) (length w - (length w - m)) w ≡ []
     none-after =
-        let d = drop (length w - 4736) w in
-        let e : length w - (length w - 4736) ≡ length d = omega (arith, length-drop (length w - 4736) w) in
+        let d = drop (length w - m) w in
+        let e : length w - (length w - m) ≡ length d = omega (arith, length-drop (length w - m) w) in
         ap (λ (k : ℕ). drop k d) e ∙ drop-length d
 
-    pub back-answers : answersOf back ≡ p
+    pub back-answers : answersOf v back ≡ p
     back-answers =
-        ap (λ (k : ℕ). drop (k - 4736) back) back-length
-        ∙ drop-at (take (length w - 4736) w) (p ++ postOf (length w - 4736) (length w - (length w - 4736)) w) (length w - 4736) front-long
+        let first : length back - answers v ≡ length w - m = omega (arith, back-length, m-is) in
+        ap (λ (k : ℕ). drop k back) first
+        ∙ drop-at (take (length w - m) w) (p ++ postOf (length w - m) (length w - (length w - m)) w) (length w - m) front-long
         ∙ ap (λ (l : List ℕ). p ++ l) none-after ∙ append-nil p
 
-    pub back-front : (j : ℕ) → j < length w - 4736 → getD back j 0 ≡ getD w j 0
+    pub back-front : (j : ℕ) → j < length w - answers v → getD back j 0 ≡ getD w j 0
     back-front j l =
-        List·getD-append (take (length w - 4736) w) (p ++ postOf (length w - 4736) (length w - (length w - 4736)) w) 0 j (omega (arith, front-long))
-        ∙ getD-take (length w - 4736) w j 0 l
+        List·getD-append (take (length w - m) w) (p ++ postOf (length w - m) (length w - (length w - m)) w) 0 j (omega (arith, front-long, m-is))
+        ∙ getD-take (length w - m) w j 0 (omega (arith, l, m-is))

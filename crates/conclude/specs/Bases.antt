@@ -7,8 +7,13 @@ use native.Mathlib.Omega.{arith}
 use lib.ListN.{length, getD, set, length-set}
 use lib.Seq.{getD-drop, getD-set-same, getD-set-other}
 use Rattle.basics.specs.Truth.{eq-cases}
+use Rattle.widths.specs.declared.Width.{Width}
+use Rattle.widths.specs.declared.Width.the-variants.{Two, Eight}
+use Rattle.widths.specs.Widths.{words, names}
+use Rattle.widths.specs.Laws.{names-are}
+use Rattle.blocks.specs.Layout.{block, answers, wordAt}
 use Rattle.sizes.specs.Sums.{sumTo}
-use Rattle.answer.specs.Stored.{wordAt}
+use Rattle.sizes.specs.LowNames.{names-under}
 use Rattle.homes.specs.Bases.{base, base-fits}
 use Rattle.gather.specs.Sheets.{countsAt, specialAt, sheetAt, Accepted}
 use Rattle.frame.specs.Table.{answersOf, countAt, baseAt, Table}
@@ -38,37 +43,60 @@ module _ (g : ℕ → ℕ) where
 -- ---- words written among the answers
 
 -- At k of them, which is at p of all words.
-module _ (w : List ℕ) (enough : 4736 ≤ length w) (p k : ℕ) (is : p ≡ length w - 4736 + k) (x : ℕ) where
-  put-at : (i : ℕ) → getD (answersOf (set w p x)) i 0 ≡ getD (set w p x) (length w - 4736 + i) 0
+module _ (v : Width) (w : List ℕ) (enough : answers v ≤ length w) (p k : ℕ) (is : p ≡ length w - answers v + k) (x : ℕ) where
+  put-at : (i : ℕ) → getD (answersOf v (set w p x)) i 0 ≡ getD (set w p x) (length w - answers v + i) 0
   put-at i =
-      let v = set w p x in
-      getD-drop (length v - 4736) v i 0 ∙ ap (λ (n : ℕ). getD v (n - 4736 + i) 0) (length-set w p x)
+      let u = set w p x in
+      getD-drop (length u - answers v) u i 0 ∙ ap (λ (n : ℕ). getD u (n - answers v + i) 0) (length-set w p x)
 
-  put-same : k < 4736 → getD (answersOf (set w p x)) k 0 ≡ x
+  put-same : k < answers v → getD (answersOf v (set w p x)) k 0 ≡ x
   put-same l =
       put-at k ∙ ap (λ (i : ℕ). getD (set w p x) i 0) (sym is) ∙ getD-set-same w p x 0 (omega (arith, is))
 
-  put-other : (i : ℕ) → (i ≡ k → ⊥) → getD (answersOf (set w p x)) i 0 ≡ getD (answersOf w) i 0
+  put-other : (i : ℕ) → (i ≡ k → ⊥) → getD (answersOf v (set w p x)) i 0 ≡ getD (answersOf v w) i 0
   put-other i ne =
-      put-at i ∙ getD-set-other w p (length w - 4736 + i) x 0 (λ e. ne (omega (arith, e)))
-      ∙ sym (getD-drop (length w - 4736) w i 0)
+      put-at i ∙ getD-set-other w p (length w - answers v + i) x 0 (λ e. ne (omega (arith, e)))
+      ∙ sym (getD-drop (length w - answers v) w i 0)
+
+-- A word of the block of query n + 1 lies among the answers, and apart from the words of other blocks.
+pub block-inside : (v : Width) (n i : ℕ) → n < 32 → i < 4 → block v * n + i < answers v
+block-inside Two n i few low = omega arith
+block-inside Eight n i few low = omega arith
+
+blocks-apart : (v : Width) (q n i j : ℕ) → 1 ≤ q → i < 4 → j < 4 → block v * (q - 1) + i ≡ block v * n + j → (q ≡ n + 1) × (i ≡ j)
+blocks-apart Two q n i j l a b e = (omega arith, omega arith)
+blocks-apart Eight q n i j l a b e = (omega arith, omega arith)
+
+-- Word i of the block of query n + 1 is set to x.
+module _ (v : Width) (w : List ℕ) (enough : answers v ≤ length w) (n i : ℕ) (few : n < 32) (low : i < 4) (p : ℕ)
+    (is : p ≡ length w - answers v + (block v * n + i)) (x : ℕ) where
+  word-set : (q : ℕ) → q ≡ n + 1 → wordAt v (answersOf v (set w p x)) q i ≡ x
+  word-set q e =
+      let f : q - 1 ≡ n = omega arith in
+      ap (λ (m : ℕ). getD (answersOf v (set w p x)) (block v * m + i) 0) f
+      ∙ put-same v w enough p (block v * n + i) is x (block-inside v n i few low)
+
+  word-other : (q j : ℕ) → 1 ≤ q → j < 4 → ((q ≡ n + 1) → (j ≡ i) → ⊥) → wordAt v (answersOf v (set w p x)) q j ≡ wordAt v (answersOf v w) q j
+  word-other q j l b ne =
+      put-other v w enough p (block v * n + i) is x (block v * (q - 1) + j)
+      (λ e. let s = blocks-apart v q n j i l b low e in ne (s .0) (s .1))
 
 -- ---- states
 
 -- The first n queries are not analysed.
-abbrev pub FreshTo : List ℕ → ℕ → Type 0
-FreshTo w n = (q : ℕ) → 1 ≤ q → q ≤ n → wordAt (answersOf w) q 0 ≡ 0
+abbrev pub FreshTo : Width → List ℕ → ℕ → Type 0
+FreshTo v w n = (q : ℕ) → 1 ≤ q → q ≤ n → wordAt v (answersOf v w) q 0 ≡ 0
 
-pub fresh-none : (w : List ℕ) → FreshTo w 0
-fresh-none w q l u = absurd (omega arith)
+pub fresh-none : (v : Width) (w : List ℕ) → FreshTo v w 0
+fresh-none v w q l u = absurd (omega arith)
 
-pub fresh-next : (w : List ℕ) (n : ℕ) → FreshTo w n → 4736 ≤ length w → n < 32 → (p : ℕ) → p ≡ length w - 4736 + 144 * n
-    → FreshTo (set w p 0) (n + 1)
-fresh-next w n h enough few p is q l u = go (eq-cases q (n + 1))
+pub fresh-next : (v : Width) (w : List ℕ) (n : ℕ) → FreshTo v w n → answers v ≤ length w → n < 32 → (p : ℕ)
+    → p ≡ length w - answers v + (block v * n + 0) → FreshTo v (set w p 0) (n + 1)
+fresh-next v w n h enough few p is q l u = go (eq-cases q (n + 1))
   where
-    go : (q ≡ n + 1) ⊎ (q ≡ n + 1 → ⊥) → wordAt (answersOf (set w p 0)) q 0 ≡ 0
-    go (inl e) = put-same w enough p (144 * (q - 1) + 0) (omega (arith, e, is)) 0 (omega (arith, e))
-    go (inr ne) = put-other w enough p (144 * n) is 0 (144 * (q - 1) + 0) (λ e. omega (arith, e, ne, l)) ∙ h q l (omega (arith, u, ne))
+    go : (q ≡ n + 1) ⊎ (q ≡ n + 1 → ⊥) → wordAt v (answersOf v (set w p 0)) q 0 ≡ 0
+    go (inl e) = word-set v w enough n 0 few (omega arith) p is 0 q e
+    go (inr ne) = word-other v w enough n 0 few (omega arith) p is 0 q 0 l (omega arith) (λ e f. ne e) ∙ h q l (omega (arith, u, ne))
 
 -- ---- bases
 
@@ -93,37 +121,40 @@ module _ (t : List ℕ) where
 
   -- ---- how they are written
 
-  -- The bases of the first n queries are written, and no query is analysed.
-  pub record BasedTo (w : List ℕ) (n : ℕ) : Type 0 where
-    pub fresh : FreshTo w 32
-    pub based : (q : ℕ) → 1 ≤ q → q ≤ n → wordAt (answersOf w) q 9 ≡ baseAt t q
+  module _ (v : Width) where
+    -- The bases of the first n queries are written, and no query is analysed.
+    pub record BasedTo (w : List ℕ) (n : ℕ) : Type 0 where
+      pub fresh : FreshTo v w 32
+      pub based : (q : ℕ) → 1 ≤ q → q ≤ n → wordAt v (answersOf v w) q 3 ≡ baseAt t q
 
-  pub based-none : (w : List ℕ) → FreshTo w 32 → BasedTo w 0
-  based-none w fresh = record { fresh = fresh; based = λ q l h. absurd (omega arith) }
+    pub based-none : (w : List ℕ) → FreshTo v w 32 → BasedTo w 0
+    based-none w fresh = record { fresh = fresh; based = λ q l h. absurd (omega arith) }
 
-  module _ (w : List ℕ) (n : ℕ) (h : BasedTo w n) (enough : 4736 ≤ length w) where
-    pub based-next : n < 32 → (p : ℕ) → p ≡ length w - 4736 + (144 * n + 9) → (x : ℕ) → x ≡ sumTo (countAt t) n
-        → BasedTo (set w p x) (n + 1)
-    based-next few p is x sum = record {
-      fresh = λ q l u. other (144 * (q - 1) + 0) (λ e. omega (arith, e)) ∙ h .fresh q l u;
-      based = λ q l u. go q l u (eq-cases q (n + 1));
-    }
-      where
-        other : (i : ℕ) → (i ≡ 144 * n + 9 → ⊥) → getD (answersOf (set w p x)) i 0 ≡ getD (answersOf w) i 0
-        other = put-other w enough p (144 * n + 9) is x
+    module _ (w : List ℕ) (n : ℕ) (h : BasedTo w n) (enough : answers v ≤ length w) where
+      pub based-next : n < 32 → (p : ℕ) → p ≡ length w - answers v + (block v * n + 3) → (x : ℕ) → x ≡ sumTo (countAt t) n
+          → BasedTo (set w p x) (n + 1)
+      based-next few p is x sum = record {
+        fresh = λ q l u. other q 0 l (omega arith) (λ e f. omega (arith, f)) ∙ h .fresh q l u;
+        based = λ q l u. go q l u (eq-cases q (n + 1));
+      }
+        where
+          other : (q j : ℕ) → 1 ≤ q → j < 4 → ((q ≡ n + 1) → (j ≡ 3) → ⊥) → wordAt v (answersOf v (set w p x)) q j ≡ wordAt v (answersOf v w) q j
+          other = word-other v w enough n 3 few (omega arith) p is x
 
-        go : (q : ℕ) → 1 ≤ q → q ≤ n + 1 → (q ≡ n + 1) ⊎ (q ≡ n + 1 → ⊥) → wordAt (answersOf (set w p x)) q 9 ≡ baseAt t q
-        go q l u (inl e) =
-            let m : n ≡ q - 1 = omega (arith, e) in
-            put-same w enough p (144 * (q - 1) + 9) (omega (arith, e, is)) x (omega (arith, e)) ∙ sum ∙ ap (sumTo (countAt t)) m
-        go q l u (inr ne) = other (144 * (q - 1) + 9) (λ e. omega (arith, e, ne, l)) ∙ h .based q l (omega (arith, u, ne))
+          go : (q : ℕ) → 1 ≤ q → q ≤ n + 1 → (q ≡ n + 1) ⊎ (q ≡ n + 1 → ⊥) → wordAt v (answersOf v (set w p x)) q 3 ≡ baseAt t q
+          go q l u (inl e) =
+              let m : n ≡ q - 1 = omega (arith, e) in
+              word-set v w enough n 3 few (omega arith) p is x q e ∙ sum ∙ ap (sumTo (countAt t)) m
+          go q l u (inr ne) = other q 3 l (omega arith) (λ e f. ne e) ∙ h .based q l (omega (arith, u, ne))
 
-    -- The table of no schedule.
-    pub no-schedule : getD t 4 0 ≤ n → Table t w []
-    no-schedule all = record {
-      enough = enough;
-      stored = h .fresh;
-      based = λ q l u. h .based q l (omega arith);
-      fits = λ a m. absurd (List·Memᴰ·not-nil m);
-      low = λ a m. absurd (List·Memᴰ·not-nil m);
-    }
+      -- The table of no schedule, where the sheet has no more names than the width has room for.
+      pub no-schedule : Accepted t → getD t 0 0 ≤ names v → getD t 4 0 ≤ n → Table v t w []
+      unfolding sheetAt
+      no-schedule ok low all = record {
+        enough = enough;
+        stored = h .fresh;
+        based = λ q l u. h .based q l (omega arith);
+        fits = λ a m. absurd (List·Memᴰ·not-nil m);
+        narrow = names-under (64 * words v) (countsAt t) (specialAt t) t (ok .within) (ok .facts) (omega (arith, low, names-are v));
+        low = λ a m. absurd (List·Memᴰ·not-nil m);
+      }

@@ -10,6 +10,9 @@ use lib.Dec.{eqb}
 use lib.ListN.{length, getD, take}
 use borrow.Author.Tests.{eqb-true}
 use Rattle.basics.specs.Truth.{lt-cases}
+use Rattle.widths.specs.declared.Width.{Width}
+use Rattle.widths.specs.Widths.{limits, words, row}
+use Rattle.blocks.specs.Layout.{answers, wordAt}
 use Rattle.turns.specs.Turns as turns
 use Rattle.rows.specs.Rows.{definitions}
 use Rattle.bounds.specs.Question.{accepts}
@@ -22,9 +25,11 @@ use Rattle.sizes.specs.Lists.{find-some}
 use Rattle.sizes.specs.Adds.{Fits}
 use Rattle.gather.specs.declared.scope.Scope.{Scope}
 use Rattle.gather.specs.Sheets.{sheetAt, Accepted}
-use Rattle.answer.specs.Stored.{wordAt, PlaceIn, StoredAt, Stored}
+use Rattle.answer.specs.Stored.{PlaceIn, StoredAt, Stored}
 use Rattle.store.specs.Words.{placeWord}
 use Rattle.store.specs.Kept.{Gives, Apart, stored-next, bases-stay, span-in}
+use Rattle.frame.specs.Held.{Exact, held-exact}
+use Rattle.frame.specs.Narrow.{locals-fit, unscoped-fit, inputs-fit}
 use Rattle.frame.specs.Table.{answersOf, Low, countAt, baseAt, Table}
 use Rattle.conclude.specs.Counts.{count-past}
 use Rattle.conclude.specs.Bases.{base-apart, Roomy}
@@ -37,104 +42,112 @@ is-placed : (p : Bool) → isPlaced (outcome true p) ≡ p
 is-placed true = refl
 is-placed false = refl
 
-module _ (t : List ℕ) (ok : Accepted t) (roomy : Roomy t) (w : List ℕ) (q : ℕ) (low : 1 ≤ q) (high : q ≤ getD t 4 0) where
+-- The rows that the scheduler was lent, where a row has m words.
+pub scheduled-rows : (v : Width) (w : List ℕ) (m c n : ℕ) (r : Outcome) (order reached : List ℕ) → m ≡ row v
+    → Scheduled (limits v) (take (m * c) w) n 128 128 r order reached → Scheduled (limits v) (take (row v * c) w) n 128 128 r order reached
+scheduled-rows v w m c n r order reached = subst (λ (y : ℕ). Scheduled (limits v) (take (y * c) w) n 128 128 r order reached)
+
+module _ (v : Width) (t : List ℕ) (ok : Accepted t) (roomy : Roomy t) (w : List ℕ) (q : ℕ) (low : 1 ≤ q) (high : q ≤ getD t 4 0) where
   -- The places of the other queries in the table lie elsewhere.
-  apart : (schedules : List QuerySchedule) → Table t w schedules → Apart (answersOf w) q (wordAt (answersOf w) q 9) (countAt t q)
+  apart : (schedules : List QuerySchedule) → Table v t w schedules → Apart v (answersOf v w) q (wordAt v (answersOf v w) q 3) (countAt t q)
   apart schedules table p from to other analysed some-place = go (scheduleOf schedules p) refl (table .stored p from to)
     where
-      beside : countAt t p ≡ wordAt (answersOf w) p 2 → (p ≤ getD t 4 0)
-          → (wordAt (answersOf w) p 9 + wordAt (answersOf w) p 2 ≤ wordAt (answersOf w) q 9)
-          ⊎ (wordAt (answersOf w) q 9 + countAt t q ≤ wordAt (answersOf w) p 9)
+      beside : countAt t p ≡ wordAt v (answersOf v w) p 2 → (p ≤ getD t 4 0)
+          → (wordAt v (answersOf v w) p 3 + wordAt v (answersOf v w) p 2 ≤ wordAt v (answersOf v w) q 3)
+          ⊎ (wordAt v (answersOf v w) q 3 + countAt t q ≤ wordAt v (answersOf v w) p 3)
       beside count within = side (lt-cases p q)
         where
           side : (p < q) ⊎ (q ≤ p)
-              → (wordAt (answersOf w) p 9 + wordAt (answersOf w) p 2 ≤ wordAt (answersOf w) q 9)
-              ⊎ (wordAt (answersOf w) q 9 + countAt t q ≤ wordAt (answersOf w) p 9)
+              → (wordAt v (answersOf v w) p 3 + wordAt v (answersOf v w) p 2 ≤ wordAt v (answersOf v w) q 3)
+              ⊎ (wordAt v (answersOf v w) q 3 + countAt t q ≤ wordAt v (answersOf v w) p 3)
           side (inl h) = inl (omega (arith, table .based p from within, table .based q low high, count, base-apart t p q from h))
           side (inr h) = inr (omega (arith, table .based p from within, table .based q low high, base-apart t q p low (omega (arith, h, other))))
 
-      go : (o : Option QuerySchedule) → scheduleOf schedules p ≡ o → StoredAt (answersOf w) p o
-          → (wordAt (answersOf w) p 9 + wordAt (answersOf w) p 2 ≤ wordAt (answersOf w) q 9)
-          ⊎ (wordAt (answersOf w) q 9 + countAt t q ≤ wordAt (answersOf w) p 9)
+      go : (o : Option QuerySchedule) → scheduleOf schedules p ≡ o → StoredAt v (answersOf v w) p o
+          → (wordAt v (answersOf v w) p 3 + wordAt v (answersOf v w) p 2 ≤ wordAt v (answersOf v w) q 3)
+          ⊎ (wordAt v (answersOf v w) q 3 + countAt t q ≤ wordAt v (answersOf v w) p 3)
       go none e s = absurd (omega (arith, s, analysed))
       go (some b) e s =
           let r = find-some (λ (x : QuerySchedule). eqb (x .query) p) schedules e in
-          let count : countAt t p ≡ wordAt (answersOf w) p 2 =
+          let count : countAt t p ≡ wordAt v (answersOf v w) p 2 =
           ap (countAt t) (sym (eqb-true (b .query) p (r .1))) ∙ sym (table .fits b (r .0) .whole) ∙ sym (s .count) in
           ⊎-elim (λ (h : p < getD t 4 0 + 1). beside count (omega arith))
           (λ (h : getD t 4 0 + 1 ≤ p). absurd (omega (arith, count, count-past t ok p (omega arith), some-place)))
           (lt-cases p (getD t 4 0 + 1))
 
-  module _ (k : Scope) (l : List ℕ) (locals : length (k .locals .words) ≡ 2) (unscoped : length (k .unscoped .words) ≡ 2)
-      (inputs : length (k .inputs .words) ≡ 2) (c : ℕ) (room : 4 * c + 4736 ≤ length w) (n : ℕ) (count : n ≡ countAt t q) (r : Outcome)
-      (order reached : List ℕ) (s : Scheduled (take (4 * c) w) n 128 128 r order reached) where
+  module _ (k : Scope) (l : List ℕ) (c : ℕ) (room : row v * c + answers v ≤ length w) (n : ℕ) (count : n ≡ countAt t q) (r : Outcome)
+      (order reached : List ℕ) (s : Scheduled (limits v) (take (row v * c) w) n 128 128 r order reached) where
     -- What is stored is of the schedule.
-    gives : (a : QuerySchedule) → Finished t w q k l c a → Gives a k l n (isPlaced r) order reached
+    gives : (a : QuerySchedule) → Finished v t w q k l c a → Gives v a k l n (isPlaced r) order reached
     gives a f = record {
       sets = f .scope .sets;
-      locals = locals;
-      unscoped = unscoped;
-      inputs = inputs;
+      locals = locals-fit v k (a .scope) (f .scope .sets) (f .low .scope);
+      unscoped = unscoped-fit v k (a .scope) (f .scope .sets) (f .low .scope);
+      inputs = inputs-fit v k (a .scope) (f .scope .sets) (f .low .scope);
       spans = λ x p is. span-in (f .scope .placed x p is);
       counted = e;
       all =
-          ap isPlaced (s .came-to) ∙ ap (λ (b : Bool). isPlaced (outcome b (turns.placed (definitions (take (4 * c) w)) n nameBound))) met
-          ∙ is-placed (turns.placed (definitions (take (4 * c) w)) n nameBound) ∙ same-placed (definitions (take (4 * c) w)) (a .definitions) up down n nameBound
+          ap isPlaced (s .came-to) ∙ ap (λ (b : Bool). isPlaced (outcome b (turns.placed (definitions (row v) (take (row v * c) w)) n nameBound))) met
+          ∙ is-placed (turns.placed (definitions (row v) (take (row v * c) w)) n nameBound) ∙ same-placed (definitions (row v) (take (row v * c) w)) (a .definitions) up down n nameBound
           ∙ ap (λ (m : ℕ). turns.placed (a .definitions) m nameBound) (sym e);
       places = λ j h.
           subst (λ (m : ℕ).
           let i = getD (turns.order (a .definitions) m nameBound) j 0 in
           PlaceIn (placeWord order reached j) i (mark (turns.reached (a .definitions) m nameBound i)))
-          (sym e) (rw (s .ordered, s .marked) (place-in (take (4 * c) w) n 128 128 met (a .definitions) up down j h));
+          (sym e) (rw (s .ordered, s .marked) (place-in (limits v) (take (row v * c) w) n 128 128 met (a .definitions) up down j h));
     }
       where
         e : a .count ≡ n
         e = f .whole ∙ sym count
 
-        up : Within (definitions (take (4 * c) w)) (a .definitions)
-        up = rows-within w c (omega (arith, room)) (a .definitions) (f .rows)
+        exact : Exact v w c (a .definitions)
+        exact = held-exact v w c (a .definitions) (f .rows) (f .low .used)
 
-        down : Within (a .definitions) (definitions (take (4 * c) w))
-        down = within-rows w c (omega (arith, room)) (a .definitions) (f .rows)
+        up : Within (definitions (row v) (take (row v * c) w)) (a .definitions)
+        up = rows-within v w c (omega (arith, room)) (a .definitions) exact
 
-        met : accepts (take (4 * c) w) n 128 128 ≡ true
+        down : Within (a .definitions) (definitions (row v) (take (row v * c) w))
+        down = within-rows v w c (omega (arith, room)) (a .definitions) exact
+
+        met : accepts (limits v) (take (row v * c) w) n 128 128 ≡ true
         met =
             let small : n ≤ 128 = omega (arith, e, f .bounds .few-statements) in
-            rows-accepted w c (omega (arith, room)) (a .definitions) (f .rows) (omega (arith, f .few, f .bounds .few-definitions)) n 128 128
+            rows-accepted v w c (omega (arith, room)) (a .definitions) exact (omega (arith, f .few, f .bounds .few-definitions)) n 128 128
             small small small (λ d m. omega (arith, f .bounds .stated d m, e)) (f .bounds .named)
 
-    pub concluded : (placed : Bool) → placed ≡ isPlaced r → (u : List ℕ) → u ≡ answersOf w → (p : List ℕ)
-        → AnswerWritten u q k l n placed order reached p → (v : List ℕ) → answersOf v ≡ p → length v ≡ length w
-        → ((j : ℕ) → j < length w - 4736 → getD v j 0 ≡ getD w j 0) → Concluded t w q k l c v
-    concluded placed says u lent p stores v is long front = record { front = front; enters = enters }
+    pub concluded : (placed : Bool) → placed ≡ isPlaced r → (y : List ℕ) → y ≡ answersOf v w → (p : List ℕ)
+        → AnswerWritten v y q k l n placed order reached p → (u : List ℕ) → answersOf v u ≡ p → length u ≡ length w
+        → ((j : ℕ) → j < length w - answers v → getD u j 0 ≡ getD w j 0) → Concluded v t w q k l c u
+    concluded placed says y lent p stores u is long front = record { front = front; enters = enters }
       where
-        written : AnswerWritten (answersOf w) q k l n (isPlaced r) order reached p
+        written : AnswerWritten v (answersOf v w) q k l n (isPlaced r) order reached p
         written =
-            subst (λ (b : Bool). AnswerWritten (answersOf w) q k l n b order reached p) says
-            (subst (λ (x : List ℕ). AnswerWritten x q k l n placed order reached p) lent stores)
+            subst (λ (b : Bool). AnswerWritten v (answersOf v w) q k l n b order reached p) says
+            (subst (λ (x : List ℕ). AnswerWritten v x q k l n placed order reached p) lent stores)
 
         few : getD t 4 0 ≤ 32
         few = ok .within .few-queries
 
-        enters : (a : QuerySchedule) (schedules : List QuerySchedule) → Finished t w q k l c a → Table t w schedules → Table t v (a ∷ schedules)
+        enters : (a : QuerySchedule) (schedules : List QuerySchedule) → Finished v t w q k l c a → Table v t w schedules → Table v t u (a ∷ schedules)
         enters a schedules f table = record {
           enough = omega (arith, long, table .enough);
           stored =
-              subst (λ (x : List ℕ). Stored x (a ∷ schedules)) (sym is)
-              (stored-next (answersOf w) q k l n (wordAt (answersOf w) q 9) (isPlaced r) order reached low (omega (arith, high, few)) within
+              subst (λ (x : List ℕ). Stored v x (a ∷ schedules)) (sym is)
+              (stored-next v (answersOf v w) q k l n (wordAt v (answersOf v w) q 3) (isPlaced r) order reached low (omega (arith, high, few)) within
               (written .between) (written .block) p (written .places) schedules (table .stored)
-              (subst (Apart (answersOf w) q (wordAt (answersOf w) q 9)) (sym count) (apart schedules table)) a (f .query) (gives a f));
+              (subst (Apart v (answersOf v w) q (wordAt v (answersOf v w) q 3)) (sym count) (apart schedules table)) a (f .query) (gives a f));
           based = λ x from to.
-              subst (λ (y : List ℕ). wordAt y x 9 ≡ baseAt t x) (sym is)
-              (bases-stay (answersOf w) q k l n (wordAt (answersOf w) q 9) (isPlaced r) order reached low (omega (arith, high, few)) within
+              subst (λ (y : List ℕ). wordAt v y x 3 ≡ baseAt t x) (sym is)
+              (bases-stay v (answersOf v w) q k l n (wordAt v (answersOf v w) q 3) (isPlaced r) order reached low (omega (arith, high, few)) within
               (written .between) (written .block) p (written .places) refl x from (omega (arith, to, few)) ∙ table .based x from to);
           fits = λ b m.
               ⊎-elim (λ (e : b ≡ a). subst (Fits (sheetAt t)) (sym e) (f .fits)) (λ (i : List·Memᴰ b schedules). table .fits b i)
               (List·Memᴰ·cases-cons m);
+          narrow = table .narrow;
           low = λ b m.
-              ⊎-elim (λ (e : b ≡ a). subst (λ (x : QuerySchedule). Low (x .scope) (x .definitions)) (sym e) (f .low))
+              ⊎-elim (λ (e : b ≡ a). subst (λ (x : QuerySchedule). Low (64 * words v) (x .scope) (x .definitions)) (sym e) (f .low))
               (λ (i : List·Memᴰ b schedules). table .low b i) (List·Memᴰ·cases-cons m);
         }
           where
-            within : wordAt (answersOf w) q 9 + n ≤ 128
+            within : wordAt v (answersOf v w) q 3 + n ≤ 128
             within = omega (arith, table .based q low high, roomy q low high, count)

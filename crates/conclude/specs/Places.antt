@@ -9,6 +9,7 @@ use lib.Dec.{eqb}
 use lib.ListN.{length, getD, replicate, length-map, List·getD-append}
 use borrow.Author.Tests.{eqb-true}
 use Rattle.basics.specs.Truth.{bool-cases}
+use Rattle.basics.specs.Limits.{Limits}
 use Rattle.basics.specs.Ranges.{range}
 use Rattle.basics.specs.Members.{getD-mem, mem-elem}
 use Rattle.buffers.specs.Fills.{length-range}
@@ -54,52 +55,52 @@ module _ (defs : List Definition) (n m : ℕ) where
 
 -- ---- the buffers
 
-module _ (ws : List ℕ) (n : ℕ) where
+module _ (lim : Limits) (ws : List ℕ) (n : ℕ) where
   -- Whatever the scheduler answers, the entries of the order are indexes of the marks.
-  entries-low : (room : ℕ) (k : ℕ) → k < n → getD (orderBuffer ws n room 128) k 0 < 128
-  entries-low room k l = go (bool-cases (accepts ws n room 128))
+  entries-low : (room : ℕ) (k : ℕ) → k < n → getD (orderBuffer lim ws n room 128) k 0 < 128
+  entries-low room k l = go (bool-cases (accepts lim ws n room 128))
     where
-      go : (accepts ws n room 128 ≡ true) ⊎ (accepts ws n room 128 ≡ false) → getD (orderBuffer ws n room 128) k 0 < 128
+      go : (accepts lim ws n room 128 ≡ true) ⊎ (accepts lim ws n room 128 ≡ false) → getD (orderBuffer lim ws n room 128) k 0 < 128
       go (inl a) =
-          let o = order (definitions ws) n 128 in
-          let few = accepted ws n room 128 a .few in
+          let o = order (definitions (lim .row) ws) n 512 in
+          let few = accepted lim ws n room 128 a .few in
           rw a (omega (
             arith,
-            List·getD-append o (replicate (room - n) 0) 0 k (omega (arith, order-length (definitions ws) n 128)),
-            order-below (definitions ws) n 128 k l,
+            List·getD-append o (replicate (room - n) 0) 0 k (omega (arith, order-length (definitions (lim .row) ws) n 512)),
+            order-below (definitions (lim .row) ws) n 512 k l,
           ))
       go (inr a) = rw a (omega (arith, zero-at room k))
 
-  pub entries-in : (room : ℕ) (r : Outcome) (o m : List ℕ) → Scheduled ws n room 128 r o m → length m ≡ 128 → (k : ℕ) → k < n
+  pub entries-in : (room : ℕ) (r : Outcome) (o m : List ℕ) → Scheduled lim ws n room 128 r o m → length m ≡ 128 → (k : ℕ) → k < n
       → getD o k 0 < length m
   entries-in room r o m s long k l = omega (arith, ap (λ (x : List ℕ). getD x k 0) (s .ordered), entries-low room k l, long)
 
-  module _ (room marks : ℕ) (a : accepts ws n room marks ≡ true) (defs : List Definition) (up : Within (definitions ws) defs)
-      (down : Within defs (definitions ws)) where
+  module _ (room marks : ℕ) (a : accepts lim ws n room marks ≡ true) (defs : List Definition) (up : Within (definitions (lim .row) ws) defs)
+      (down : Within defs (definitions (lim .row) ws)) where
     -- A place: its statement, and whether that was reached.
     pub place-in : (k : ℕ) → k < n
-        → (let i = getD (order defs n 128) k 0 in
-        PlaceIn (placeWord (orderBuffer ws n room marks) (reachedBuffer ws n room marks) k) i (mark (reached defs n 128 i)))
-    place-in k l = record { index = omega (arith, low, accepted ws n room marks a .few); both = rw a both }
+        → (let i = getD (order defs n 512) k 0 in
+        PlaceIn (placeWord (orderBuffer lim ws n room marks) (reachedBuffer lim ws n room marks) k) i (mark (reached defs n 512 i)))
+    place-in k l = record { index = omega (arith, low, accepted lim ws n room marks a .few); both = rw a both }
       where
-        low : getD (order defs n 128) k 0 < n
-        low = order-below defs n 128 k l
+        low : getD (order defs n 512) k 0 < n
+        low = order-below defs n 512 k l
 
-        first : getD (order (definitions ws) n 128 ++ replicate (room - n) 0) k 0 ≡ getD (order defs n 128) k 0
+        first : getD (order (definitions (lim .row) ws) n 512 ++ replicate (room - n) 0) k 0 ≡ getD (order defs n 512) k 0
         first =
-            List·getD-append (order (definitions ws) n 128) (replicate (room - n) 0) 0 k (omega (arith, order-length (definitions ws) n 128))
-            ∙ ap (λ (o : List ℕ). getD o k 0) (same-order (definitions ws) defs up down n 128)
+            List·getD-append (order (definitions (lim .row) ws) n 512) (replicate (room - n) 0) 0 k (omega (arith, order-length (definitions (lim .row) ws) n 512))
+            ∙ ap (λ (o : List ℕ). getD o k 0) (same-order (definitions (lim .row) ws) defs up down n 512)
 
-        second : getD (map (λ i. mark (reached (definitions ws) n 128 i)) (range 0 n) ++ replicate (marks - n) 0) (getD (order defs n 128) k 0) 0
-            ≡ mark (reached defs n 128 (getD (order defs n 128) k 0))
+        second : getD (map (λ i. mark (reached (definitions (lim .row) ws) n 512 i)) (range 0 n) ++ replicate (marks - n) 0) (getD (order defs n 512) k 0) 0
+            ≡ mark (reached defs n 512 (getD (order defs n 512) k 0))
         second =
-            let f : ℕ → ℕ = λ i. mark (reached (definitions ws) n 128 i) in
-            let i = getD (order defs n 128) k 0 in
+            let f : ℕ → ℕ = λ i. mark (reached (definitions (lim .row) ws) n 512 i) in
+            let i = getD (order defs n 512) k 0 in
             List·getD-append (map f (range 0 n)) (replicate (marks - n) 0) 0 i (omega (arith, low, length-map (range 0 n) f, length-range n))
-            ∙ getD-map-range f n i low ∙ ap mark (same-reached (definitions ws) defs up down n 128 i)
+            ∙ getD-map-range f n i low ∙ ap mark (same-reached (definitions (lim .row) ws) defs up down n 512 i)
 
-        both : placeWord (order (definitions ws) n 128 ++ replicate (room - n) 0) (map (λ i. mark (reached (definitions ws) n 128 i)) (range 0 n) ++ replicate (marks - n) 0) k
-            ≡ 2 * getD (order defs n 128) k 0 + mark (reached defs n 128 (getD (order defs n 128) k 0))
+        both : placeWord (order (definitions (lim .row) ws) n 512 ++ replicate (room - n) 0) (map (λ i. mark (reached (definitions (lim .row) ws) n 512 i)) (range 0 n) ++ replicate (marks - n) 0) k
+            ≡ 2 * getD (order defs n 512) k 0 + mark (reached defs n 512 (getD (order defs n 512) k 0))
         both =
-            let marked = map (λ i. mark (reached (definitions ws) n 128 i)) (range 0 n) ++ replicate (marks - n) 0 in
-            ap (λ (i : ℕ). 2 * i + getD marked i 0) first ∙ ap (λ (r : ℕ). 2 * getD (order defs n 128) k 0 + r) second
+            let marked = map (λ i. mark (reached (definitions (lim .row) ws) n 512 i)) (range 0 n) ++ replicate (marks - n) 0 in
+            ap (λ (i : ℕ). 2 * i + getD marked i 0) first ∙ ap (λ (r : ℕ). 2 * getD (order defs n 512) k 0 + r) second

@@ -1,18 +1,20 @@
 // The end of a query's analysis: its statements are scheduled, and its answer is stored.
 
-use crate::bases::ANSWERS;
 use crate::count::count_stmts;
-use answer::layout::BASE;
-use answer::layout::BLOCK;
+use blocks::BASE;
+use blocks::answers_of;
+use blocks::word_at;
 use gather::scope::Scope;
 use schedule::Outcome;
 use store::block::store_block;
 use store::places::store_places;
+use widths::Width;
 ghost use mathlib.Core.Path.{_≡_};
 ghost use Prim.Native.Nat.{ℕ, _+_, _*_, _≤_, _<_};
 ghost use lib.ListN.{length, getD};
+ghost use Rattle.widths.specs.Widths.{row};
+ghost use Rattle.blocks.specs.Layout as layout;
 ghost use Rattle.gather.specs.Sheets.{Accepted};
-ghost use Rattle.answer.specs.Stored.{wordAt};
 ghost use Rattle.frame.specs.Table.{answersOf, Based};
 ghost use Rattle.conclude.specs.Concluded.{isPlaced, AnswerWritten, Concluded};
 
@@ -39,14 +41,15 @@ fn store_answer(
     placed: bool,
     order: &[u16],
     reached: &[u16],
+    width: Width,
 )
-    requires { ⌜ (4736 ≤ length (now answers)) × (1 ≤ query) × (query ≤ 32) × (128 ≤ length (now spans)) ⌝ }
-    requires { ⌜ (wordAt (now answers) query 9 + count ≤ 128) × (count ≤ length (now order)) × ((k : ℕ) → k < count → getD (now order) k 0 < length (now reached)) ⌝ }
-    ensures { λ _. ⌜ AnswerWritten (now (answers .entry)) query scope (now (spans .entry)) count placed (now (order .entry)) (now (reached .entry)) (now (answers .exit)) ⌝ }
+    requires { ⌜ (layout.answers width ≤ length (now answers)) × (1 ≤ query) × (query ≤ 32) × (512 ≤ length (now spans)) ⌝ }
+    requires { ⌜ (layout.wordAt width (now answers) query 3 + count ≤ 128) × (count ≤ length (now order)) × ((k : ℕ) → k < count → getD (now order) k 0 < length (now reached)) ⌝ }
+    ensures { λ _. ⌜ AnswerWritten width (now (answers .entry)) query scope (now (spans .entry)) count placed (now (order .entry)) (now (reached .entry)) (now (answers .exit)) ⌝ }
 {
-    let base = answers[BLOCK * (query - 1) + BASE] as usize;
-    store_block(answers, query, scope, spans, count, base, placed);
-    store_places(answers, base, count, order, reached);
+    let base = word_at(width, answers, query, BASE) as usize;
+    store_block(answers, query, scope, spans, count, base, placed, width);
+    store_places(answers, base, count, order, reached, width);
 }
 
 // The first `count` rows of `work` are the query's definitions.
@@ -57,17 +60,19 @@ pub fn conclude(
     spans: &[u64],
     count: usize,
     work: &mut [u64],
+    width: Width,
 )
-    requires { ⌜ Accepted (now tables) × (1 ≤ query) × (query ≤ getD (now tables) 4 0) × (128 ≤ length (now spans)) ⌝ }
-    requires { ⌜ (4 * count + 4736 ≤ length (now work)) × Based (now tables) (answersOf (now work)) ⌝ }
-    ensures { λ _. ⌜ Concluded (now (tables .entry)) (now (work .entry)) query scope (now (spans .entry)) count (now (work .exit)) ⌝ }
+    requires { ⌜ Accepted (now tables) × (1 ≤ query) × (query ≤ getD (now tables) 4 0) × (512 ≤ length (now spans)) ⌝ }
+    requires { ⌜ (row width * count + layout.answers width ≤ length (now work)) × Based width (now tables) (answersOf width (now work)) ⌝ }
+    ensures { λ _. ⌜ Concluded width (now (tables .entry)) (now (work .entry)) query scope (now (spans .entry)) count (now (work .exit)) ⌝ }
 {
     let n = count_stmts(tables, query);
     let mut order: [u16; 128] = [0; 128];
     let mut reached: [u16; 128] = [0; 128];
-    let outcome = schedule::schedule(&work[..4 * count], n, &mut order, &mut reached);
+    let rows = width.row() * count;
+    let outcome = schedule::schedule(width, &work[..rows], n, &mut order, &mut reached);
     let placed = is_placed(outcome);
-    let at = work.len() - ANSWERS;
+    let at = work.len() - answers_of(width);
     store_answer(
         &mut work[at..],
         query,
@@ -77,5 +82,6 @@ pub fn conclude(
         placed,
         &order,
         &reached,
+        width,
     );
 }

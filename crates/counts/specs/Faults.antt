@@ -4,11 +4,12 @@ use mathlib.Core.List.{List, [], _∷_}
 use Prim.Native.Nat.{ℕ, _+_, _≤_, _<_}
 use native.Mathlib.Omega.{arith}
 use borrow.Author.Tests.{lt-ltb, le-ltb, eq-eqb, ne-eqb}
-use Rattle.text.specs.Limits as limits
-use Rattle.text.specs.Sections.{sections, lineOf}
-use Rattle.text.specs.Counts.{overLine, noQueryLine, countFault}
+use Rattle.basics.specs.Limits as limits
+use Rattle.basics.specs.Limits.{Limits}
+use Rattle.text.specs.Sections.{lineOf}
+use Rattle.text.specs.Counts.{mostRows, overLine, noQueryLine, countFault}
 
-module _ (a b c d e : ℕ) where
+module _ (lim : Limits) (a b c d e : ℕ) where
   abbrev ks : List ℕ
   ks = a ∷ b ∷ c ∷ d ∷ e ∷ []
 
@@ -25,45 +26,45 @@ module _ (a b c d e : ℕ) where
   abbrev pub queriesLine : ℕ
   queriesLine = statementsLine + d + 2
 
-  -- A section is over its limit, or none is.
-  some-over : (n : ℕ) → overLine ks 0 sections ≡ n + 1 → countFault ks ≡ n + 1
+  -- A section has too many rows, or none has.
+  some-over : (n : ℕ) → overLine ks 0 (mostRows lim) ≡ n + 1 → countFault lim ks ≡ n + 1
   unfolding countFault
   some-over n h = rw (h, ne-eqb (n + 1) 0 (λ z. omega arith))
 
-  none-over : overLine ks 0 sections ≡ 0 → countFault ks ≡ noQueryLine ks
+  none-over : overLine ks 0 (mostRows lim) ≡ 0 → countFault lim ks ≡ noQueryLine ks
   unfolding countFault
   none-over h = rw h
 
-  pub names-over : limits.names < a → countFault ks ≡ 1 + limits.names + 1
-  unfolding overLine sections lineOf
-  names-over h = some-over (1 + limits.names) (rw (lt-ltb limits.names a h) (omega arith))
+  pub names-over : lim .names < a → countFault lim ks ≡ 1 + lim .names + 1
+  unfolding overLine lineOf
+  names-over h = some-over (1 + lim .names) (rw (lt-ltb (lim .names) a h) (omega arith))
 
-  module _ (p : a ≤ limits.names) where
-    pub builtIns-over : limits.builtIns < b → countFault ks ≡ builtInsLine + limits.builtIns + 1
-    unfolding overLine sections lineOf
-    builtIns-over h = some-over (builtInsLine + limits.builtIns) (rw (le-ltb limits.names a p, lt-ltb limits.builtIns b h) (omega arith))
+  module _ (p : a ≤ lim .names) where
+    pub builtIns-over : limits.builtIns < b → countFault lim ks ≡ builtInsLine + limits.builtIns + 1
+    unfolding overLine lineOf
+    builtIns-over h = some-over (builtInsLine + limits.builtIns) (rw (le-ltb (lim .names) a p, lt-ltb limits.builtIns b h) (omega arith))
 
     module _ (q : b ≤ limits.builtIns) where
-      pub expressions-over : limits.expressions < c → countFault ks ≡ expressionsLine + limits.expressions + 1
-      unfolding overLine sections lineOf
+      pub expressions-over : limits.expressions < c → countFault lim ks ≡ expressionsLine + limits.expressions + 1
+      unfolding overLine lineOf
       expressions-over h =
           some-over (expressionsLine + limits.expressions)
-          (rw (le-ltb limits.names a p, le-ltb limits.builtIns b q, lt-ltb limits.expressions c h) (omega arith))
+          (rw (le-ltb (lim .names) a p, le-ltb limits.builtIns b q, lt-ltb limits.expressions c h) (omega arith))
 
       module _ (r : c ≤ limits.expressions) where
-        pub statements-over : limits.statements < d → countFault ks ≡ statementsLine + limits.statements + 1
-        unfolding overLine sections lineOf
+        pub statements-over : limits.statements < d → countFault lim ks ≡ statementsLine + limits.statements + 1
+        unfolding overLine lineOf
         statements-over h =
             some-over (statementsLine + limits.statements)
-            (rw (le-ltb limits.names a p, le-ltb limits.builtIns b q, le-ltb limits.expressions c r, lt-ltb limits.statements d h) (omega arith))
+            (rw (le-ltb (lim .names) a p, le-ltb limits.builtIns b q, le-ltb limits.expressions c r, lt-ltb limits.statements d h) (omega arith))
 
         module _ (s : d ≤ limits.statements) where
-          pub queries-over : limits.queries < e → countFault ks ≡ queriesLine + limits.queries + 1
-          unfolding overLine sections lineOf
+          pub queries-over : limits.queries < e → countFault lim ks ≡ queriesLine + limits.queries + 1
+          unfolding overLine lineOf
           queries-over h =
               some-over (queriesLine + limits.queries)
               (rw (
-                le-ltb limits.names a p,
+                le-ltb (lim .names) a p,
                 le-ltb limits.builtIns b q,
                 le-ltb limits.expressions c r,
                 le-ltb limits.statements d s,
@@ -71,21 +72,21 @@ module _ (a b c d e : ℕ) where
               ) (omega arith))
 
           module _ (t : e ≤ limits.queries) where
-            in-bounds : countFault ks ≡ noQueryLine ks
-            unfolding overLine sections lineOf
+            in-bounds : countFault lim ks ≡ noQueryLine ks
+            unfolding overLine lineOf
             in-bounds =
                 none-over (rw (
-                  le-ltb limits.names a p,
+                  le-ltb (lim .names) a p,
                   le-ltb limits.builtIns b q,
                   le-ltb limits.expressions c r,
                   le-ltb limits.statements d s,
                   le-ltb limits.queries e t,
                 ))
 
-            pub no-query : e ≡ 0 → countFault ks ≡ queriesLine
+            pub no-query : e ≡ 0 → countFault lim ks ≡ queriesLine
             unfolding noQueryLine lineOf
             no-query z = in-bounds ∙ rw (eq-eqb e 0 z) (omega arith)
 
-            pub some-query : (e ≡ 0 → ⊥) → countFault ks ≡ 0
+            pub some-query : (e ≡ 0 → ⊥) → countFault lim ks ≡ 0
             unfolding noQueryLine
             some-query n = in-bounds ∙ rw (ne-eqb e 0 n)

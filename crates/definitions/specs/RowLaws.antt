@@ -4,68 +4,79 @@ use mathlib.Core.List.{List, [], _∷_, _++_, map}
 use Prim.Native.Nat.{ℕ, zero, suc, _+_, _-_, _*_, _/_, _%_, _≤_, _<_}
 use native.Mathlib.Omega.{arith}
 use lib.ListN.{length, getD, take, drop}
-use lib.Seq.{take-all, drop-cons}
+use lib.Seq.{take-all, drop-cons, ext-getD, getD-append-add}
 use Rattle.basics.specs.Ranges.{counted, range}
 use Rattle.names.specs.Sets.{members}
 use Rattle.turns.specs.Definitions as Turns
+use Rattle.widths.specs.Widths.{wordsAt}
 use Rattle.rows.specs.Rows.{rowCount, definitionAt, definitions}
 use Rattle.definitions.specs.declared.Definition.{Definition}
 use Rattle.definitions.specs.Rows.{usedWord, rowsOfRecords, definitionOf}
 use Rattle.definitions.specs.Copies.{noRecord}
 
-pub rows-length : (ds : List Definition) → length (rowsOfRecords ds) ≡ 4 * length ds
+pub rows-length : (ds : List Definition) → length (rowsOfRecords ds) ≡ 10 * length ds
 rows-length [] = refl
 rows-length (d ∷ ds) = let l = rows-length ds in omega (arith, l)
 
-pub rows-whole : (ds : List Definition) → length (rowsOfRecords ds) % 4 ≡ 0
+pub rows-whole : (ds : List Definition) → length (rowsOfRecords ds) % 10 ≡ 0
 rows-whole ds = omega (arith, rows-length ds)
 
-pub rows-count : (ds : List Definition) → rowCount (rowsOfRecords ds) ≡ length ds
+pub rows-count : (ds : List Definition) → rowCount 10 (rowsOfRecords ds) ≡ length ds
 rows-count ds = omega (arith, rows-length ds)
 
 pub rows-append : (xs ys : List Definition) → rowsOfRecords (xs ++ ys) ≡ rowsOfRecords xs ++ rowsOfRecords ys
 rows-append [] ys = refl
-rows-append (d ∷ xs) ys = ap (λ (t : List ℕ). d .statement ∷ d .name ∷ usedWord d 0 ∷ usedWord d 1 ∷ t) (rows-append xs ys)
+rows-append (d ∷ xs) ys = ap (λ (t : List ℕ). d .statement ∷ d .name ∷ usedWord d 0 ∷ usedWord d 1 ∷ usedWord d 2 ∷ usedWord d 3 ∷ usedWord d 4 ∷ usedWord d 5 ∷ usedWord d 6 ∷ usedWord d 7 ∷ t) (rows-append xs ys)
 
 -- ---- what they define
 
--- A used set has two words, and these are all of it.
-pub used-whole : (d : Definition) → length (d .used .words) ≡ 2 → definitionOf d .used ≡ members (d .used .words)
-used-whole d h = ap members (two (d .used .words) h)
+-- A used set has eight words, and these are all of it.
+pub used-whole : (d : Definition) → length (d .used .words) ≡ 8 → definitionOf d .used ≡ members (d .used .words)
+used-whole d h = ap members (ext-getD 0 _ (d .used .words) (sym h) (λ k l. at k l))
   where
-    two : (l : List ℕ) → length l ≡ 2 → getD l 0 0 ∷ getD l 1 0 ∷ [] ≡ l
-    two [] h = absurd (omega arith)
-    two (a ∷ []) h = absurd (omega arith)
-    two (a ∷ b ∷ []) h = refl
-    two (a ∷ b ∷ c ∷ l) h = absurd (omega arith)
+    at : (k : ℕ) → k < 8 → getD (usedWord d 0 ∷ usedWord d 1 ∷ usedWord d 2 ∷ usedWord d 3 ∷ usedWord d 4 ∷ usedWord d 5 ∷ usedWord d 6 ∷ usedWord d 7 ∷ []) k 0 ≡ getD (d .used .words) k 0
+    at zero l = refl
+    at (suc zero) l = refl
+    at (suc (suc zero)) l = refl
+    at (suc (suc (suc zero))) l = refl
+    at (suc (suc (suc (suc zero)))) l = refl
+    at (suc (suc (suc (suc (suc zero))))) l = refl
+    at (suc (suc (suc (suc (suc (suc zero)))))) l = refl
+    at (suc (suc (suc (suc (suc (suc (suc zero))))))) l = refl
+    at (suc (suc (suc (suc (suc (suc (suc (suc k)))))))) l = absurd (omega arith)
 
 -- A row more in front moves every row by one.
-row-on : (a b c d : ℕ) (ws : List ℕ) (k : ℕ) → definitionAt (a ∷ b ∷ c ∷ d ∷ ws) (suc k) ≡ definitionAt ws k
-row-on a b c d ws k = λ j. record {
-  statement = at (4 * suc k) (4 * k) (omega arith) j;
-  var = at (4 * suc k + 1) (4 * k + 1) (omega arith) j;
-  used = members (at (4 * suc k + 2) (4 * k + 2) (omega arith) j ∷ at (4 * suc k + 3) (4 * k + 3) (omega arith) j ∷ []);
-}
+row-on : (front ws : List ℕ) → length front ≡ 10 → (k : ℕ) → definitionAt 10 (front ++ ws) (suc k) ≡ definitionAt 10 ws k
+row-on front ws long k =
+    rw (
+      at (10 * suc k) (10 * k) (omega arith),
+      at (10 * suc k + 1) (10 * k + 1) (omega arith),
+      words 8 (10 * suc k + 2) (10 * k + 2) (omega arith),
+    )
   where
-    at : (p q : ℕ) → p ≡ suc (suc (suc (suc q))) → getD (a ∷ b ∷ c ∷ d ∷ ws) p 0 ≡ getD ws q 0
-    at p q e = ap (λ (x : ℕ). getD (a ∷ b ∷ c ∷ d ∷ ws) x 0) e
+    at : (p q : ℕ) → p ≡ 10 + q → getD (front ++ ws) p 0 ≡ getD ws q 0
+    at p q e = ap (λ (x : ℕ). getD (front ++ ws) x 0) (e ∙ ap (λ (n : ℕ). n + q) (sym long)) ∙ getD-append-add front ws q 0
+
+    words : (n p q : ℕ) → p ≡ 10 + q → wordsAt n (front ++ ws) p ≡ wordsAt n ws q
+    words zero p q e = refl
+    words (suc n) p q e = ap₂ (λ (x : ℕ) (l : List ℕ). x ∷ l) (at p q e) (words n (suc p) (suc q) (omega arith))
 
 -- Row k is record k.
-row-at : (ds : List Definition) (k : ℕ) → k < length ds → definitionAt (rowsOfRecords ds) k ≡ definitionOf (getD ds k noRecord)
+row-at : (ds : List Definition) (k : ℕ) → k < length ds → definitionAt 10 (rowsOfRecords ds) k ≡ definitionOf (getD ds k noRecord)
 row-at [] k h = absurd (omega arith)
 row-at (d ∷ ds) zero h = refl
-row-at (d ∷ ds) (suc k) h = row-on _ _ _ _ (rowsOfRecords ds) k ∙ row-at ds k (omega arith)
+row-at (d ∷ ds) (suc k) h = row-on (d .statement ∷ d .name ∷ usedWord d 0 ∷ usedWord d 1 ∷ usedWord d 2 ∷ usedWord d 3 ∷ usedWord d 4 ∷ usedWord d 5 ∷ usedWord d 6 ∷ usedWord d 7 ∷ []) (rowsOfRecords ds) refl k ∙ row-at ds k (omega arith)
 
 rows-from : (ds : List Definition) (k c : ℕ) → k + c ≤ length ds
-    → map (definitionAt (rowsOfRecords ds)) (counted k c) ≡ map definitionOf (take c (drop k ds))
+    → map (definitionAt 10 (rowsOfRecords ds)) (counted k c) ≡ map definitionOf (take c (drop k ds))
 rows-from ds k zero h = refl
 rows-from ds k (suc c) h =
     ap₂ (λ (d : Turns.Definition) (t : List Turns.Definition). d ∷ t) (row-at ds k (omega arith)) (rows-from ds (suc k) c (omega arith))
     ∙ ap (λ (x : List Definition). map definitionOf (take (suc c) x)) (sym (drop-cons ds k noRecord (omega arith)))
 
-pub rows-define : (ds : List Definition) → definitions (rowsOfRecords ds) ≡ map definitionOf ds
+pub rows-define : (ds : List Definition) → definitions 10 (rowsOfRecords ds) ≡ map definitionOf ds
 unfolding definitions range
 rows-define ds =
-    let n : rowCount (rowsOfRecords ds) - 0 ≡ length ds = omega (arith, rows-length ds) in
-    ap (λ (c : ℕ). map (definitionAt (rowsOfRecords ds)) (counted 0 c)) n ∙ rows-from ds 0 (length ds) (omega arith)
+    let n : rowCount 10 (rowsOfRecords ds) - 0 ≡ length ds = omega (arith, rows-length ds) in
+    ap (λ (c : ℕ). map (definitionAt 10 (rowsOfRecords ds)) (counted 0 c)) n ∙ rows-from ds 0 (length ds) (omega arith)
     ∙ ap (map definitionOf) (take-all (length ds) ds (omega arith))

@@ -3,17 +3,21 @@
 
 use names::Names;
 use rows::DEFINITIONS;
-use rows::ROW;
 use schedule::Outcome;
+use widths::Width;
 ghost use mathlib.Core.Path.{_≡_};
 ghost use mathlib.Core.List.{List};
 ghost use Prim.Native.Nat.{_*_, _<_, _≤_};
 ghost use lib.ListN.{length, take};
+ghost use Rattle.basics.specs.Limits.{library};
 ghost use Rattle.schedule.specs.Call.{Scheduled};
 ghost use Rattle.definitions.specs.declared.Definition.{Definition};
 ghost use Rattle.definitions.specs.Rows.{rowsOfRecords};
 ghost use Rattle.definitions.specs.Copies.{CopyOf};
 ghost use Rattle.definitions.specs.Puts.{putRow};
+
+// The words of a row: sets have eight.
+const ROW: usize = 10;
 
 // The words of as many rows as a list may have.
 pub const ROWS: usize = ROW * DEFINITIONS;
@@ -67,12 +71,18 @@ fn put_row(words: &mut [u64; ROWS], i: usize, definition: Definition)
     words[ROW * i + 1] = definition.name as u64;
     words[ROW * i + 2] = used.words[0];
     words[ROW * i + 3] = used.words[1];
+    words[ROW * i + 4] = used.words[2];
+    words[ROW * i + 5] = used.words[3];
+    words[ROW * i + 6] = used.words[4];
+    words[ROW * i + 7] = used.words[5];
+    words[ROW * i + 8] = used.words[6];
+    words[ROW * i + 9] = used.words[7];
 }
 
 // The rows of the first `len` records.
 fn rows_of(all: [Definition; DEFINITIONS], len: usize) -> [u64; ROWS]
     requires { ⌜ len ≤ 640 ⌝ }
-    ensures { λ r. ⌜ take (4 * len) r ≡ rowsOfRecords (take len all) ⌝ }
+    ensures { λ r. ⌜ take (10 * len) r ≡ rowsOfRecords (take len all) ⌝ }
 {
     let mut words = [0u64; ROWS];
     let mut i: usize = 0;
@@ -92,7 +102,7 @@ pub fn schedule_copy(
     order: &mut [u16],
     reached: &mut [u16],
 ) -> Outcome
-    ensures { λ r. ⌜ ((records : List Definition) → length records ≡ len → CopyOf all records → Scheduled (rowsOfRecords records) statements (length (now (order .entry))) (length (now (reached .entry))) r (now (order .exit)) (now (reached .exit))) ⌝ }
+    ensures { λ r. ⌜ ((records : List Definition) → length records ≡ len → CopyOf all records → Scheduled library (rowsOfRecords records) statements (length (now (order .entry))) (length (now (reached .entry))) r (now (order .exit)) (now (reached .exit))) ⌝ }
 {
     if DEFINITIONS < len {
         buffers::clear(order);
@@ -101,5 +111,5 @@ pub fn schedule_copy(
     }
     let words = rows_of(all, len);
     let end = ROW * len;
-    schedule::schedule(&words[..end], statements, order, reached)
+    schedule::schedule(Width::Eight, &words[..end], statements, order, reached)
 }

@@ -1,28 +1,35 @@
--- The table of schedules, in the last 4,736 words of the lent work.
+-- The table of schedules, in the last words of the lent work.
 use mathlib.Core.Path.{_≡_}
+use mathlib.Core.Bool.{true}
 use mathlib.Core.List.{List, List·Memᴰ}
-use Prim.Native.Nat.{ℕ, _+_, _-_, _≤_, _<_}
+use Prim.Native.Nat.{ℕ, _+_, _-_, _*_, _≤_, _<_}
+use lib.Dec.{ltb}
 use lib.ListN.{length, getD, drop}
+use Rattle.basics.specs.Lists.{all}
+use Rattle.widths.specs.declared.Width.{Width}
+use Rattle.widths.specs.Widths.{words}
+use Rattle.blocks.specs.Layout.{answers, wordAt}
 use Rattle.turns.specs.Definitions.{Definition}
-use Rattle.trees.specs.Sheet.{Sheet, nameBound}
 use Rattle.trees.specs.Statements.{stmtsOf}
 use Rattle.scopes.specs.Scopes.{Scope}
 use Rattle.scopes.specs.Below.{Below}
 use Rattle.analysis.specs.States.{QuerySchedule}
+use Rattle.once.specs.Named.{NamesUnder}
 use Rattle.once.specs.Schedules.{Each}
 use Rattle.sizes.specs.Adds.{Fits}
 use Rattle.sizes.specs.Sums.{sumTo}
-use Rattle.answer.specs.Stored.{wordAt, Stored}
+use Rattle.answer.specs.Stored.{Stored}
 use Rattle.gather.specs.Sheets.{sheetAt}
 
 -- The words of all answers.
-abbrev pub answersOf : List ℕ → List ℕ
-answersOf w = drop (length w - 4736) w
+abbrev pub answersOf : Width → List ℕ → List ℕ
+answersOf v w = drop (length w - answers v) w
 
--- The names of a scope and of its definitions lie below the bound.
-pub record Low (sc : Scope) (defs : List Definition) : Type 0 where
-  pub scope : Below sc
-  pub named : (d : Definition) → List·Memᴰ d defs → d .var < nameBound
+-- The names of a scope and of its definitions lie below n.
+pub record Low (n : ℕ) (sc : Scope) (defs : List Definition) : Type 0 where
+  pub scope : Below n sc
+  pub named : (d : Definition) → List·Memᴰ d defs → d .var < n
+  pub used : (d : Definition) → List·Memᴰ d defs → all (λ x. ltb x n) (d .used) ≡ true
 
 module _ (t : List ℕ) where
   -- How many statements query q has.
@@ -33,14 +40,17 @@ module _ (t : List ℕ) where
   abbrev pub baseAt : ℕ → ℕ
   baseAt q = sumTo countAt (q - 1)
 
+module _ (v : Width) (t : List ℕ) where
   -- Each block says where its query's places begin.
   abbrev pub Based : List ℕ → Type 0
-  Based answers = (q : ℕ) → 1 ≤ q → q ≤ getD t 4 0 → wordAt answers q 9 ≡ baseAt q
+  Based l = (q : ℕ) → 1 ≤ q → q ≤ getD t 4 0 → wordAt v l q 3 ≡ baseAt t q
 
-  -- The words hold these schedules, which are those of queries of this sheet.
+  -- The words hold these schedules, which are those of queries of this sheet. Its names have room in the width's words, and so have those of
+  -- all that is stored.
   pub record Table (w : List ℕ) (schedules : List QuerySchedule) : Type 0 where
-    pub enough : 4736 ≤ length w
-    pub stored : Stored (answersOf w) schedules
-    pub based : Based (answersOf w)
+    pub enough : answers v ≤ length w
+    pub stored : Stored v (answersOf v w) schedules
+    pub based : Based (answersOf v w)
     pub fits : (a : QuerySchedule) → List·Memᴰ a schedules → Fits (sheetAt t) a
-    pub low : Each Low schedules
+    pub narrow : NamesUnder (64 * words v) (sheetAt t)
+    pub low : Each (Low (64 * words v)) schedules

@@ -15,19 +15,19 @@ abbrev pub changed : List ℕ → (ℕ → ℕ → ℕ) → ℕ → ℕ → ℕ
 changed ws f x v = cond (member ws x) (f x v) v
 
 module _ (ws : List ℕ) (f : ℕ → ℕ → ℕ) (l : List ℕ) where
-  -- The numbers of the names below n are changed, and the others not yet; n is the next member, or 128.
+  -- The numbers of the names below n are changed, and the others not yet; n is the next member, or 512.
   pub record Changing (m : List ℕ) (n : ℕ) : Type 0 where
-    pub high : n ≤ 128
-    pub here : n < 128 → member ws n ≡ true
+    pub high : n ≤ 512
+    pub here : n < 512 → member ws n ≡ true
     pub size : length m ≡ length l
     pub done : (x : ℕ) → x < n → getD m x 0 ≡ changed ws f x (getD l x 0)
     pub rest : (x : ℕ) → n ≤ x → getD m x 0 ≡ getD l x 0
 
   -- All of them are changed.
   pub record Changed (m : List ℕ) : Type 0 where
-    pub has : (x : ℕ) → x < 128 → getD m x 0 ≡ changed ws f x (getD l x 0)
+    pub has : (x : ℕ) → x < 512 → getD m x 0 ≡ changed ws f x (getD l x 0)
 
-  pub changing-first : (n : ℕ) → Next ws 128 0 n → Changing l n
+  pub changing-first : (n : ℕ) → Next ws 512 0 n → Changing l n
   changing-first n next = record {
     high = next .high;
     here = next .found;
@@ -37,7 +37,7 @@ module _ (ws : List ℕ) (f : ℕ → ℕ → ℕ) (l : List ℕ) where
   }
 
   module _ (m : List ℕ) (n : ℕ) (c : Changing m n) where
-    pub changing-next : n < 128 → n < length m → (v : ℕ) → v ≡ f n (getD m n 0) → (y : ℕ) → Next ws 128 (n + 1) y → Changing (set m n v) y
+    pub changing-next : n < 512 → n < length m → (v : ℕ) → v ≡ f n (getD m n 0) → (y : ℕ) → Next ws 512 (n + 1) y → Changing (set m n v) y
     changing-next low room v is y next = record {
       high = next .high;
       here = next .found;
@@ -55,5 +55,5 @@ module _ (ws : List ℕ) (f : ℕ → ℕ → ℕ) (l : List ℕ) where
         go x under (inr ne) (inr above) =
             getD-set-other m n x v 0 ne ∙ c .rest x above ∙ sym (rw (next .gap x (omega arith) under))
 
-    pub changing-all : 128 ≤ n → Changed m
+    pub changing-all : 512 ≤ n → Changed m
     changing-all end = record { has = λ x low. c .done x (omega arith) }

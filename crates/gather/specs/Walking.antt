@@ -44,7 +44,7 @@ module _ (t : List ℕ) where
     pub row-low : r ≤ 512
     row-low = omega (arith, ok .within .few-exprs)
 
-    pub low-name : rowAt t r .name < 128
+    pub low-name : rowAt t r .name < 512
     low-name = name-low (countsAt t) t (ok .within) (ok .facts) r (omega arith) high
 
     goes : (v m : ℕ) → remains r ≡ m → Onward (getD t 2 0) r v → Falls m v

@@ -33,7 +33,7 @@ fn assign_var(
     scope: Scope,
     spans: &mut [u64],
 ) -> Scope
-    requires { ⌜ (8192 ≤ length (now tables)) × (128 ≤ length (now outer)) × (w .name < 128) × (128 ≤ length (now spans)) ⌝ }
+    requires { ⌜ (8192 ≤ length (now tables)) × (512 ≤ length (now outer)) × (w .name < 512) × (512 ≤ length (now spans)) ⌝ }
     ensures { λ r. ⌜ AssignVar (now (tables .entry)) (now (outer .entry)) w «can_shadow» scope (now (spans .entry)) r (now (spans .exit)) ⌝ }
 {
     if is_special(tables, w.name) {
@@ -59,7 +59,7 @@ fn assign_step(
     scope: Scope,
     spans: &mut [u64],
 ) -> Scope
-    requires { ⌜ (8192 ≤ length (now tables)) × (128 ≤ length (now outer)) × (w .name < 128) × (128 ≤ length (now spans)) ⌝ }
+    requires { ⌜ (8192 ≤ length (now tables)) × (512 ≤ length (now outer)) × (w .name < 512) × (512 ≤ length (now spans)) ⌝ }
     ensures { λ r. ⌜ AssignStep (now (tables .entry)) (now (outer .entry)) w «can_shadow» scope (now (spans .entry)) r (now (spans .exit)) ⌝ }
 {
     if w.kind == VAR {
@@ -92,7 +92,7 @@ pub fn gather_assigned_vars(
     scope: Scope,
     spans: &mut [u64],
 ) -> Scope
-    requires { ⌜ Accepted (now tables) × (128 ≤ length (now outer)) × (row ≤ getD (now tables) 2 0) × (128 ≤ length (now spans)) ⌝ }
+    requires { ⌜ Accepted (now tables) × (512 ≤ length (now outer)) × (row ≤ getD (now tables) 2 0) × (512 ≤ length (now spans)) ⌝ }
     ensures { λ r. ⌜ AssignWalk (now (tables .entry)) (now (outer .entry)) row rest «can_shadow» scope (now (spans .entry)) r (now (spans .exit)) ⌝ }
 {
     if row == 0 {

@@ -17,8 +17,8 @@ fn lesser(a: u64, b: u64) -> u64
 
 // `to` receives the number of each name.
 fn copy(from: &[u64], to: &mut [u64])
-    requires { ⌜ (128 ≤ length (now from)) × (128 ≤ length (now to)) ⌝ }
-    ensures { λ _. ⌜ Copied (now (from .entry)) 128 (now (to .exit)) ⌝ }
+    requires { ⌜ (512 ≤ length (now from)) × (512 ≤ length (now to)) ⌝ }
+    ensures { λ _. ⌜ Copied (now (from .entry)) 512 (now (to .exit)) ⌝ }
 {
     for name in 0..CAPACITY {
         to[name] = from[name];
@@ -27,7 +27,7 @@ fn copy(from: &[u64], to: &mut [u64])
 
 // A local exists from its line on, where it did not before.
 fn lower_locals(locals: Names, spans: &[u64], inner: &mut [u64])
-    requires { ⌜ (128 ≤ length (now spans)) × (128 ≤ length (now inner)) ⌝ }
+    requires { ⌜ (512 ≤ length (now spans)) × (512 ≤ length (now inner)) ⌝ }
     ensures { λ _. ⌜ Lowered (locals .words) (now (spans .entry)) (now (inner .entry)) (now (inner .exit)) ⌝ }
 {
     let mut name = locals.next(0);
@@ -39,7 +39,7 @@ fn lower_locals(locals: Names, spans: &[u64], inner: &mut [u64])
 
 // An unscoped name exists at every line.
 fn clear_unscoped(unscoped: Names, inner: &mut [u64])
-    requires { ⌜ 128 ≤ length (now inner) ⌝ }
+    requires { ⌜ 512 ≤ length (now inner) ⌝ }
     ensures { λ _. ⌜ Cleared (unscoped .words) (now (inner .entry)) (now (inner .exit)) ⌝ }
 {
     let mut name = unscoped.next(0);
@@ -51,7 +51,7 @@ fn clear_unscoped(unscoped: Names, inner: &mut [u64])
 
 // `inner` receives what `outer` is, with the scope that has its locals at `spans`.
 pub fn enclose(outer: &[u64], scope: Scope, spans: &[u64], inner: &mut [u64])
-    requires { ⌜ (128 ≤ length (now outer)) × (128 ≤ length (now spans)) × (128 ≤ length (now inner)) ⌝ }
+    requires { ⌜ (512 ≤ length (now outer)) × (512 ≤ length (now spans)) × (512 ≤ length (now inner)) ⌝ }
     ensures { λ _. ⌜ Encloses (now (outer .entry)) scope (now (spans .entry)) (now (inner .exit)) ⌝ }
 {
     copy(outer, inner);

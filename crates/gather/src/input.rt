@@ -18,7 +18,7 @@ const VAR: u16 = 6;
 
 // A variable: `input` sets the flag, and a name that is not unscoped so far and exists is an input.
 fn input_var(tables: &[u16], outer: &[u64], w: Row, scope: Scope) -> Scope
-    requires { ⌜ (8192 ≤ length (now tables)) × (128 ≤ length (now outer)) × (w .name < 128) ⌝ }
+    requires { ⌜ (8192 ≤ length (now tables)) × (512 ≤ length (now outer)) × (w .name < 512) ⌝ }
     ensures { λ r. ⌜ InputVar (now (tables .entry)) (now (outer .entry)) w scope r ⌝ }
 {
     if is_input(tables, w.name) {
@@ -36,7 +36,7 @@ fn input_var(tables: &[u16], outer: &[u64], w: Row, scope: Scope) -> Scope
 
 // Any expression.
 fn input_step(tables: &[u16], outer: &[u64], w: Row, scope: Scope) -> Scope
-    requires { ⌜ (8192 ≤ length (now tables)) × (128 ≤ length (now outer)) × (w .name < 128) ⌝ }
+    requires { ⌜ (8192 ≤ length (now tables)) × (512 ≤ length (now outer)) × (w .name < 512) ⌝ }
     ensures { λ r. ⌜ InputStep (now (tables .entry)) (now (outer .entry)) w scope r ⌝ }
 {
     if w.kind == VAR {
@@ -54,7 +54,7 @@ pub fn gather_input_vars(
     rest: bool,
     scope: Scope,
 ) -> Scope
-    requires { ⌜ Accepted (now tables) × (128 ≤ length (now outer)) × (row ≤ getD (now tables) 2 0) ⌝ }
+    requires { ⌜ Accepted (now tables) × (512 ≤ length (now outer)) × (row ≤ getD (now tables) 2 0) ⌝ }
     ensures { λ r. ⌜ InputWalk (now (tables .entry)) (now (outer .entry)) row rest scope r ⌝ }
 {
     if row == 0 {

@@ -14,7 +14,7 @@ ghost use Rattle.gather.specs.Queries.{StmtsStep, Gathered};
 
 // The statements from a row on.
 fn gather_stmts(tables: &[u16], outer: &[u64], row: usize, scope: Scope, spans: &mut [u64]) -> Scope
-    requires { ⌜ Accepted (now tables) × (128 ≤ length (now outer)) × (row ≤ getD (now tables) 3 0) × (128 ≤ length (now spans)) ⌝ }
+    requires { ⌜ Accepted (now tables) × (512 ≤ length (now outer)) × (row ≤ getD (now tables) 3 0) × (512 ≤ length (now spans)) ⌝ }
     ensures { λ r. ⌜ StmtsStep (now (tables .entry)) (now (outer .entry)) row scope (now (spans .entry)) r (now (spans .exit)) ⌝ }
 {
     if row == 0 {
@@ -34,7 +34,7 @@ pub fn gather_local_vars(
     value: usize,
     spans: &mut [u64],
 ) -> Scope
-    requires { ⌜ Accepted (now tables) × (128 ≤ length (now outer)) × (1 ≤ query) × (query ≤ getD (now tables) 4 0) × (key ≤ getD (now tables) 2 0) × (value ≤ getD (now tables) 2 0) × (128 ≤ length (now spans)) ⌝ }
+    requires { ⌜ Accepted (now tables) × (512 ≤ length (now outer)) × (1 ≤ query) × (query ≤ getD (now tables) 4 0) × (key ≤ getD (now tables) 2 0) × (value ≤ getD (now tables) 2 0) × (512 ≤ length (now spans)) ⌝ }
     ensures { λ r. ⌜ Gathered (now (tables .entry)) (now (outer .entry)) query key value r (now (spans .exit)) ⌝ }
 {
     let none = Scope::empty();

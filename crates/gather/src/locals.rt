@@ -16,7 +16,7 @@ ghost use Rattle.gather.specs.Locals.{LocalStep, LocalsEach};
 const VAR: u16 = 6;
 
 fn local_step(w: Row, scope: Scope, spans: &mut [u64]) -> Scope
-    requires { ⌜ (w .name < 128) × (128 ≤ length (now spans)) ⌝ }
+    requires { ⌜ (w .name < 512) × (512 ≤ length (now spans)) ⌝ }
     ensures { λ r. ⌜ LocalStep w scope (now (spans .entry)) r (now (spans .exit)) ⌝ }
 {
     if w.kind == VAR {
@@ -28,7 +28,7 @@ fn local_step(w: Row, scope: Scope, spans: &mut [u64]) -> Scope
 
 // Those of the chain from a row on.
 pub fn add_locals(tables: &[u16], row: usize, scope: Scope, spans: &mut [u64]) -> Scope
-    requires { ⌜ Accepted (now tables) × (row ≤ getD (now tables) 2 0) × (128 ≤ length (now spans)) ⌝ }
+    requires { ⌜ Accepted (now tables) × (row ≤ getD (now tables) 2 0) × (512 ≤ length (now spans)) ⌝ }
     ensures { λ r. ⌜ LocalsEach (now (tables .entry)) row scope (now (spans .entry)) r (now (spans .exit)) ⌝ }
 {
     if row == 0 {

@@ -21,7 +21,7 @@ const REF_BRACK: u16 = 16;
 
 // Any expression.
 fn loop_step(tables: &[u16], outer: &[u64], w: Row, scope: Scope, spans: &mut [u64]) -> Scope
-    requires { ⌜ Accepted (now tables) × (128 ≤ length (now outer)) × (w .second ≤ getD (now tables) 2 0) × (128 ≤ length (now spans)) ⌝ }
+    requires { ⌜ Accepted (now tables) × (512 ≤ length (now outer)) × (w .second ≤ getD (now tables) 2 0) × (512 ≤ length (now spans)) ⌝ }
     ensures { λ r. ⌜ LoopStep (now (tables .entry)) (now (outer .entry)) w scope (now (spans .entry)) r (now (spans .exit)) ⌝ }
 {
     if w.kind == REF_BRACK {
@@ -43,7 +43,7 @@ pub fn gather_loop_vars(
     scope: Scope,
     spans: &mut [u64],
 ) -> Scope
-    requires { ⌜ Accepted (now tables) × (128 ≤ length (now outer)) × (row ≤ getD (now tables) 2 0) × (128 ≤ length (now spans)) ⌝ }
+    requires { ⌜ Accepted (now tables) × (512 ≤ length (now outer)) × (row ≤ getD (now tables) 2 0) × (512 ≤ length (now spans)) ⌝ }
     ensures { λ r. ⌜ LoopWalk (now (tables .entry)) (now (outer .entry)) row rest scope (now (spans .entry)) r (now (spans .exit)) ⌝ }
 {
     if row == 0 {

@@ -10,7 +10,7 @@ ghost use Rattle.gather.specs.Outers.{Exists};
 
 // `var_exists`.
 pub fn var_exists(outer: &[u64], w: Row) -> bool
-    requires { ⌜ (128 ≤ length (now outer)) × (w .name < 128) ⌝ }
+    requires { ⌜ (512 ≤ length (now outer)) × (w .name < 512) ⌝ }
     ensures { λ r. ⌜ Exists (now (outer .entry)) w r ⌝ }
 {
     let name = w.name as usize;

@@ -26,7 +26,7 @@ impl Scope {
     }
 
     pub fn add_local(self, name: usize) -> Scope
-        requires { ⌜ name < 128 ⌝ }
+        requires { ⌜ name < 512 ⌝ }
         ensures { λ r. ⌜ WithLocal self name r ⌝ }
     {
         let locals = self.locals.insert(name);
@@ -41,7 +41,7 @@ impl Scope {
     }
 
     pub fn add_unscoped(self, name: usize) -> Scope
-        requires { ⌜ name < 128 ⌝ }
+        requires { ⌜ name < 512 ⌝ }
         ensures { λ r. ⌜ WithUnscoped self name r ⌝ }
     {
         let locals = self.locals;
@@ -56,7 +56,7 @@ impl Scope {
     }
 
     pub fn add_input(self, name: usize) -> Scope
-        requires { ⌜ name < 128 ⌝ }
+        requires { ⌜ name < 512 ⌝ }
         ensures { λ r. ⌜ WithInput self name r ⌝ }
     {
         let locals = self.locals;

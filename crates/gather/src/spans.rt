@@ -7,7 +7,7 @@ ghost use lib.ListN.{length, set};
 ghost use Rattle.gather.specs.Spans.{spanWord};
 
 pub fn put_span(spans: &mut [u64], w: Row)
-    requires { ⌜ (128 ≤ length (now spans)) × (w .name < 128) ⌝ }
+    requires { ⌜ (512 ≤ length (now spans)) × (w .name < 512) ⌝ }
     ensures { λ _. ⌜ now (spans .exit) ≡ set (now (spans .entry)) (w .name) (spanWord w) ⌝ }
 {
     let name = w.name as usize;

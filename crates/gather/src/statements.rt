@@ -28,7 +28,7 @@ const NOT_EXPR: u16 = 4;
 
 // An expression by itself: an assignment binds, and so does an extra argument.
 fn gather_expr(tables: &[u16], outer: &[u64], row: usize, scope: Scope, spans: &mut [u64]) -> Scope
-    requires { ⌜ Accepted (now tables) × (128 ≤ length (now outer)) × (row ≤ getD (now tables) 2 0) × (128 ≤ length (now spans)) ⌝ }
+    requires { ⌜ Accepted (now tables) × (512 ≤ length (now outer)) × (row ≤ getD (now tables) 2 0) × (512 ≤ length (now spans)) ⌝ }
     ensures { λ r. ⌜ ExprStep (now (tables .entry)) (now (outer .entry)) row scope (now (spans .entry)) r (now (spans .exit)) ⌝ }
 {
     if row == 0 {
@@ -50,7 +50,7 @@ fn gather_literal(
     scope: Scope,
     spans: &mut [u64],
 ) -> Scope
-    requires { ⌜ Accepted (now tables) × (128 ≤ length (now outer)) × Named (now tables) st × (128 ≤ length (now spans)) ⌝ }
+    requires { ⌜ Accepted (now tables) × (512 ≤ length (now outer)) × Named (now tables) st × (512 ≤ length (now spans)) ⌝ }
     ensures { λ r. ⌜ LiteralStep (now (tables .entry)) (now (outer .entry)) st scope (now (spans .entry)) r (now (spans .exit)) ⌝ }
 {
     if st.form == SOME_VARS {
@@ -78,7 +78,7 @@ pub fn gather_stmt(
     scope: Scope,
     spans: &mut [u64],
 ) -> Scope
-    requires { ⌜ Accepted (now tables) × (128 ≤ length (now outer)) × Named (now tables) st × (128 ≤ length (now spans)) ⌝ }
+    requires { ⌜ Accepted (now tables) × (512 ≤ length (now outer)) × Named (now tables) st × (512 ≤ length (now spans)) ⌝ }
     ensures { λ r. ⌜ StmtStep (now (tables .entry)) (now (outer .entry)) st scope (now (spans .entry)) r (now (spans .exit)) ⌝ }
 {
     let s = gather_read_each(tables, outer, st.with as usize, scope, spans);

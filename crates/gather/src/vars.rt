@@ -28,7 +28,7 @@ pub fn gather_read(
     scope: Scope,
     spans: &mut [u64],
 ) -> Scope
-    requires { ⌜ Accepted (now tables) × (128 ≤ length (now outer)) × (row ≤ getD (now tables) 2 0) × (128 ≤ length (now spans)) ⌝ }
+    requires { ⌜ Accepted (now tables) × (512 ≤ length (now outer)) × (row ≤ getD (now tables) 2 0) × (512 ≤ length (now spans)) ⌝ }
     ensures { λ r. ⌜ ReadWalk (now (tables .entry)) (now (outer .entry)) row rest scope (now (spans .entry)) r (now (spans .exit)) ⌝ }
 {
     let s = gather_input_vars(tables, outer, row, rest, scope);
@@ -54,7 +54,7 @@ fn gather_bound(
     scope: Scope,
     spans: &mut [u64],
 ) -> Scope
-    requires { ⌜ Accepted (now tables) × (128 ≤ length (now outer)) × (row ≤ getD (now tables) 2 0) × (128 ≤ length (now spans)) ⌝ }
+    requires { ⌜ Accepted (now tables) × (512 ≤ length (now outer)) × (row ≤ getD (now tables) 2 0) × (512 ≤ length (now spans)) ⌝ }
     ensures { λ r. ⌜ BoundWalk (now (tables .entry)) (now (outer .entry)) row rest «can_shadow» scope (now (spans .entry)) r (now (spans .exit)) ⌝ }
 {
     if row == 0 {
@@ -79,7 +79,7 @@ pub fn gather_vars(
     scope: Scope,
     spans: &mut [u64],
 ) -> Scope
-    requires { ⌜ Accepted (now tables) × (128 ≤ length (now outer)) × (row ≤ getD (now tables) 2 0) × (128 ≤ length (now spans)) ⌝ }
+    requires { ⌜ Accepted (now tables) × (512 ≤ length (now outer)) × (row ≤ getD (now tables) 2 0) × (512 ≤ length (now spans)) ⌝ }
     ensures { λ r. ⌜ VarsWalk (now (tables .entry)) (now (outer .entry)) row rest «can_shadow» scope (now (spans .entry)) r (now (spans .exit)) ⌝ }
 {
     let s = gather_bound(tables, outer, row, rest, can_shadow, scope, spans);

@@ -4,6 +4,7 @@ use mathlib.Core.Bool.{true}
 use mathlib.Core.List.{List, _∷_, foldl, List·Memᴰ, List·Memᴰ·head}
 use Prim.Native.Nat.{ℕ, suc}
 use lib.ListN.{length}
+use lib.Dec.{ltb}
 use Rattle.basics.specs.Lists.{all}
 use Rattle.trees.specs.Sheet.{Sheet}
 use Rattle.trees.specs.Trees.{Tree}
@@ -16,7 +17,7 @@ use Rattle.once.specs.Statements.{processStmts}
 use Rattle.analysis.specs.Queries.{scheduled}
 use Rattle.once.specs.Queries.{analyzeOutputExpr, analyzeQuery, analyzeOnce}
 use Rattle.once.specs.Schedules.{Each}
-use Rattle.once.specs.Named.{NamesBelow}
+use Rattle.once.specs.Named.{NamesUnder}
 use Rattle.sizes.specs.Adds.{Fits, AllFit}
 use Rattle.sizes.specs.Queries.{start, analyze-fits}
 use Rattle.sizes.specs.Sound.{Sound}
@@ -58,5 +59,5 @@ module _ (n : ℕ) (sheet : Sheet) (parents : List Scope) (q : ℕ) (outputs : L
     pub front-fits : AllFit sheet r → Fits sheet front
     front-fits fit = analyze-fits (suc n) sheet parents q outputs r fit front front-there
 
-    pub front-low : NamesBelow sheet → all (allRows nameBelow) outputs ≡ true → Each Low (r .schedules) → Low (front .scope) (front .definitions)
-    front-low names rows low = analyze-low sheet names (suc n) parents q outputs r rows low front front-there
+    pub front-low : (m : ℕ) → ltb 0 m ≡ true → NamesUnder m sheet → all (allRows (nameBelow m)) outputs ≡ true → Each (Low m) (r .schedules) → Low m (front .scope) (front .definitions)
+    front-low m zero names rows low = analyze-low m zero sheet names (suc n) parents q outputs r rows low front front-there

@@ -3,11 +3,15 @@ use mathlib.Core.Path.{_≡_, refl}
 use mathlib.Core.Bool.{true}
 use mathlib.Core.List.{List, [], _++_, List·Memᴰ, List·Memᴰ·append-cases, List·Memᴰ·not-nil}
 use mathlib.Core.Logic.{⊎-elim}
-use Prim.Native.Nat.{ℕ}
+use Prim.Native.Nat.{ℕ, _*_, _<_}
 use native.Mathlib.Omega.{arith}
+use lib.Dec.{ltb}
 use borrow.Author.Tests.{ltb-true}
 use Rattle.basics.specs.Lists.{all}
 use Rattle.basics.specs.Members.{all-mem}
+use Rattle.widths.specs.declared.Width.{Width}
+use Rattle.widths.specs.Widths.{limits, words}
+use Rattle.widths.specs.Laws.{names-are}
 use Rattle.turns.specs.Definitions.{Definition}
 use Rattle.records.specs.declared.Counts.{Counts}
 use Rattle.records.specs.Layout.{Within}
@@ -27,11 +31,11 @@ use Rattle.once.specs.Queries.{analyzeOnce}
 use Rattle.once.specs.Own.{ownDefinition}
 use Rattle.once.specs.Steps.{Kept}
 use Rattle.once.specs.Schedules.{Each, analyze-keeps}
-use Rattle.once.specs.Named.{NamesBelow, own-below}
+use Rattle.once.specs.Named.{NamesUnder, inputs-under, own-below, own-used}
 use Rattle.sizes.specs.Adds.{below, Fits}
 use Rattle.sizes.specs.Bound.{weight-in-bounds}
 use Rattle.sizes.specs.Counted.{statements-few, statements-counted}
-use Rattle.sizes.specs.LowNames.{facts-names}
+use Rattle.sizes.specs.LowNames.{names-under}
 use Rattle.sizes.specs.InBounds.{InBounds}
 use Rattle.gather.specs.Sheets.{countsAt, specialAt, sheetAt, Accepted}
 use Rattle.gather.specs.Chains.{chainAt}
@@ -40,60 +44,66 @@ use Rattle.records.specs.Rows.{inTables}
 
 -- ---- each change keeps names low
 
-recorded-low : (sc : Scope) (defs new : List Definition) → all (ownDefinition sc) new ≡ true → Low sc defs → Low sc (defs ++ new)
-recorded-low sc defs new own low = record {
-  scope = low .scope;
-  named = λ d m.
-      ⊎-elim (λ (i : List·Memᴰ d defs). low .named d i)
-      (λ (i : List·Memᴰ d new). own-below sc (low .scope) d (all-mem (ownDefinition sc) new own i)) (List·Memᴰ·append-cases defs m);
-}
-
-pub low-kept : Kept Low
-low-kept = record {
-  input = λ sc defs x low. record { scope = input-below sc x (low .scope); named = low .named };
-  flag = λ sc defs b low. record { scope = flag-below sc b (low .scope); named = low .named };
-  extra = λ sc defs x l low. record { scope = unscoped-below sc x l (low .scope); named = low .named };
-  recorded = recorded-low;
-}
-
--- ---- a sheet whose names lie below the bound
-
-module _ (sheet : Sheet) (names : NamesBelow sheet) where
-  -- The expressions of the chains at two rows: the outputs of a comprehension are such.
-  pub chains-low : (key value : ℕ) → all (allRows nameBelow) (chain (treeAt sheet key) ++ chain (treeAt sheet value)) ≡ true
-  chains-low key value =
-      all-append (allRows nameBelow) (chain (treeAt sheet key)) (chain (treeAt sheet value))
-      (chain-rows nameBelow (treeAt sheet key) (tree-rows nameBelow sheet names refl key))
-      (chain-rows nameBelow (treeAt sheet value) (tree-rows nameBelow sheet names refl value))
-
-  pub gathered-low : (parents : List Scope) (q : ℕ) (outputs : List Tree) → all (allRows nameBelow) outputs ≡ true
-      → Low (gatherLocalVars sheet parents (stmtsOf sheet q) outputs) []
-  gathered-low parents q outputs h = record {
-    scope = gathered-below sheet parents (stmtsOf sheet q) (stmts-rows nameBelow sheet names refl q) outputs h;
-    named = λ d m. absurd (List·Memᴰ·not-nil m);
+module _ (n : ℕ) (zero : ltb 0 n ≡ true) where
+  recorded-low : (sc : Scope) (defs new : List Definition) → all (ownDefinition sc) new ≡ true → Low n sc defs → Low n sc (defs ++ new)
+  recorded-low sc defs new own low = record {
+    scope = low .scope;
+    named = λ d m.
+        ⊎-elim (λ (i : List·Memᴰ d defs). low .named d i)
+        (λ (i : List·Memᴰ d new). own-below n zero sc (low .scope) d (all-mem (ownDefinition sc) new own i)) (List·Memᴰ·append-cases defs m);
+    used = λ d m.
+        ⊎-elim (λ (i : List·Memᴰ d defs). low .used d i)
+        (λ (i : List·Memᴰ d new). own-used n sc (low .scope) d (all-mem (ownDefinition sc) new own i)) (List·Memᴰ·append-cases defs m);
   }
 
-  pub analyze-low : (n : ℕ) (parents : List Scope) (q : ℕ) (outputs : List Tree) (r : Run) → all (allRows nameBelow) outputs ≡ true
-      → Each Low (r .schedules) → Each Low (analyzeOnce n sheet parents q outputs r .schedules)
-  analyze-low = analyze-keeps sheet nameBelow names refl Low low-kept gathered-low
+  pub low-kept : Kept (λ x. ltb x n) (Low n)
+  low-kept = record {
+    input = λ sc defs x l low. record { scope = input-below n sc x l (low .scope); named = low .named; used = low .used };
+    flag = λ sc defs b low. record { scope = flag-below n sc b (low .scope); named = low .named; used = low .used };
+    extra = λ sc defs x l low. record { scope = unscoped-below n sc x l (low .scope); named = low .named; used = low .used };
+    recorded = recorded-low;
+  }
 
--- The sheet in accepted tables is one.
-module _ (t : List ℕ) (ok : Accepted t) where
-  pub accepted-low : NamesBelow (sheetAt t)
-  unfolding sheetAt
-  accepted-low = facts-names (countsAt t) (specialAt t) t (ok .within) (ok .facts)
+  -- ---- a sheet whose names lie below n
 
-  pub outputs-low : (key value : ℕ) → all (allRows nameBelow) (chainAt t key ++ chainAt t value) ≡ true
-  outputs-low = chains-low (sheetAt t) accepted-low
+  module _ (sheet : Sheet) (names : NamesUnder n sheet) where
+    -- The expressions of the chains at two rows: the outputs of a comprehension are such.
+    pub chains-low : (key value : ℕ) → all (allRows (nameBelow n)) (chain (treeAt sheet key) ++ chain (treeAt sheet value)) ≡ true
+    chains-low key value =
+        all-append (allRows (nameBelow n)) (chain (treeAt sheet key)) (chain (treeAt sheet value))
+        (chain-rows (nameBelow n) (treeAt sheet key) (tree-rows (nameBelow n) sheet names zero key))
+        (chain-rows (nameBelow n) (treeAt sheet value) (tree-rows (nameBelow n) sheet names zero value))
+
+    pub gathered-low : (parents : List Scope) (q : ℕ) (outputs : List Tree) → all (allRows (nameBelow n)) outputs ≡ true
+        → Low n (gatherLocalVars sheet parents (stmtsOf sheet q) outputs) []
+    gathered-low parents q outputs h = record {
+      scope = gathered-below n sheet parents (stmtsOf sheet q) zero (stmts-rows (nameBelow n) sheet names zero q) outputs h;
+      named = λ d m. absurd (List·Memᴰ·not-nil m);
+      used = λ d m. absurd (List·Memᴰ·not-nil m);
+    }
+
+    pub analyze-low : (k : ℕ) (parents : List Scope) (q : ℕ) (outputs : List Tree) (r : Run) → all (allRows (nameBelow n)) outputs ≡ true
+        → Each (Low n) (r .schedules) → Each (Low n) (analyzeOnce k sheet parents q outputs r .schedules)
+    analyze-low =
+        analyze-keeps sheet (λ x. ltb x n) names zero (Low n) low-kept (λ sc defs low. inputs-under n sc (low .scope)) gathered-low
+
+  -- The sheet in accepted tables is one, where it has fewer names.
+  module _ (t : List ℕ) (ok : Accepted t) (few : countsAt t .names < n) where
+    pub accepted-low : NamesUnder n (sheetAt t)
+    unfolding sheetAt
+    accepted-low = names-under n (countsAt t) (specialAt t) t (ok .within) (ok .facts) few
+
+    pub outputs-low : (key value : ℕ) → all (allRows (nameBelow n)) (chainAt t key ++ chainAt t value) ≡ true
+    outputs-low = chains-low (sheetAt t) accepted-low
 
 -- ---- what fits is in bounds
 
 module _ (c : Counts) (x : Special) (t : List ℕ) (few : Within c) (fine : firstLine c (inTables t) ≡ 0) where
-  pub in-bounds : (a : QuerySchedule) → Fits (sheetOf c x t) a → Low (a .scope) (a .definitions) → InBounds a
-  in-bounds a fits low = record {
+  pub in-bounds : (v : Width) (a : QuerySchedule) → Fits (sheetOf c x t) a → Low (64 * words v) (a .scope) (a .definitions) → InBounds (limits v) a
+  in-bounds v a fits low = record {
     few-statements =
         omega (arith, fits .whole, statements-few (sheetOf c x t) (a .query), statements-counted c x t, few .few-statements);
     few-definitions = omega (arith, fits .at-most, weight-in-bounds c x t few fine (a .query));
     stated = λ d m. ltb-true (d .statement) (a .count) (all-mem (below (a .count)) (a .definitions) (fits .stated) m);
-    named = low .named;
+    named = λ d m. let l = low .named d m in omega (arith, l, names-are v);
   }

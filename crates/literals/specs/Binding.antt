@@ -71,6 +71,7 @@ module _ (p : Progress) (extras : Names) where
   pub record Bound (r : Progress) : Type 0 where
     pub count : r .count ≡ p .count
     pub fault : r .fault ≡ p .fault
+    pub wide : r .width ≡ p .width
     pub same : isSound (p .fault) ≡ false → r ≡ p
     pub sets : isSound (p .fault) ≡ true → Joined (p .scope) extras (r .scope)
     pub agrees : isSound (p .fault) ≡ true → (spans : List ℕ) (s : spec.Scope) (l : List ℕ) → Agrees (p .scope) spans s → Holds extras l
@@ -81,6 +82,7 @@ module _ (p : Progress) (extras : Names) where
     bound-fault n = record {
       count = refl;
       fault = refl;
+      wide = refl;
       same = λ e. refl;
       sets = λ e. absurd (not-both e (sym is ∙ n));
       agrees = λ e. absurd (not-both e (sym is ∙ n));
@@ -90,6 +92,7 @@ module _ (p : Progress) (extras : Names) where
     bound-sound y k j r e = subst Bound (sym e) (record {
       count = refl;
       fault = refl;
+      wide = refl;
       same = λ n. absurd (not-both (sym is ∙ y) n);
       sets = λ q. j;
       agrees = λ q. joined-agrees (p .scope) extras k j;

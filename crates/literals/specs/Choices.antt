@@ -18,3 +18,8 @@ module _ {A : Type 0} (x y : A) where
 
     pub passed-over-second : b ≡ false → y ≡ cond (a && b) x y
     passed-over-second q = sym (rw (first, q))
+
+  -- The first does not pass.
+  module _ (a b : Bool) where
+    pub passed-over-first : a ≡ false → y ≡ cond (a && b) x y
+    passed-over-first p = sym (rw p)

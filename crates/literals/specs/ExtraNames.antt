@@ -36,18 +36,18 @@ use Rattle.gather.specs.Exprs.{exprBy}
 use Rattle.gather.specs.Assigned.{AssignWalk}
 use Rattle.used.specs.Own.{Holds}
 
--- No unscoped name is 128 or more.
+-- No unscoped name is 512 or more.
 abbrev Low : spec.Scope → Type 0
 Low s = (x : ℕ) → contains (s .unscoped) x ≡ true → ltb x nameBound ≡ true
 
-low-kept : (parents : List spec.Scope) → Kept parents nameBelow Low
+low-kept : (parents : List spec.Scope) → Kept parents (nameBelow nameBound) Low
 unfolding addLocal addUnscoped addInput useInput contains insert
 low-kept parents = record {
   local = λ s w l h. h;
   unscoped = λ s w l h x e.
       ⊎-elim (λ (p : eqb x (w .name) ≡ true). ap (λ (n : ℕ). ltb n nameBound) (eqb-true x (w .name) p) ∙ l)
       (λ (p : s .unscoped x ≡ true). h x p) (or-cases (eqb x (w .name)) (s .unscoped x) e);
-  input = λ s w l h. h;
+  input = λ s w e l h. h;
   flag = λ s b h. h;
 }
 
@@ -55,9 +55,9 @@ none-low : Low noScope
 unfolding empty contains
 none-low x e = absurd (not-both e refl)
 
-alone-rows : (e : Tree) → allRows nameBelow e ≡ true → allRows nameBelow (alone e) ≡ true
+alone-rows : (e : Tree) → allRows (nameBelow nameBound) e ≡ true → allRows (nameBelow nameBound) (alone e) ≡ true
 alone-rows nil h = h
-alone-rows (node w a b c n) h = rows.alone nameBelow w a b c n (rows.parts nameBelow w a b c n h)
+alone-rows (node w a b c n) h = rows.alone (nameBelow nameBound) w a b c n (rows.parts (nameBelow nameBound) w a b c n h)
 
 -- What the list of such a set's elements has is what the set has.
 elements-has : (s : spec.Scope) → Low s → (x : ℕ) → elem x (elements (s .unscoped)) ≡ contains (s .unscoped) x
@@ -85,8 +85,8 @@ module _ (t outer : List ℕ) (arg : ℕ) where
     gathered-low : (parents : List spec.Scope) → Low (gathered parents)
     unfolding sheetAt
     gathered-low parents =
-        assigned-kept (sheetAt t) parents nameBelow refl Low (low-kept parents) false (exprBy t false arg)
-        (alone-rows (treeAt (sheetAt t) arg) (rows.tree-rows nameBelow (sheetAt t) (facts-names (countsAt t) (specialAt t) t (ok .within) (ok .facts)) refl arg))
+        assigned-kept (sheetAt t) parents (nameBelow nameBound) refl Low (low-kept parents) false (exprBy t false arg)
+        (alone-rows (treeAt (sheetAt t) arg) (rows.tree-rows (nameBelow nameBound) (sheetAt t) (facts-names (countsAt t) (specialAt t) t (ok .within) (ok .facts)) refl arg))
         noScope none-low
 
     pub vars-gathered : (arg ≡ 0 → ⊥) → (k : Scope) → NoNames k → (l m : List ℕ) (r : Scope)

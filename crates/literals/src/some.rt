@@ -23,7 +23,7 @@ const OBJECT: u16 = 9;
 
 // Is the row w a local, or `input`?
 fn is_name(tables: &[u16], p: Progress, w: Row) -> bool
-    requires { ⌜ (8192 ≤ length (now tables)) × (w .name < 128) ⌝ }
+    requires { ⌜ (8192 ≤ length (now tables)) × (w .name < 512) ⌝ }
     ensures { λ r. ⌜ IsName (now (tables .entry)) (p .scope) w r ⌝ }
 {
     if w.kind != VAR {
@@ -38,7 +38,7 @@ fn is_name(tables: &[u16], p: Progress, w: Row) -> bool
 
 // The row w, where it is a part of the pattern that is no variable; 0 where it is one, and where it is made of parts itself.
 pub fn non_var(tables: &[u16], p: Progress, row: usize, w: Row) -> usize
-    requires { ⌜ (8192 ≤ length (now tables)) × (w .name < 128) ⌝ }
+    requires { ⌜ (8192 ≤ length (now tables)) × (w .name < 512) ⌝ }
     ensures { λ r. ⌜ NonVar (now (tables .entry)) (p .scope) row w r ⌝ }
 {
     if w.kind == ARRAY {

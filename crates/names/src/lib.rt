@@ -1,18 +1,20 @@
-// Sets of names, a bit for each name. A name is a number below CAPACITY.
+// Sets of names, a bit for each name. A name is a number below CAPACITY. Sets of statements are in `statements`.
 // The public contracts speak of members alone (specs/Sets.antt); no caller sees a bit.
-// Words are read and stored in loops over WORDS alone: unrolled, these have constant indexes and keep a set in registers,
-// where an index that a name gives would have it stored to memory and loaded back.
+// By value, words are read and stored in loops over WORDS alone: unrolled, these have constant indexes, where an index that a name gives would have
+// the set stored to memory and loaded back at once, which stalls. A set in lent words has no such cost (`has`, `add`).
+
+pub mod statements;
 
 ghost use mathlib.Core.Path.{_≡_};
 ghost use mathlib.Core.Bool.{cond};
 ghost use Prim.Native.Nat.{_-_, _<_};
-ghost use lib.ListN.{getD};
+ghost use lib.ListN.{length, getD};
 ghost use Rattle.basics.specs.Lists.{all};
 ghost use Rattle.names.specs.Sets.{member, members, isEmpty, Empty, Only, Inserted, Removed, Union, Difference, Intersection, Next};
 ghost use Rattle.names.specs.Lowest.{LowestBit};
 
 // How many words a set has. The code says it here alone, and the proofs in proofs/Size.antt.
-pub const WORDS: usize = 2;
+pub const WORDS: usize = 8;
 
 // How many names there are.
 pub const CAPACITY: usize = 64 * WORDS;
@@ -110,7 +112,7 @@ impl Names {
     pub fn next(self, from: usize) -> usize
         ensures { λ r. do ⌜ Next (self .words) (← ⟦CAPACITY⟧ .entry) from r ⌝ }
     {
-        for i in 0..WORDS {
+        for i in from / 64..WORDS {
             let k = lowest(self.words[i], above(from, 64 * i));
             if k < 64 {
                 return 64 * i + k;
@@ -145,21 +147,38 @@ impl Names {
 }
 
 // `a` where `first` holds, and `b` where not.
-fn pick(first: bool, a: u64, b: u64) -> u64
+pub(crate) fn pick(first: bool, a: u64, b: u64) -> u64
     ensures { λ r. ⌜ r ≡ cond first a b ⌝ }
 {
     if first { a } else { b }
 }
 
+// Is the name in the set with these words? What is lent stays in memory, where a set by value is copied at each call.
+pub fn has(words: &[u64; WORDS], name: usize) -> bool
+    requires { ⌜ (length (now words) ≡ 8) × (name < 512) ⌝ }
+    ensures { λ r. ⌜ r ≡ member (now (words .entry)) name ⌝ }
+{
+    (words[name / 64] >> (name % 64)) & 1 == 1
+}
+
+// Puts a name into the set with these words.
+pub fn add(words: &mut [u64; WORDS], name: usize)
+    requires { ⌜ (length (now words) ≡ 8) × (name < 512) ⌝ }
+    ensures { λ _. ⌜ (length (now (words .exit)) ≡ 8) × Inserted (now (words .entry)) name (now (words .exit)) ⌝ }
+{
+    let at = name / 64;
+    words[at] = words[at] | (1 << (name % 64));
+}
+
 // How far `a` is above `b`: 0 where it is not.
-fn above(a: usize, b: usize) -> usize
+pub fn above(a: usize, b: usize) -> usize
     ensures { λ r. ⌜ r ≡ a - b ⌝ }
 {
     if b < a { a - b } else { 0 }
 }
 
 // The lowest set bit of `word` from bit `from` up: 64 or more where there is none.
-fn lowest(word: u64, from: usize) -> usize
+pub fn lowest(word: u64, from: usize) -> usize
     ensures { λ r. ⌜ LowestBit word from r ⌝ }
 {
     if from < 64 {

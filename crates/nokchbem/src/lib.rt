@@ -2,17 +2,19 @@
 
 use definitions::Definition;
 use rows::DEFINITIONS;
+use widths::Width;
 ghost use mathlib.Core.Path.{_≡_};
 ghost use mathlib.Core.List.{List};
 ghost use Prim.Native.Nat.{_≤_};
 ghost use lib.ListN.{length};
+ghost use Rattle.basics.specs.Limits.{library};
 ghost use Rattle.schedule.specs.Call.{refusal};
 ghost use Rattle.definitions.specs.declared.Definition.{Definition};
 ghost use Rattle.definitions.specs.Copies.{CopyOf};
 ghost use Rattle.nokchbem.specs.Calls.{ScheduleCall, RecordsCall, ReadCall, AnalyzeCall};
 
 // A refusal and its position as one number.
-fn pack(number: u64, line: usize, col: usize) -> u64
+pub fn pack(number: u64, line: usize, col: usize) -> u64
     requires { ⌜ (number ≤ 65535) × (line ≤ 65535) × (col ≤ 65535) ⌝ }
     ensures { λ r. ⌜ r ≡ refusal number line col ⌝ }
 {
@@ -21,9 +23,9 @@ fn pack(number: u64, line: usize, col: usize) -> u64
 
 // Puts statements into an order in which every name has a value when it is read.
 //
-// `definitions` are rows of four words: statement, name (0 is the empty one), and the two words of the used names. `order` receives the
-// statements in order, `reached` a mark for each; both hold zeros after the first `statements` entries. Returns the mark placed, 1 or 0,
-// or refusal 8 as 8 x 2^32 with both buffers zeroed.
+// `definitions` are rows of ten words: statement, name (0 is the empty one, 511 the largest), and the eight words of the used names. `order`
+// receives the statements in order, `reached` a mark for each; both hold zeros after the first `statements` entries. Returns the mark placed,
+// 1 or 0, or refusal 8 as 8 x 2^32 with both buffers zeroed.
 #[no_mangle]
 pub extern "C" fn nokchbem_schedule(
     definitions: &[u64],
@@ -33,7 +35,7 @@ pub extern "C" fn nokchbem_schedule(
 ) -> u64
     ensures { λ r. ⌜ ScheduleCall (now (definitions .entry)) statements (length (now (order .entry))) (length (now (reached .entry))) r (now (order .exit)) (now (reached .exit)) ⌝ }
 {
-    schedule::number_of(schedule::schedule(definitions, statements, order, reached))
+    schedule::number_of(schedule::schedule(Width::Eight, definitions, statements, order, reached))
 }
 
 // The call below, over a copy of its records.
@@ -70,13 +72,13 @@ pub extern "C" fn nokchbem_schedule_records(
 
 // Reads a sheet, and answers whether it passes questions 1 to 6.
 //
-// `tables` has at least 8,192 entries and receives the sheet's counts and rows; `work` has at least 8,192 words, which are zeros
+// `tables` has at least 8,192 entries and receives the sheet's counts and rows; `work` has at least 24,576 words, which are zeros
 // afterwards. Returns 0, or a refusal 1 to 6 and the first line at fault as number x 2^32 + line x 2^16, with both buffers zeroed.
 #[no_mangle]
 pub extern "C" fn nokchbem_read(sheet: &[u8], tables: &mut [u16], work: &mut [u64]) -> u64
-    ensures { λ r. ⌜ ReadCall (now (sheet .entry)) (length (now (tables .entry))) (length (now (work .entry))) r (now (tables .exit)) (now (work .exit)) ⌝ }
+    ensures { λ r. ⌜ ReadCall library (now (sheet .entry)) (length (now (tables .entry))) (length (now (work .entry))) r (now (tables .exit)) (now (work .exit)) ⌝ }
 {
-    let outcome = sheet::read(sheet, tables, work);
+    let outcome = sheet::read(sheet, tables, work, Width::Eight);
     pack(sheet::number_of(outcome), sheet::line_of(outcome), 0)
 }
 
@@ -92,8 +94,8 @@ pub extern "C" fn nokchbem_analyze(
     work: &mut [u64],
     answer: &mut [u8],
 ) -> u64
-    ensures { λ r. ⌜ AnalyzeCall (now (sheet .entry)) (length (now (tables .entry))) (length (now (work .entry))) (length (now (answer .entry))) r (now (tables .exit)) (now (work .exit)) (now (answer .exit)) ⌝ }
+    ensures { λ r. ⌜ AnalyzeCall library (now (sheet .entry)) (length (now (tables .entry))) (length (now (work .entry))) (length (now (answer .entry))) r (now (tables .exit)) (now (work .exit)) (now (answer .exit)) ⌝ }
 {
-    let reply = call::analyze(sheet, tables, work, answer);
+    let reply = call::analyze(sheet, tables, work, answer, Width::Eight);
     pack(reply.number as u64, reply.line as usize, reply.col as usize)
 }

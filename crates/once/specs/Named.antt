@@ -1,5 +1,5 @@
 -- What a query records is named below the bound, in every sheet whose names lie below it: what the theorems about the turn rule ask for.
-use mathlib.Core.Path.{_≡_, refl, sym, ap}
+use mathlib.Core.Path.{_≡_, refl, sym, ap, _∙_}
 use mathlib.Core.Bool.{true, false, _||_}
 use mathlib.Core.List.{List, [], _∷_, List·Memᴰ, List·Memᴰ·head, List·Memᴰ·tail, List·Memᴰ·not-nil}
 use mathlib.Core.Logic.{_⊎_, inl, inr, ⊎-elim}
@@ -8,13 +8,16 @@ use Prim.Native.Nat.{ℕ, _<_}
 use native.Mathlib.Omega.{arith}
 use lib.Dec.{eqb, ltb}
 use borrow.Author.Tests.{eqb-true, ltb-true}
-use Rattle.basics.specs.Truth.{bool-cases, and-left, or-cases}
+use Rattle.basics.specs.Truth.{bool-cases, and-left, and-right, or-cases}
 use Rattle.basics.specs.Lists.{all}
+use Rattle.basics.specs.Ranges.{range}
 use Rattle.basics.specs.Members.{all-mem}
 use Rattle.turns.specs.Definitions.{Definition, Named}
+use Rattle.trees.specs.ListLaws.{all-weaken, all-kept}
 use Rattle.trees.specs.Sheet.{Sheet, nameBound}
 use Rattle.trees.specs.Statements.{stmtsOf}
 use Rattle.trees.specs.StatementRows.{stmts-rows}
+use Rattle.scopes.specs.NameSets.{contains, elements}
 use Rattle.scopes.specs.Scopes.{Scope, owns}
 use Rattle.scopes.specs.Below.{nameBelow, Below, unscoped-below, input-below, flag-below, gathered-below}
 use Rattle.analysis.specs.States.{QuerySchedule, scheduleOf}
@@ -25,26 +28,41 @@ use Rattle.once.specs.Steps.{Kept}
 use Rattle.once.specs.Schedules.{Each, every-schedule}
 use Rattle.once.specs.OwnNames.{own-names}
 
--- The names of all rows lie below the bound.
-abbrev pub NamesBelow : Sheet → Type 0
-NamesBelow sheet = all nameBelow (sheet .exprs) ≡ true
+-- The names of all rows lie below n.
+abbrev pub NamesUnder : ℕ → Sheet → Type 0
+NamesUnder n sheet = all (nameBelow n) (sheet .exprs) ≡ true
 
-below-kept : Kept (λ sc defs. Below sc)
-below-kept = record {
-  input = λ sc defs x b. input-below sc x b;
-  flag = λ sc defs f b. flag-below sc f b;
-  extra = λ sc defs x l b. unscoped-below sc x l b;
+-- Below the bound of all sheets.
+abbrev pub NamesBelow : Sheet → Type 0
+NamesBelow = NamesUnder nameBound
+
+pub inputs-under : (n : ℕ) (sc : Scope) → Below n sc → all (λ x. ltb x n) (elements (sc .inputs)) ≡ true
+unfolding elements
+inputs-under n sc b =
+    all-weaken (contains (sc .inputs)) (λ x. ltb x n) (b .inputs) (elements (sc .inputs)) (all-kept (contains (sc .inputs)) (range 0 nameBound))
+
+below-kept : (n : ℕ) → Kept (λ x. ltb x n) (λ sc defs. Below n sc)
+below-kept n = record {
+  input = λ sc defs x l b. input-below n sc x l b;
+  flag = λ sc defs f b. flag-below n sc f b;
+  extra = λ sc defs x l b. unscoped-below n sc x l b;
   recorded = λ sc defs new e b. b;
 }
 
 -- ---- the names of recorded definitions
 
-pub own-below : (sc : Scope) → Below sc → (d : Definition) → ownDefinition sc d ≡ true → d .var < nameBound
+pub own-below : (n : ℕ) → ltb 0 n ≡ true → (sc : Scope) → Below n sc → (d : Definition) → ownDefinition sc d ≡ true → d .var < n
 unfolding ownDefinition
-own-below sc b d h =
-    ltb-true (d .var) nameBound
-    (⊎-elim (λ (e : eqb (d .var) 0 ≡ true). ap (λ (x : ℕ). ltb x nameBound) (eqb-true (d .var) 0 e)) (λ (e : owns sc (d .var) ≡ true). b (d .var) e)
+own-below n zero sc b d h =
+    ltb-true (d .var) n
+    (⊎-elim (λ (e : eqb (d .var) 0 ≡ true). ap (λ (x : ℕ). ltb x n) (eqb-true (d .var) 0 e) ∙ zero) (λ (e : owns sc (d .var) ≡ true). b .own (d .var) e)
     (or-cases (eqb (d .var) 0) (owns sc (d .var)) (and-left (eqb (d .var) 0 || owns sc (d .var)) (all (owns sc) (d .used)) h)))
+
+-- And so are those that it uses.
+pub own-used : (n : ℕ) (sc : Scope) → Below n sc → (d : Definition) → ownDefinition sc d ≡ true → all (λ x. ltb x n) (d .used) ≡ true
+unfolding ownDefinition
+own-used n sc b d h =
+    all-weaken (owns sc) (λ x. ltb x n) (b .own) (d .used) (and-right (eqb (d .var) 0 || owns sc (d .var)) (all (owns sc) (d .used)) h)
 
 -- The schedule found for a query stands in the table.
 pub found-in : (l : List QuerySchedule) (q : ℕ) (a : QuerySchedule) → scheduleOf l q ≡ some a → List·Memᴰ a l
@@ -58,20 +76,21 @@ found-in (b ∷ l) q a e = go (bool-cases (eqb (b .query) q)) (λ g. found-in l 
     go (inl h) ih = let f : some b ≡ some a = rw h at e in let s : b ≡ a = cc in List·Memᴰ·head (sym s)
     go (inr h) ih = List·Memᴰ·tail (ih (rw h at e))
 
-module _ (sheet : Sheet) (names : NamesBelow sheet) where
-  -- The own names of every scope lie below the bound.
-  pub scopes-below : Each (λ sc defs. Below sc) (analyzeQuerySnippetOnce sheet .schedules)
+-- Where the names of all rows are below n:
+module _ (n : ℕ) (some-name : ltb 0 n ≡ true) (sheet : Sheet) (names : NamesUnder n sheet) where
+  -- Those of every scope are.
+  pub scopes-below : Each (λ sc defs. Below n sc) (analyzeQuerySnippetOnce sheet .schedules)
   scopes-below =
-      every-schedule sheet nameBelow names refl (λ sc defs. Below sc) below-kept
-      (λ parents q outputs h. gathered-below sheet parents (stmtsOf sheet q) (stmts-rows nameBelow sheet names refl q) outputs h)
+      every-schedule sheet (λ x. ltb x n) names some-name (λ sc defs. Below n sc) (below-kept n) (λ sc defs. inputs-under n sc)
+      (λ parents q outputs h. gathered-below n sheet parents (stmtsOf sheet q) some-name (stmts-rows (nameBelow n) sheet names some-name q) outputs h)
 
-  -- Every name that a query defines is below the bound.
-  pub recorded-named : (q : ℕ) → Named (recordedOnce sheet q) nameBound
+  -- And every name that a query defines.
+  pub recorded-named : (q : ℕ) → Named (recordedOnce sheet q) n
   unfolding recordedOnce scheduleOnce
   recorded-named q = go (scheduleOf (analyzeQuerySnippetOnce sheet .schedules) q) refl
     where
-      go : (o : Option QuerySchedule) → scheduleOf (analyzeQuerySnippetOnce sheet .schedules) q ≡ o → Named (definitionsIn o) nameBound
+      go : (o : Option QuerySchedule) → scheduleOf (analyzeQuerySnippetOnce sheet .schedules) q ≡ o → Named (definitionsIn o) n
       go none e d m = absurd (List·Memᴰ·not-nil m)
       go (some a) e d m =
           let i = found-in (analyzeQuerySnippetOnce sheet .schedules) q a e in
-          own-below (a .scope) (scopes-below a i) d (all-mem (ownDefinition (a .scope)) (a .definitions) (own-names sheet a i) m)
+          own-below n some-name (a .scope) (scopes-below a i) d (all-mem (ownDefinition (a .scope)) (a .definitions) (own-names sheet a i) m)

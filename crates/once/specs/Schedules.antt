@@ -1,29 +1,34 @@
 -- What every schedule in the table has: a property of scopes and definitions that holds when a query's scope is gathered, and that each
 -- change keeps.
 use mathlib.Core.Path.{_≡_, refl, sym, subst}
-use mathlib.Core.Bool.{Bool, true}
-use mathlib.Core.List.{List, [], _∷_, foldl, List·Memᴰ, List·Memᴰ·cases-cons, List·Memᴰ·not-nil}
-use mathlib.Core.Logic.{⊎-elim}
+use mathlib.Core.Bool.{Bool, true, false}
+use mathlib.Core.List.{List, [], _∷_, foldl, List·Memᴰ, List·Memᴰ·head, List·Memᴰ·tail, List·Memᴰ·cases-cons, List·Memᴰ·not-nil}
+use mathlib.Core.Logic.{_⊎_, inl, inr, ⊎-elim}
 use Prim.Native.Nat.{ℕ, zero, suc}
+use lib.Dec.{eqb}
 use lib.ListN.{length}
+use Rattle.basics.specs.Truth.{bool-cases, not-both}
 use Rattle.basics.specs.Lists.{all}
+use Rattle.basics.specs.Ranges.{range}
 use Rattle.turns.specs.Definitions.{Definition}
 use Rattle.records.specs.Layout.{deepest}
-use Rattle.records.specs.declared.Row.{Row}
-use Rattle.trees.specs.Sheet.{Sheet, noRow}
+use Rattle.trees.specs.Sheet.{Sheet, nameBound}
+use Rattle.trees.specs.ListLaws.{all-weaken, all-kept}
 use Rattle.trees.specs.Trees.{Tree}
 use Rattle.trees.specs.Statements.{stmtsOf}
 use Rattle.trees.specs.TreeRows.{allRows}
 use Rattle.trees.specs.StatementRows.{stmts-rows}
+use Rattle.scopes.specs.NameSets.{empty, contains, elements}
 use Rattle.scopes.specs.Scopes.{Scope}
 use Rattle.scopes.specs.GatherLocals.{gatherLocalVars}
-use Rattle.analysis.specs.States.{Fault, sound, undefined, usedBefore, lengths, indexVariable, QuerySchedule, Run, State, ifSound}
+use Rattle.analysis.specs.States.{scopeIn, scheduleOf, Fault, sound, undefined, usedBefore, lengths, indexVariable, QuerySchedule, Run, State, ifSound}
 use Rattle.once.specs.Comprs.{Nested}
 use Rattle.once.specs.Statements.{processStmts}
 use Rattle.analysis.specs.Queries.{scheduled}
 use Rattle.once.specs.Queries.{analyzeOutputExpr, analyzeQuery, analyzeOnce, analyzeQuerySnippetOnce}
-use Rattle.once.specs.Steps.{Kept, Holds}
+use Rattle.once.specs.Steps.{Kept, Rises, Holds}
 use Rattle.once.specs.StatementSteps.{good-stmts, good-outputs}
+use Rattle.once.specs.ExprSteps.{named}
 
 -- Each schedule on the list has S.
 abbrev pub Each : (Scope → List Definition → Type 0) → List QuerySchedule → Type 0
@@ -44,27 +49,38 @@ module _ (S : Scope → List Definition → Type 0) where
   finished q n s o (lengths a b) = o .table
   finished q n s o indexVariable = o .table
 
-module _ (sheet : Sheet) (test : Row → Bool) (rows : all test (sheet .exprs) ≡ true) (none : test noRow ≡ true)
-    (S : Scope → List Definition → Type 0) (k : Kept S)
-    (start : (parents : List Scope) (q : ℕ) (outputs : List Tree) → all (allRows test) outputs ≡ true → S (gatherLocalVars sheet parents (stmtsOf sheet q) outputs) [])
+module _ (sheet : Sheet) (Q : ℕ → Bool) (rows : all (named Q) (sheet .exprs) ≡ true) (none : Q 0 ≡ true)
+    (S : Scope → List Definition → Type 0) (k : Kept Q S)
+    (low : (sc : Scope) (defs : List Definition) → S sc defs → all Q (elements (sc .inputs)) ≡ true)
+    (start : (parents : List Scope) (q : ℕ) (outputs : List Tree) → all (allRows (named Q)) outputs ≡ true → S (gatherLocalVars sheet parents (stmtsOf sheet q) outputs) [])
   where
+    rises : Rises Q (Each S)
+    unfolding elements contains empty
+    rises [] e q = all-weaken (contains empty) Q (λ x g. absurd (not-both g refl)) (elements empty) (all-kept (contains empty) (range 0 nameBound))
+    rises (a ∷ l) e q = go (bool-cases (eqb (a .query) q)) (rises l (λ b m. e b (List·Memᴰ·tail m)) q)
+      where
+        go : (eqb (a .query) q ≡ true) ⊎ (eqb (a .query) q ≡ false) → all Q (elements (scopeIn (scheduleOf l q) .inputs)) ≡ true
+            → all Q (elements (scopeIn (scheduleOf (a ∷ l) q) .inputs)) ≡ true
+        go (inl h) r = rw h (low (a .scope) (a .definitions) (e a (List·Memᴰ·head refl)))
+        go (inr h) r = rw h r
+
     query-keeps : (nested : Nested)
-        → ((ps : List Scope) (q : ℕ) (outs : List Tree) (r : Run) → all (allRows test) outs ≡ true → Each S (r .schedules) → Each S (nested ps q outs r .schedules))
-        → (parents : List Scope) (q : ℕ) (outputs : List Tree) (r : Run) → all (allRows test) outputs ≡ true → Each S (r .schedules)
+        → ((ps : List Scope) (q : ℕ) (outs : List Tree) (r : Run) → all (allRows (named Q)) outs ≡ true → Each S (r .schedules) → Each S (nested ps q outs r .schedules))
+        → (parents : List Scope) (q : ℕ) (outputs : List Tree) (r : Run) → all (allRows (named Q)) outputs ≡ true → Each S (r .schedules)
         → Each S (analyzeQuery sheet nested parents q outputs r .schedules)
     unfolding analyzeQuery
     query-keeps nested keeps parents q outputs r h e =
         let stmts = stmtsOf sheet q in
         let first : State = record { scope = gatherLocalVars sheet parents stmts outputs; firstUses = []; definitions = []; run = r } in
-        let a = good-stmts sheet nested parents test S (Each S) k keeps (first .scope) stmts (stmts-rows test sheet rows none q) 0 first
+        let a = good-stmts sheet nested parents Q S (Each S) k rises none keeps (first .scope) stmts (stmts-rows (named Q) sheet rows none q) 0 first
         (record { here = start parents q outputs h; table = e }) (λ x g. g) in
         let t = processStmts sheet nested parents 0 stmts first in
-        let b = good-outputs sheet nested parents test S (Each S) k keeps (t .scope) outputs h t (a .holds) (λ x g. g) in
+        let b = good-outputs sheet nested parents Q S (Each S) k rises none keeps (t .scope) outputs h t (a .holds) (λ x g. g) in
         let s = foldl (analyzeOutputExpr sheet nested parents) t outputs in
         finished S q (length stmts) s (b .holds) (s .run .fault)
 
     -- At every level.
-    pub analyze-keeps : (n : ℕ) (parents : List Scope) (q : ℕ) (outputs : List Tree) (r : Run) → all (allRows test) outputs ≡ true → Each S (r .schedules)
+    pub analyze-keeps : (n : ℕ) (parents : List Scope) (q : ℕ) (outputs : List Tree) (r : Run) → all (allRows (named Q)) outputs ≡ true → Each S (r .schedules)
         → Each S (analyzeOnce n sheet parents q outputs r .schedules)
     unfolding analyzeOnce
     analyze-keeps zero parents q outputs r h e = e

@@ -16,7 +16,7 @@ use Rattle.trees.specs.Trees.{Tree, rowOf, chain}
 use Rattle.trees.specs.Traverse.{leaves, vars, comprs}
 use Rattle.trees.specs.Paths.{getExtraArg}
 use Rattle.trees.specs.Statements.{Literal, someVars, someIn, expr, notExpr, every, Stmt}
-use Rattle.trees.specs.TreeRows.{allRows, leaves-rows, comprs-rows}
+use Rattle.trees.specs.TreeRows.{allRows, leaves-rows, comprs-rows, extra-rows}
 use Rattle.trees.specs.StatementRows.{literalRows, stmtRows}
 use Rattle.scopes.specs.Scopes.{Scope, noScope, spanOf, isLocal, owns, addLocal}
 use Rattle.uses.specs.Uses.{define, indexDefinitions}
@@ -32,8 +32,8 @@ use Rattle.once.specs.Statements.{processEvery, processLiteral, processS
 use Rattle.analysis.specs.Queries.{outputScope}
 use Rattle.once.specs.Queries.{outputCompr, analyzeOutputExpr}
 use Rattle.once.specs.Own.{define-own, local-own, all-used-own, mods-own}
-use Rattle.once.specs.Steps.{Kept, Holds, Keeps, Good, good-same, good-end, good-then, good-fold, good-first-uses, good-run, good-fail, good-definitions, good-used, good-propagate, good-one, good-at-least-one, good-checks}
-use Rattle.once.specs.ExprSteps.{good-compr, good-comprs, good-expr, good-plain, good-process-expr, good-call}
+use Rattle.once.specs.Steps.{Kept, Rises, Holds, Keeps, Good, good-same, good-end, good-then, good-fold, good-first-uses, good-run, good-fail, good-definitions, good-used, good-propagate, good-one, good-at-least-one, good-checks}
+use Rattle.once.specs.ExprSteps.{named, good-compr, good-comprs, good-expr, good-plain, good-process-expr, good-call}
 
 -- The names of a some-in pattern are locals.
 some-local : (sheet : Sheet) (sc : Scope) (ls : List Tree)
@@ -41,27 +41,27 @@ some-local : (sheet : Sheet) (sc : Scope) (ls : List Tree)
 unfolding someVarsIn
 some-local sheet sc ls = all-kept (λ (w : Row). isLocal sc (w .name) && not (isInput sheet (w .name))) (vars ls)
 
-module _ (sheet : Sheet) (nested : Nested) (parents : List Scope) (test : Row → Bool) (S : Scope → List Definition → Type 0)
-    (R : List QuerySchedule → Type 0) (k : Kept S)
-    (keeps : (ps : List Scope) (q : ℕ) (outs : List Tree) (r : Run) → all (allRows test) outs ≡ true → R (r .schedules) → R (nested ps q outs r .schedules))
+module _ (sheet : Sheet) (nested : Nested) (parents : List Scope) (Q : ℕ → Bool) (S : Scope → List Definition → Type 0)
+    (R : List QuerySchedule → Type 0) (k : Kept Q S) (rises : Rises Q R) (unnamed : Q 0 ≡ true)
+    (keeps : (ps : List Scope) (q : ℕ) (outs : List Tree) (r : Run) → all (allRows (named Q)) outs ≡ true → R (r .schedules) → R (nested ps q outs r .schedules))
   where
-    good-non-var : (sc : Scope) (i : ℕ) (m : Mods) → all (allRows test) (m .comprs) ≡ true → (e : Tree) → allRows test e ≡ true
+    good-non-var : (sc : Scope) (i : ℕ) (m : Mods) → all (allRows (named Q)) (m .comprs) ≡ true → (e : Tree) → allRows (named Q) e ≡ true
         → Good S R sc (λ s. processNonVar sheet nested parents i m s e)
     unfolding processNonVar
     good-non-var sc i m mt e h =
         let cs = comprs e ++ m .comprs in
         let f : State → State = λ t. failIfSome (indexDefinitions sheet (t .scope) [] i e) t in
-        good-then S R sc (gatherUsedVars sheet i [] e) (f ∷ processComprs sheet nested parents cs ∷ []) (good-used S R k sheet sc i [] e)
+        good-then S R sc (gatherUsedVars sheet i [] e) (f ∷ processComprs sheet nested parents cs ∷ []) (good-used S R Q k rises sheet sc i [] e)
         (good-then S R sc f (processComprs sheet nested parents cs ∷ []) (λ t o g. none-of t o g (indexDefinitions sheet (t .scope) [] i e))
         (good-then S R sc (processComprs sheet nested parents cs) []
-        (good-comprs sheet nested parents test S R k keeps sc cs (all-append (allRows test) (comprs e) (m .comprs) (comprs-rows test e h) mt)) (good-end S R sc)))
+        (good-comprs sheet nested parents Q S R k rises unnamed keeps sc cs (all-append (allRows (named Q)) (comprs e) (m .comprs) (comprs-rows (named Q) e h) mt)) (good-end S R sc)))
       where
         none-of : (t : State) → Holds S R t → ((x : ℕ) → owns sc x ≡ true → owns (t .scope) x ≡ true) → (l : List Definition) → Keeps S R t (failIfSome l t)
         none-of t o g [] = good-same S R sc t o g
         none-of t o g (d ∷ defs) = good-fail S R sc indexVariable t o g
 
-    good-some-in : (sc : Scope) (i : ℕ) (m : Mods) → all (allRows test) (m .comprs) ≡ true → all (owns sc) (m .usedVars) ≡ true
-        → (ls : List Tree) → all (allRows test) ls ≡ true → (collection : Tree) → allRows test collection ≡ true
+    good-some-in : (sc : Scope) (i : ℕ) (m : Mods) → all (allRows (named Q)) (m .comprs) ≡ true → all (owns sc) (m .usedVars) ≡ true
+        → (ls : List Tree) → all (allRows (named Q)) ls ≡ true → (collection : Tree) → allRows (named Q) collection ≡ true
         → Good S R sc (processSomeIn sheet nested parents i m ls collection)
     unfolding processSomeIn nonVars
     good-some-in sc i m mt own ls lt collection ct s o h =
@@ -74,9 +74,9 @@ module _ (sheet : Sheet) (nested : Nested) (parents : List Scope) (test : Row �
         let f3 : State → State = addFirstUses (map spanOf names) in
         let f4 : State → State = λ t. foldl (processNonVar sheet nested parents i m) t others in
         let f5 : State → State = λ t. recordOne i 0 (concatMap (λ e. allUsed sheet [] rest e t) others) t in
-        good-then S R a (useExpr sheet nested parents i [] m collection) (f2 ∷ f3 ∷ f4 ∷ f5 ∷ []) (good-expr sheet nested parents test S R k keeps a i [] m mt collection ct)
+        good-then S R a (useExpr sheet nested parents i [] m collection) (f2 ∷ f3 ∷ f4 ∷ f5 ∷ []) (good-expr sheet nested parents Q S R k rises unnamed keeps a i [] m mt collection ct)
         (good-then S R a f2 (f3 ∷ f4 ∷ f5 ∷ [])
-        (λ t p g. good-definitions S R k t (map (λ (w : Row). define i (w .name) (allUsed sheet [] m collection t)) names) p
+        (λ t p g. good-definitions S R Q k rises t (map (λ (w : Row). define i (w .name) (allUsed sheet [] m collection t)) names) p
         (all-map _ (λ (w : Row). isLocal a (w .name) && not (isInput sheet (w .name))) (λ (w : Row). define i (w .name) (allUsed sheet [] m collection t))
         (λ w q. define-own (t .scope) i (w .name) (allUsed sheet [] m collection t)
         (or-right (eqb (w .name) 0) (owns (t .scope) (w .name)) (g (w .name) (local-own a (w .name) (and-left (isLocal a (w .name)) (not (isInput sheet (w .name))) q))))
@@ -84,69 +84,69 @@ module _ (sheet : Sheet) (nested : Nested) (parents : List Scope) (test : Row �
         names (some-local sheet a ls)))
         (good-then S R a f3 (f4 ∷ f5 ∷ []) (good-first-uses S R a (map spanOf names))
         (good-then S R a f4 (f5 ∷ [])
-        (good-fold S R a (allRows test) (processNonVar sheet nested parents i m) (good-non-var a i m mt) others
-        (all-filter (allRows test) (λ e. not (isVar (rowOf e) && (isInput sheet (rowOf e .name) || isLocal a (rowOf e .name)))) ls lt))
+        (good-fold S R a (allRows (named Q)) (processNonVar sheet nested parents i m) (good-non-var a i m mt) others
+        (all-filter (allRows (named Q)) (λ e. not (isVar (rowOf e) && (isInput sheet (rowOf e .name) || isLocal a (rowOf e .name)))) ls lt))
         (good-then S R a f5 []
-        (λ t p g. good-one S R k i 0 (concatMap (λ e. allUsed sheet [] rest e t) others) t p refl
+        (λ t p g. good-one S R Q k rises i 0 (concatMap (λ e. allUsed sheet [] rest e t) others) t p refl
         (concatMap-always (owns (t .scope)) (λ e. allUsed sheet [] rest e t) (λ e. all-used-own sheet a [] rest e t g refl) others)) (good-end S R a)))))
         s o (λ x e. e)
 
-    good-every : (sc : Scope) (i : ℕ) (m : Mods) → all (allRows test) (m .comprs) ≡ true → all (owns sc) (m .usedVars) ≡ true
-        → (key value domain : Tree) → allRows test domain ≡ true → (query : ℕ) → Good S R sc (processEvery sheet nested parents i m key value domain query)
+    good-every : (sc : Scope) (i : ℕ) (m : Mods) → all (allRows (named Q)) (m .comprs) ≡ true → all (owns sc) (m .usedVars) ≡ true
+        → (key value domain : Tree) → allRows (named Q) domain ≡ true → (query : ℕ) → Good S R sc (processEvery sheet nested parents i m key value domain query)
     unfolding processEvery
     good-every sc i m mt own key value domain dt query =
         let inner : Scope = foldl addLocal noScope (vars (chain key ++ chain value)) in
         let f : State → State = λ t. setRun (nested (inner ∷ (t .scope ∷ parents)) query [] (t .run)) t in
-        good-then S R sc (processPlainExpr sheet nested parents i m domain) (f ∷ []) (good-plain sheet nested parents test S R k keeps sc i m mt own domain dt)
+        good-then S R sc (processPlainExpr sheet nested parents i m domain) (f ∷ []) (good-plain sheet nested parents Q S R k rises unnamed keeps sc i m mt own domain dt)
         (good-then S R sc f []
         (λ t o g. good-run S R t (nested (inner ∷ (t .scope ∷ parents)) query [] (t .run)) o (keeps (inner ∷ (t .scope ∷ parents)) query [] (t .run) refl (o .table)))
         (good-end S R sc))
 
-    good-literal : (sc : Scope) (i : ℕ) (m : Mods) → all (allRows test) (m .comprs) ≡ true → all (owns sc) (m .usedVars) ≡ true
-        → (l : Literal) → literalRows test l ≡ true → Good S R sc (processLiteral sheet nested parents i m l)
+    good-literal : (sc : Scope) (i : ℕ) (m : Mods) → all (allRows (named Q)) (m .comprs) ≡ true → all (owns sc) (m .usedVars) ≡ true
+        → (l : Literal) → literalRows (named Q) l ≡ true → Good S R sc (processLiteral sheet nested parents i m l)
     unfolding processLiteral
-    good-literal sc i m mt own (someVars vs) h = good-checks S R k sc (vars (chain vs))
+    good-literal sc i m mt own (someVars vs) h = good-checks S R Q k rises sc (vars (chain vs))
     good-literal sc i m mt own (someIn key value collection) h =
-        let h2 = and-right (allRows test key) _ h in
+        let h2 = and-right (allRows (named Q) key) _ h in
         good-some-in sc i m mt own (leaves key ++ leaves value)
-        (all-append (allRows test) (leaves key) (leaves value) (leaves-rows test key (and-left (allRows test key) _ h)) (leaves-rows test value (and-left (allRows test value) _ h2)))
-        collection (and-right (allRows test value) _ h2)
-    good-literal sc i m mt own (expr e) h = good-call sheet nested parents test S R k keeps sc i m mt own (getExtraArg sheet e) e h
-    good-literal sc i m mt own (notExpr e) h = good-process-expr sheet nested parents test S R k keeps sc i m mt own e h
+        (all-append (allRows (named Q)) (leaves key) (leaves value) (leaves-rows (named Q) key (and-left (allRows (named Q) key) _ h)) (leaves-rows (named Q) value (and-left (allRows (named Q) value) _ h2)))
+        collection (and-right (allRows (named Q) value) _ h2)
+    good-literal sc i m mt own (expr e) h = good-call sheet nested parents Q S R k rises unnamed keeps sc i m mt own (getExtraArg sheet e) (extra-rows (named Q) sheet e h) e h
+    good-literal sc i m mt own (notExpr e) h = good-process-expr sheet nested parents Q S R k rises unnamed keeps sc i m mt own e h
     good-literal sc i m mt own (every key value domain query) h =
-        good-every sc i m mt own key value domain (and-right (allRows test value) _ (and-right (allRows test key) _ h)) query
+        good-every sc i m mt own key value domain (and-right (allRows (named Q) value) _ (and-right (allRows (named Q) key) _ h)) query
 
-    mods-rows : (sc : Scope) (mods : List Tree) → all (allRows test) mods ≡ true → all (allRows test) (modsOf sheet sc mods .comprs) ≡ true
+    mods-rows : (sc : Scope) (mods : List Tree) → all (allRows (named Q)) mods ≡ true → all (allRows (named Q)) (modsOf sheet sc mods .comprs) ≡ true
     unfolding modsOf
-    mods-rows sc mods h = all-concatMap (allRows test) (allRows test) comprs (comprs-rows test) mods h
+    mods-rows sc mods h = all-concatMap (allRows (named Q)) (allRows (named Q)) comprs (comprs-rows (named Q)) mods h
 
-    pub good-stmt : (sc : Scope) (i : ℕ) (st : Stmt) → stmtRows test st ≡ true → Good S R sc (processStmt sheet nested parents i st)
+    pub good-stmt : (sc : Scope) (i : ℕ) (st : Stmt) → stmtRows (named Q) st ≡ true → Good S R sc (processStmt sheet nested parents i st)
     unfolding processStmt
     good-stmt sc i st h =
-        let mt = and-left _ (literalRows test (st .literal)) h in
+        let mt = and-left _ (literalRows (named Q) (st .literal)) h in
         let f1 : State → State = λ t. foldl (λ u e. inTurn (gatherUsedVars sheet i [] e ∷ []) u) t (st .withMods) in
         let f2 : State → State = λ t. processLiteral sheet nested parents i (modsOf sheet (t .scope) (st .withMods)) (st .literal) t in
         good-then S R sc f1 (f2 ∷ atLeastOne i ∷ [])
-        (good-fold S R sc (allRows test) (λ u e. inTurn (gatherUsedVars sheet i [] e ∷ []) u)
-        (λ e q. good-then S R sc (gatherUsedVars sheet i [] e) [] (good-used S R k sheet sc i [] e) (good-end S R sc)) (st .withMods) mt)
+        (good-fold S R sc (allRows (named Q)) (λ u e. inTurn (gatherUsedVars sheet i [] e ∷ []) u)
+        (λ e q. good-then S R sc (gatherUsedVars sheet i [] e) [] (good-used S R Q k rises sheet sc i [] e) (good-end S R sc)) (st .withMods) mt)
         (good-then S R sc f2 (atLeastOne i ∷ [])
         (λ t o g. good-literal (t .scope) i (modsOf sheet (t .scope) (st .withMods)) (mods-rows (t .scope) (st .withMods) mt) (mods-own sheet (t .scope) (st .withMods))
-        (st .literal) (and-right (all (allRows test) (st .withMods)) _ h) t o (λ x e. e))
-        (good-then S R sc (atLeastOne i) [] (good-at-least-one S R k sc i) (good-end S R sc)))
+        (st .literal) (and-right (all (allRows (named Q)) (st .withMods)) _ h) t o (λ x e. e))
+        (good-then S R sc (atLeastOne i) [] (good-at-least-one S R Q k rises sc i) (good-end S R sc)))
 
-    pub good-stmts : (sc : Scope) (stmts : List Stmt) → all (stmtRows test) stmts ≡ true → (i : ℕ) → Good S R sc (processStmts sheet nested parents i stmts)
+    pub good-stmts : (sc : Scope) (stmts : List Stmt) → all (stmtRows (named Q)) stmts ≡ true → (i : ℕ) → Good S R sc (processStmts sheet nested parents i stmts)
     unfolding processStmts
     good-stmts sc [] t i s o h = record { holds = o; grows = λ x e. e }
     good-stmts sc (st ∷ stmts) t i s o h =
-        let a = good-then S R sc (processStmt sheet nested parents i st) [] (good-stmt sc i st (and-left (stmtRows test st) _ t)) (good-end S R sc) s o h in
-        let r = good-stmts sc stmts (and-right (stmtRows test st) _ t) (suc i) (inTurn (processStmt sheet nested parents i st ∷ []) s) (a .holds) (λ x e. a .grows x (h x e)) in
+        let a = good-then S R sc (processStmt sheet nested parents i st) [] (good-stmt sc i st (and-left (stmtRows (named Q) st) _ t)) (good-end S R sc) s o h in
+        let r = good-stmts sc stmts (and-right (stmtRows (named Q) st) _ t) (suc i) (inTurn (processStmt sheet nested parents i st ∷ []) s) (a .holds) (λ x e. a .grows x (h x e)) in
         record { holds = r .holds; grows = λ x e. r .grows x (a .grows x e) }
 
-    pub good-outputs : (sc : Scope) (outputs : List Tree) → all (allRows test) outputs ≡ true → Good S R sc (λ s. foldl (analyzeOutputExpr sheet nested parents) s outputs)
+    pub good-outputs : (sc : Scope) (outputs : List Tree) → all (allRows (named Q)) outputs ≡ true → Good S R sc (λ s. foldl (analyzeOutputExpr sheet nested parents) s outputs)
     unfolding analyzeOutputExpr outputCompr
     good-outputs sc outputs h =
-        good-fold S R sc (allRows test) (analyzeOutputExpr sheet nested parents)
-        (λ t q. good-fold S R sc (allRows test) (outputCompr sheet nested parents)
+        good-fold S R sc (allRows (named Q)) (analyzeOutputExpr sheet nested parents)
+        (λ t q. good-fold S R sc (allRows (named Q)) (outputCompr sheet nested parents)
         (λ e r s o g. good-then S R sc (analyzeCompr sheet nested parents (outputScope (s .scope) ∷ parents) e) (propagate e ∷ [])
-        (good-compr sheet nested parents test S R k keeps sc (outputScope (s .scope) ∷ parents) e r)
-        (good-then S R sc (propagate e) [] (good-propagate S R k sc e) (good-end S R sc)) s o g) (comprs t) (comprs-rows test t q)) outputs h
+        (good-compr sheet nested parents Q S R k rises unnamed keeps sc (outputScope (s .scope) ∷ parents) e r)
+        (good-then S R sc (propagate e) [] (good-propagate S R Q k rises sc e) (good-end S R sc)) s o g) (comprs t) (comprs-rows (named Q) t q)) outputs h

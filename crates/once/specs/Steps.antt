@@ -5,28 +5,34 @@ use mathlib.Core.Bool.{Bool, true, false, not, _||_}
 use mathlib.Core.List.{List, [], _∷_, _++_, map, foldl}
 use mathlib.Core.Option.{Option, none, some}
 use Prim.Native.Nat.{ℕ}
-use lib.Dec.{eqb, ltb}
+use lib.Dec.{eqb}
 use Rattle.basics.specs.Truth.{and-intro, and-left, and-right, or-right}
 use Rattle.basics.specs.Lists.{all, filter}
 use Rattle.turns.specs.Definitions.{Definition, ofStatement}
-use Rattle.trees.specs.ListLaws.{all-weaken, all-map}
+use Rattle.trees.specs.ListLaws.{all-weaken, all-filter, all-map}
 use Rattle.records.specs.declared.Row.{Row}
-use Rattle.trees.specs.Sheet.{Sheet, nameBound}
+use Rattle.trees.specs.Sheet.{Sheet}
 use Rattle.trees.specs.Trees.{Tree, rowOf}
 use Rattle.trees.specs.Traverse.{leaves, vars}
+use Rattle.scopes.specs.NameSets.{elements}
 use Rattle.scopes.specs.Scopes.{Scope, Span, spanOf, spanIn, isLocal, owns, addUnscoped, addInput, useInput}
 use Rattle.uses.specs.Uses.{define, readsInput, undefinedVar, variablesUsed, indexDefinitions}
-use Rattle.analysis.specs.States.{Fault, sound, undefined, usedBefore, lengths, indexVariable, QuerySchedule, Run, State, setScope, addFirstUses, addDefinitions, setRun, fail, ifSound, inTurn, failOr}
+use Rattle.analysis.specs.States.{scopeIn, scheduleOf, Fault, sound, undefined, usedBefore, lengths, indexVariable, QuerySchedule, Run, State, setScope, addFirstUses, addDefinitions, setRun, fail, ifSound, inTurn, failOr}
 use Rattle.analysis.specs.Using.{undefinedAt, gatherUsedVars, usedBeforeAt, checkFirstUse, checkAssigned, recordOne, recordEach, unlessSome, atLeastOne}
 use Rattle.once.specs.Comprs.{comprScope, comprInputs, comprsUse, propagate, useCompr}
 use Rattle.once.specs.Own.{ownDefinition, Grows, own-grows, define-own, grows-flag, grows-inputs, index-own}
 
--- Each change keeps S: names are added to the inputs or, from an extra argument, to unscoped; the flag is set; own definitions are recorded.
-pub record Kept (S : Scope → List Definition → Type 0) : Type 0 where
-  pub input : (sc : Scope) (defs : List Definition) (x : ℕ) → S sc defs → S (addInput sc x) defs
+-- Each change keeps S: names that pass Q are added to the inputs or, from an extra argument, to unscoped; the flag is set; own definitions
+-- are recorded.
+pub record Kept (Q : ℕ → Bool) (S : Scope → List Definition → Type 0) : Type 0 where
+  pub input : (sc : Scope) (defs : List Definition) (x : ℕ) → Q x ≡ true → S sc defs → S (addInput sc x) defs
   pub flag : (sc : Scope) (defs : List Definition) (b : Bool) → S sc defs → S (useInput b sc) defs
-  pub extra : (sc : Scope) (defs : List Definition) (x : ℕ) → ltb x nameBound ≡ true → S sc defs → S (addUnscoped sc x) defs
+  pub extra : (sc : Scope) (defs : List Definition) (x : ℕ) → Q x ≡ true → S sc defs → S (addUnscoped sc x) defs
   pub recorded : (sc : Scope) (defs new : List Definition) → all (ownDefinition sc) new ≡ true → S sc defs → S sc (defs ++ new)
+
+-- What rises from the queries in a table passes Q.
+abbrev pub Rises : (ℕ → Bool) → (List QuerySchedule → Type 0) → Type 0
+Rises Q R = (l : List QuerySchedule) → R l → (q : ℕ) → all Q (elements (scopeIn (scheduleOf l q) .inputs)) ≡ true
 
 module _ (S : Scope → List Definition → Type 0) (R : List QuerySchedule → Type 0) where
   pub record Holds (s : State) : Type 0 where
@@ -88,7 +94,7 @@ module _ (S : Scope → List Definition → Type 0) (R : List QuerySchedule → 
   good-fail-or sc f none g s o h = g s o h
   good-fail-or sc f (some e) g s o h = good-fail sc e s o h
 
-  module _ (k : Kept S) where
+  module _ (Q : ℕ → Bool) (k : Kept Q S) (rises : Rises Q R) where
     pub good-scope : (s : State) (sc : Scope) → Holds s → S sc (s .definitions) → Grows (s .scope) sc → Keeps s (setScope sc s)
     unfolding setScope
     good-scope s sc o h g = record { holds = record { here = h; table = o .table }; grows = g }
@@ -98,14 +104,14 @@ module _ (S : Scope → List Definition → Type 0) (R : List QuerySchedule → 
     good-definitions s new o h =
         record { holds = record { here = k .recorded (s .scope) (s .definitions) new h (o .here); table = o .table }; grows = λ x e. e }
 
-    inputs-kept : (l : List ℕ) (sc : Scope) (defs : List Definition) → S sc defs → S (foldl addInput sc l) defs
-    inputs-kept [] sc defs h = h
-    inputs-kept (x ∷ l) sc defs h = inputs-kept l (addInput sc x) defs (k .input sc defs x h)
+    inputs-kept : (l : List ℕ) → all Q l ≡ true → (sc : Scope) (defs : List Definition) → S sc defs → S (foldl addInput sc l) defs
+    inputs-kept [] q sc defs h = h
+    inputs-kept (x ∷ l) q sc defs h = inputs-kept l (and-right (Q x) _ q) (addInput sc x) defs (k .input sc defs x (and-left _ (all Q l) q) h)
 
-    pub extras-kept : (l : List ℕ) → all (λ x. ltb x nameBound) l ≡ true → (sc : Scope) (defs : List Definition) → S sc defs → S (foldl addUnscoped sc l) defs
+    pub extras-kept : (l : List ℕ) → all Q l ≡ true → (sc : Scope) (defs : List Definition) → S sc defs → S (foldl addUnscoped sc l) defs
     extras-kept [] q sc defs h = h
     extras-kept (x ∷ l) q sc defs h =
-        extras-kept l (and-right (ltb x nameBound) _ q) (addUnscoped sc x) defs (k .extra sc defs x (and-left _ (all (λ y. ltb y nameBound) l) q) h)
+        extras-kept l (and-right (Q x) _ q) (addUnscoped sc x) defs (k .extra sc defs x (and-left _ (all Q l) q) h)
 
     -- ---- the steps of one expression
 
@@ -127,12 +133,12 @@ module _ (S : Scope → List Definition → Type 0) (R : List QuerySchedule → 
         s o (λ x e. e)
 
     pub good-propagate : (sc : Scope) (e : Tree) → Good sc (propagate e)
-    unfolding propagate
+    unfolding propagate comprInputs
     good-propagate sc e s o h =
         let b = comprScope s e .usesInput in
         let l = filter (λ x. not (owns (s .scope) x)) (comprInputs s e) in
         good-scope s (foldl addInput (useInput b (s .scope)) l) o
-        (inputs-kept l (useInput b (s .scope)) (s .definitions) (k .flag (s .scope) (s .definitions) b (o .here)))
+        (inputs-kept l (all-filter Q (λ x. not (owns (s .scope) x)) (comprInputs s e) (rises (s .run .schedules) (o .table) (rowOf e .third))) (useInput b (s .scope)) (s .definitions) (k .flag (s .scope) (s .definitions) b (o .here)))
         (λ x q. grows-inputs l (useInput b (s .scope)) x (grows-flag b (s .scope) x q))
 
     pub good-use-compr : (sc : Scope) (e : Tree) → Good sc (useCompr e)

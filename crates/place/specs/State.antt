@@ -15,17 +15,18 @@ use Rattle.rows.specs.Links.{Linked}
 use Rattle.rows.specs.Masks.{maskAt}
 use Rattle.place.specs.declared.State.{State}
 
--- The rows are of n statements and 128 names, and `links` has the rows of each statement.
-pub record Sound (ws links : List ℕ) (n : ℕ) : Type 0 where
+-- The rows are of n statements and 512 names, and `links` has the rows of each statement.
+pub record Sound (w : ℕ) (ws links : List ℕ) (n : ℕ) : Type 0 where
   pub few : n ≤ 128
-  pub stated : (k : ℕ) → k < rowCount ws → statementAt ws k < n
-  pub named : (k : ℕ) → k < rowCount ws → varAt ws k < 128
-  pub linked : Linked ws links
+  pub stated : (k : ℕ) → k < rowCount w ws → statementAt w ws k < n
+  pub named : (k : ℕ) → k < rowCount w ws → varAt w ws k < 512
+  pub linked : Linked w ws links
 
 -- The same, and `masks` has for each name the set of the statements that define it.
-pub record Indexed (ws links masks : List ℕ) (n : ℕ) : Type 0 where
-  pub sound : Sound ws links n
-  pub sets : (x : ℕ) → x < 128 → (i : ℕ) → member (maskAt masks x) i ≡ defines (definitions ws) i x
+pub record Indexed (w : ℕ) (ws links masks : List ℕ) (n : ℕ) : Type 0 where
+  pub sound : Sound w ws links n
+  pub long : length masks ≡ 1024
+  pub sets : (x : ℕ) → x < 512 → (i : ℕ) → member (maskAt masks x) i ≡ defines (definitions w ws) i x
 
 -- The number r is the lowest member of `own`, from a up, that is not idle, or 128.
 pub record NextTry (own idle : List ℕ) (a r : ℕ) : Type 0 where

@@ -51,28 +51,28 @@ pub record Turning (defs : List Definition) (n x : ℕ) (result : List ℕ) (s :
   pub left : walk (ready defs) (defines defs) n (orderOf s order) (filter (λ j. defines defs j x) (range i n)) ≡ result
 
 -- A statement that defines a name and is not idle may be tried.
-is-waiting : {ws links : List ℕ} {n : ℕ} {s : State} {order reached : List ℕ} → Sound ws links n → Holds (definitions ws) n s order reached
-    → (i x : ℕ) → defines (definitions ws) i x ≡ true → member (s .idle .words) i ≡ false → Waiting (definitions ws) n s i
-is-waiting {ws} {s = s} sound h i x d active =
-    let by = defines-by (definitions ws) i x d in
-    let row = listed-row ws (by .1 .listed) in
-    let is : statementAt ws (row .0) ≡ i = ap (λ (e : Definition). e .statement) (row .2) ∙ by .1 .statement in
+is-waiting : {w : ℕ} {ws links : List ℕ} {n : ℕ} {s : State} {order reached : List ℕ} → Sound w ws links n → Holds (definitions w ws) n s order reached
+    → (i x : ℕ) → defines (definitions w ws) i x ≡ true → member (s .idle .words) i ≡ false → Waiting (definitions w ws) n s i
+is-waiting {w} {ws} {s = s} sound h i x d active =
+    let by = defines-by (definitions w ws) i x d in
+    let row = listed-row w ws (by .1 .listed) in
+    let is : statementAt w ws (row .0) ≡ i = ap (λ (e : Definition). e .statement) (row .2) ∙ by .1 .statement in
     record {
       below = omega (arith, sound .stated (row .0) (row .1));
-      has = mem-some (ofStatement i (definitions ws)) (mem-statement i (definitions ws) (by .1 .listed) (by .1 .statement));
+      has = mem-some (ofStatement i (definitions w ws)) (mem-statement i (definitions w ws) (by .1 .listed) (by .1 .statement));
       unplaced =
           ⊎-elim (λ (p : member (s .placed .words) i ≡ true). absurd (not-both (h .rests i p) active))
           (λ (p : member (s .placed .words) i ≡ false). p) (bool-cases (member (s .placed .words) i));
     }
 
-module _ {ws links masks : List ℕ} {n x : ℕ} (indexed : Indexed ws links masks n) (named : x < 128) where
+module _ {w : ℕ} {ws links masks : List ℕ} {n x : ℕ} (indexed : Indexed w ws links masks n) (named : x < 512) where
   -- What `next_try` passes over does not define the name, or is idle.
-  goes-to : {s : State} {order reached result : List ℕ} {a r : ℕ} → Holds (definitions ws) n s order reached
+  goes-to : {s : State} {order reached result : List ℕ} {a r : ℕ} → Holds (definitions w ws) n s order reached
       → NextTry (maskAt masks x) (s .idle .words) a r → a ≤ 128
-      → walk (ready (definitions ws)) (defines (definitions ws)) n (orderOf s order)
-      (filter (λ j. defines (definitions ws) j x) (range a n))
+      → walk (ready (definitions w ws)) (defines (definitions w ws)) n (orderOf s order)
+      (filter (λ j. defines (definitions w ws) j x) (range a n))
       ≡ result
-      → Turning (definitions ws) n x result s order reached r
+      → Turning (definitions w ws) n x result s order reached r
   goes-to {s} {order} {a = a} {r = r} h next l left = record {
     holds = h;
     here = here;
@@ -83,7 +83,7 @@ module _ {ws links masks : List ℕ} {n x : ℕ} (indexed : Indexed ws links mas
   }
     where
       defs : List Definition
-      defs = definitions ws
+      defs = definitions w ws
 
       here : r < 128 → defines defs r x ≡ true
       here u = sym (indexed .sets x named r) ∙ and-left _ _ (next .found u)
@@ -94,16 +94,16 @@ module _ {ws links masks : List ℕ} {n x : ℕ} (indexed : Indexed ws links mas
       skipped j out (inl idle) = rw (h .idles j idle, and-false (defines defs j x))
       skipped j out (inr active) = rw (sym (indexed .sets x named j) ∙ sym (and-true (member (maskAt masks x) j)) ∙ (rw active at out))
 
-  pub turning-first : {s : State} {order reached : List ℕ} {r : ℕ} → Holds (definitions ws) n s order reached
+  pub turning-first : {s : State} {order reached : List ℕ} {r : ℕ} → Holds (definitions w ws) n s order reached
       → NextTry (maskAt masks x) (s .idle .words) 0 r
-      → Turning (definitions ws) n x (turnOrder (definitions ws) n x (orderOf s order)) s order reached r
+      → Turning (definitions w ws) n x (turnOrder (definitions w ws) n x (orderOf s order)) s order reached r
   turning-first h next = goes-to h next (omega arith) refl
 
   -- After the try of the statement at hand the turn goes on above it.
   pub turning-next : {s s′ : State} {order reached order′ reached′ result : List ℕ} {i r : ℕ}
-      → Turning (definitions ws) n x result s order reached i → i < 128
-      → After (definitions ws) n (pick (ready (definitions ws)) (defines (definitions ws)) n (orderOf s order) i) s′ order′ reached′
-      → NextTry (maskAt masks x) (s′ .idle .words) (i + 1) r → Turning (definitions ws) n x result s′ order′ reached′ r
+      → Turning (definitions w ws) n x result s order reached i → i < 128
+      → After (definitions w ws) n (pick (ready (definitions w ws)) (defines (definitions w ws)) n (orderOf s order) i) s′ order′ reached′
+      → NextTry (maskAt masks x) (s′ .idle .words) (i + 1) r → Turning (definitions w ws) n x result s′ order′ reached′ r
   turning-next {i = i} turn l after next =
       goes-to (after .holds) next (omega arith)
       (rw (after .now-is) (rw (range-cons i n (turn .waits l .below), turn .here l) at (turn .left)))

@@ -2,8 +2,11 @@
 
 use names::CAPACITY;
 use names::Names;
+use names::statements::STATEMENTS;
+use names::statements::Statements;
 use rows::CELLS;
 use rows::MASKS;
+use widths::Width;
 ghost use mathlib.Core.Path.{_≡_};
 ghost use Prim.Native.Nat.{ℕ, _<_, _≤_};
 ghost use lib.ListN.{length, getD};
@@ -11,6 +14,7 @@ ghost use Rattle.basics.specs.Ranges.{range};
 ghost use Rattle.walks.specs.Walk.{pick};
 ghost use Rattle.turns.specs.PlainWalk.{defines, ready};
 ghost use Rattle.turns.specs.Orders.{turnOrder, followedOrder, roundOrder, placedOrder};
+ghost use Rattle.widths.specs.Widths.{row};
 ghost use Rattle.rows.specs.Rows.{definitions};
 ghost use Rattle.rows.specs.Masks.{Masked};
 ghost use Rattle.place.specs.State.{Sound, Indexed, NextTry, orderOf, Holds, Waiting, After};
@@ -20,15 +24,16 @@ pub struct State {
     // The names that the statements placed define.
     pub known: Names,
     // The statements placed.
-    pub placed: Names,
+    pub placed: Statements,
     // The same with those whose try failed since the last placing: a try of these would fail.
-    pub idle: Names,
+    pub idle: Statements,
     // How many are placed.
     pub count: usize,
 }
 
 // A try of a statement: placed if its definitions resolve, else left idle until another is placed.
 pub fn attempt(
+    width: Width,
     rows: &[u64],
     links: &[u16; CELLS],
     n: usize,
@@ -37,10 +42,10 @@ pub fn attempt(
     order: &mut [u16],
     reached: &mut [u16],
 ) -> State
-    requires { ⌜ Sound (now rows) (now links) n ⌝ }
-    requires { ⌜ Waiting (definitions (now rows)) n state i ⌝ }
-    requires { ⌜ Holds (definitions (now rows)) n state (now order) (now reached) ⌝ }
-    ensures { λ r. ⌜ (let defs = definitions (now (rows .entry)) in
+    requires { ⌜ Sound (row width) (now rows) (now links) n ⌝ }
+    requires { ⌜ Waiting (definitions (row width) (now rows)) n state i ⌝ }
+    requires { ⌜ Holds (definitions (row width) (now rows)) n state (now order) (now reached) ⌝ }
+    ensures { λ r. ⌜ (let defs = definitions (row width) (now (rows .entry)) in
         let o = orderOf state (now (order .entry)) in
         After defs n (pick (ready defs) (defines defs) n o i) r (now (order .exit)) (now (reached .exit))) ⌝ }
 {
@@ -48,7 +53,7 @@ pub fn attempt(
     let placed = state.placed;
     let idle = state.idle;
     let count = state.count;
-    let tried = resolve::try_statement(rows, links, i, known);
+    let tried = resolve::try_statement(width, rows, links, i, known);
     if !tried.resolved {
         let failed = idle.insert(i);
         return State {
@@ -71,7 +76,7 @@ pub fn attempt(
 }
 
 // The next statement of a set, from `from` up, that is worth a try.
-pub fn next_try(own: Names, idle: Names, from: usize) -> usize
+pub fn next_try(own: Statements, idle: Statements, from: usize) -> usize
     ensures { λ r. ⌜ NextTry (own .words) (idle .words) from r ⌝ }
 {
     own.difference(idle).next(from)
@@ -79,6 +84,7 @@ pub fn next_try(own: Names, idle: Names, from: usize) -> usize
 
 // The turn of a name: its unplaced statements are tried, lowest index first.
 pub fn take_turn(
+    width: Width,
     rows: &[u64],
     links: &[u16; CELLS],
     masks: &[u64; MASKS],
@@ -88,19 +94,17 @@ pub fn take_turn(
     order: &mut [u16],
     reached: &mut [u16],
 ) -> State
-    requires { ⌜ (name < 128) × Indexed (now rows) (now links) (now masks) n ⌝ }
-    requires { ⌜ Holds (definitions (now rows)) n state (now order) (now reached) ⌝ }
-    ensures { λ r. ⌜ (let defs = definitions (now (rows .entry)) in
+    requires { ⌜ (name < 512) × Indexed (row width) (now rows) (now links) (now masks) n ⌝ }
+    requires { ⌜ Holds (definitions (row width) (now rows)) n state (now order) (now reached) ⌝ }
+    ensures { λ r. ⌜ (let defs = definitions (row width) (now (rows .entry)) in
         let o = orderOf state (now (order .entry)) in
         After defs n (turnOrder defs n name o) r (now (order .exit)) (now (reached .exit))) ⌝ }
 {
-    let own = Names {
-        words: [masks[2 * name], masks[2 * name + 1]],
-    };
+    let own = rows::statements_of(masks, name);
     let mut at = state;
     let mut i = next_try(own, at.idle, 0);
-    while i < CAPACITY {
-        at = attempt(rows, links, n, i, at, order, reached);
+    while i < STATEMENTS {
+        at = attempt(width, rows, links, n, i, at, order, reached);
         i = next_try(own, at.idle, i + 1);
     }
     at
@@ -108,6 +112,7 @@ pub fn take_turn(
 
 // A turn of the name, and one more of the empty name where it placed something.
 pub fn take_followed(
+    width: Width,
     rows: &[u64],
     links: &[u16; CELLS],
     masks: &[u64; MASKS],
@@ -117,23 +122,24 @@ pub fn take_followed(
     order: &mut [u16],
     reached: &mut [u16],
 ) -> State
-    requires { ⌜ (name < 128) × Indexed (now rows) (now links) (now masks) n ⌝ }
-    requires { ⌜ Holds (definitions (now rows)) n state (now order) (now reached) ⌝ }
-    ensures { λ r. ⌜ (let defs = definitions (now (rows .entry)) in
+    requires { ⌜ (name < 512) × Indexed (row width) (now rows) (now links) (now masks) n ⌝ }
+    requires { ⌜ Holds (definitions (row width) (now rows)) n state (now order) (now reached) ⌝ }
+    ensures { λ r. ⌜ (let defs = definitions (row width) (now (rows .entry)) in
         let o = orderOf state (now (order .entry)) in
         After defs n (followedOrder defs n o name) r (now (order .exit)) (now (reached .exit))) ⌝ }
 {
     let before = state.count;
-    let own = take_turn(rows, links, masks, n, name, state, order, reached);
+    let own = take_turn(width, rows, links, masks, n, name, state, order, reached);
     let after = own.count;
     if after == before {
         return own;
     }
-    take_turn(rows, links, masks, n, 0, own, order, reached)
+    take_turn(width, rows, links, masks, n, 0, own, order, reached)
 }
 
 // A round: the turn of each name that a statement defines, ascending.
 pub fn take_round(
+    width: Width,
     rows: &[u64],
     links: &[u16; CELLS],
     masks: &[u64; MASKS],
@@ -143,17 +149,17 @@ pub fn take_round(
     order: &mut [u16],
     reached: &mut [u16],
 ) -> State
-    requires { ⌜ Sound (now rows) (now links) n ⌝ }
-    requires { ⌜ Masked (now rows) (now masks) (defined .words) ⌝ }
-    requires { ⌜ Holds (definitions (now rows)) n state (now order) (now reached) ⌝ }
-    ensures { λ r. ⌜ (let defs = definitions (now (rows .entry)) in
+    requires { ⌜ Sound (row width) (now rows) (now links) n ⌝ }
+    requires { ⌜ Masked (row width) (now rows) (now masks) (defined .words) ⌝ }
+    requires { ⌜ Holds (definitions (row width) (now rows)) n state (now order) (now reached) ⌝ }
+    ensures { λ r. ⌜ (let defs = definitions (row width) (now (rows .entry)) in
         let o = orderOf state (now (order .entry)) in
-        After defs n (roundOrder defs n (range 0 128) o) r (now (order .exit)) (now (reached .exit))) ⌝ }
+        After defs n (roundOrder defs n (range 0 512) o) r (now (order .exit)) (now (reached .exit))) ⌝ }
 {
     let mut at = state;
     let mut name = defined.next(0);
     while name < CAPACITY {
-        at = take_followed(rows, links, masks, n, name, at, order, reached);
+        at = take_followed(width, rows, links, masks, n, name, at, order, reached);
         name = defined.next(name + 1);
     }
     at
@@ -161,6 +167,7 @@ pub fn take_round(
 
 // The turn rule, from nothing placed: the opening turn of the empty name, then rounds until one places nothing or all are placed.
 pub fn place_all(
+    width: Width,
     rows: &[u64],
     links: &[u16; CELLS],
     masks: &[u64; MASKS],
@@ -169,25 +176,25 @@ pub fn place_all(
     order: &mut [u16],
     reached: &mut [u16],
 ) -> State
-    requires { ⌜ Sound (now rows) (now links) n ⌝ }
-    requires { ⌜ Masked (now rows) (now masks) (defined .words) ⌝ }
+    requires { ⌜ Sound (row width) (now rows) (now links) n ⌝ }
+    requires { ⌜ Masked (row width) (now rows) (now masks) (defined .words) ⌝ }
     requires { ⌜ (n ≤ length (now order)) × (n ≤ length (now reached)) ⌝ }
     requires { ⌜ ((i : ℕ) → getD (now order) i 0 ≡ 0) ⌝ }
     requires { ⌜ ((i : ℕ) → getD (now reached) i 0 ≡ 0) ⌝ }
-    ensures { λ r. ⌜ (let defs = definitions (now (rows .entry)) in
-        After defs n (placedOrder defs n 128) r (now (order .exit)) (now (reached .exit))) ⌝ }
+    ensures { λ r. ⌜ (let defs = definitions (row width) (now (rows .entry)) in
+        After defs n (placedOrder defs n 512) r (now (order .exit)) (now (reached .exit))) ⌝ }
 {
-    let none = Names::empty();
+    let none = Statements::empty();
     let start = State {
-        known: none,
+        known: Names::empty(),
         placed: none,
         idle: none,
         count: 0,
     };
-    let mut at = take_turn(rows, links, masks, n, 0, start, order, reached);
+    let mut at = take_turn(width, rows, links, masks, n, 0, start, order, reached);
     while at.count < n {
         let before = at.count;
-        at = take_round(rows, links, masks, defined, n, at, order, reached);
+        at = take_round(width, rows, links, masks, defined, n, at, order, reached);
         let after = at.count;
         if after == before {
             break;

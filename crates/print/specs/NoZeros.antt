@@ -9,6 +9,7 @@ use native.Mathlib.Omega.{arith}
 use lib.Dec.{ltb, leb}
 use lib.ListN.{length}
 use borrow.Author.Tests.{lt-ltb}
+use Rattle.basics.specs.Limits.{Limits}
 use Rattle.basics.specs.Refusals as refusals
 use Rattle.basics.specs.Truth.{bool-cases, and-intro, and-left, and-right}
 use Rattle.basics.specs.Lists.{all}
@@ -101,6 +102,6 @@ after-told s room (BadName l) = omega arith
 after-told s room (BadCount l) = omega arith
 after-told s room (BadField l) = omega arith
 
-pub result-told : (s : List ℕ) (tables work room : ℕ) → Told (result s tables work room)
+pub result-told : (lim : Limits) (s : List ℕ) (tables work room : ℕ) → Told (result lim s tables work room)
 unfolding result
-result-told s tables work room = after-told s room (verdict s tables work)
+result-told lim s tables work room = after-told s room (verdict lim s tables work)

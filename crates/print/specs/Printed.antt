@@ -9,6 +9,7 @@ use lib.Dec.{ltb}
 use lib.ListN.{length, getD, take, replicate, length-append, length-replicate, List·getD-append, getD-replicate}
 use lib.Seq.{take-at, getD-append-add, length-take-le}
 use borrow.Author.Tests.{ltb-true}
+use Rattle.basics.specs.Limits.{Limits}
 use Rattle.basics.specs.Truth.{bool-cases, lt-cases, and-left, and-right}
 use Rattle.text.specs.Bytes.{newline, bytes}
 use Rattle.writer.specs.Decimal.{digits, rowLine}
@@ -112,17 +113,17 @@ shows-refusal room n l c enough b r put =
 
 -- ---- of any sheet
 
-module _ (s : List ℕ) (tables work room : ℕ) (p : Reply) (t w a : List ℕ) (is : asLeft p t w a ≡ left s tables work room) where
+module _ (lim : Limits) (s : List ℕ) (tables work room : ℕ) (p : Reply) (t w a : List ℕ) (is : asLeft p t w a ≡ left lim s tables work room) where
   abbrev Prints : List ℕ → ℕ → Type 0
-  Prints b r = Shows b r (printed (result s tables work room))
+  Prints b r = Shows b r (printed (result lim s tables work room))
 
-  left-by : asLeft p t w a ≡ leftBy tables work room (result s tables work room)
+  left-by : asLeft p t w a ≡ leftBy tables work room (result lim s tables work room)
   unfolding left
   left-by = is
 
   pub prints-refusal : (p .number ≡ 0 → ⊥) → 64 ≤ room → (b : List ℕ) (r : ℕ)
       → Puts a 0 (refusalText (p .number) (p .line) (p .col)) b r → Prints b r
-  prints-refusal some enough b r put = go (result s tables work room) left-by
+  prints-refusal some enough b r put = go (result lim s tables work room) left-by
     where
       go : (x : Result) → asLeft p t w a ≡ leftBy tables work room x → Shows b r (printed x)
       go (refused n l c) e =
@@ -133,7 +134,7 @@ module _ (s : List ℕ) (tables work room : ℕ) (p : Reply) (t w a : List ℕ) 
       go (answered text) e = absurd (some (ap (λ (k : Left). k .number) e))
 
   pub prints-answer : p .number ≡ 0 → (r : ℕ) → Ends a r → Prints a r
-  prints-answer none r ends = go (result s tables work room) (result-told s tables work room) left-by
+  prints-answer none r ends = go (result lim s tables work room) (result-told lim s tables work room) left-by
     where
       go : (x : Result) → Told x → asLeft p t w a ≡ leftBy tables work room x → Shows a r (printed x)
       go (refused n l c) h e = absurd (let z : p .number ≡ n = ap (λ (k : Left). k .number) e in omega arith)

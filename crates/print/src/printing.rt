@@ -1,11 +1,13 @@
 // The text that is printed of a sheet.
 
 use answer::rows::put_three;
+use widths::Width;
 use writer::put;
 use writer::put_bytes;
 ghost use mathlib.Core.Path.{_≡_};
 ghost use Prim.Native.Nat.{_≤_};
 ghost use lib.ListN.{length, take};
+ghost use Rattle.basics.specs.Limits.{printing};
 ghost use Rattle.writer.specs.Writes.{Puts};
 ghost use Rattle.answers.specs.Text.{refusalText};
 ghost use Rattle.answers.specs.Call.{result, printed};
@@ -38,9 +40,9 @@ fn text_length(text: &[u8]) -> usize
 // Answers how many bytes are to be printed. Any refusal has room in 64.
 pub fn put_printed(sheet: &[u8], tables: &mut [u16], work: &mut [u64], answer: &mut [u8]) -> usize
     requires { ⌜ 64 ≤ length (now answer) ⌝ }
-    ensures { λ r. ⌜ Counts r (now (answer .exit)) × (take r (now (answer .exit)) ≡ printed (result (now (sheet .entry)) (length (now (tables .entry))) (length (now (work .entry))) (length (now (answer .entry))))) ⌝ }
+    ensures { λ r. ⌜ Counts r (now (answer .exit)) × (take r (now (answer .exit)) ≡ printed (result printing (now (sheet .entry)) (length (now (tables .entry))) (length (now (work .entry))) (length (now (answer .entry))))) ⌝ }
 {
-    let reply = call::analyze(sheet, tables, work, answer);
+    let reply = call::analyze(sheet, tables, work, answer, Width::Two);
     if reply.number != 0 {
         return put_refusal(
             answer,

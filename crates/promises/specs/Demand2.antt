@@ -8,9 +8,12 @@ use Prim.Native.Nat.{ℕ, _-_}
 use native.Mathlib.Omega.{arith}
 use lib.Dec.{eqb, leb}
 use lib.ListN.{length, replicate}
+use Rattle.basics.specs.Limits.{Limits}
+use Rattle.basics.specs.Limits as least
+use Rattle.widths.specs.declared.Width.{Width}
+use Rattle.widths.specs.Widths.{limits}
 use Rattle.basics.specs.Lists.{elem, all}
 use Rattle.basics.specs.Truth.{and-intro, and-left, and-right, not-both}
-use Rattle.text.specs.Limits as limits
 use Rattle.text.specs.Questions.{shortEnough, formFault, namesFault, countsFault}
 use Rattle.trees.specs.Sheet.{Sheet, sheetIn}
 use Rattle.sheet.specs.declared.Outcome.{Outcome}
@@ -27,7 +30,7 @@ use Rattle.promises.specs.Positions.{Position, ofTheWhole, ofTheSheet, o
 use Rattle.promises.specs.Demand1.{Parts, numberIn, analyze-refuses-or-succeeds, read-refuses-or-succeeds}
 use Rattle.promises.specs.Demand1 as one
 
--- ---- `nokchbem_analyze`
+-- ---- `nokchbem_analyze`, and the printing program's call
 
 -- All that the call returns and leaves.
 pub record Equals (l : Left) (r : ℕ) (t w a : List ℕ) : Type 0 where
@@ -68,17 +71,17 @@ some-number {n} (whole h) z = absurd (not-both (ap (λ (m : ℕ). elem m ofTheWh
 some-number {n} (at-line h l) z = absurd (not-both (ap (λ (m : ℕ). elem m ofTheSheet) (sym z) ∙ h) refl)
 some-number {n} (at-span h) z = absurd (not-both (ap (λ (m : ℕ). elem m ofTheWalk) (sym z) ∙ h) refl)
 
-module _ {s : List ℕ} {tables work room r : ℕ} {t w a : List ℕ} (call : AnalyzeCall s tables work room r t w a) where
+module _ {lim : Limits} {s : List ℕ} {tables work room r : ℕ} {t w a : List ℕ} (call : AnalyzeCall lim s tables work room r t w a) where
   -- What it returns and leaves is a function of the bytes and of how long the lent buffers are: it depends on nothing else, and on nothing that
   -- stood in them before.
-  pub analyze-leaves : Equals (left s tables work room) r t w a
+  pub analyze-leaves : Equals (left lim s tables work room) r t w a
   analyze-leaves = record { number = call .returned; tables = call .tabled; work = call .worked; answer = call .answered }
 
   -- That function puts the questions of document 01 in their order: it is what the first one says whose answer is no, and the text if there is none.
-  pub analyze-asks : Equals (leftBy tables work room (firstNo (questions s tables work room) (text s))) r t w a
+  pub analyze-asks : Equals (leftBy tables work room (firstNo (questions lim s tables work room) (text s))) r t w a
   unfolding left
   analyze-asks =
-      let e = ap (leftBy tables work room) (asked-in-turn s tables work room) in record {
+      let e = ap (leftBy tables work room) (asked-in-turn lim s tables work room) in record {
         number = call .returned ∙ ap leftNumber e;
         tables = call .tabled ∙ ap (λ (l : Left). l .tables) e;
         work = call .worked ∙ ap (λ (l : Left). l .work) e;
@@ -86,17 +89,17 @@ module _ {s : List ℕ} {tables work room r : ℕ} {t w a : List ℕ} (call : An
       }
 
   -- Exactly what the definitions refuse is refused: 0 is returned where every answer is yes, and nowhere else.
-  pub analyze-accepts : (r ≡ 0) ↔ (allYes (questions s tables work room) ≡ true)
+  pub analyze-accepts : (r ≡ 0) ↔ (allYes (questions lim s tables work room) ≡ true)
   unfolding left
   analyze-accepts = (
     λ z. accepted z (analyze-refuses-or-succeeds call),
     λ h.
         call .returned
-        ∙ ap (λ (o : Result). leftNumber (leftBy tables work room o)) (asked-in-turn s tables work room ∙ yes-text (questions s tables work room) (text s) h),
+        ∙ ap (λ (o : Result). leftNumber (leftBy tables work room o)) (asked-in-turn lim s tables work room ∙ yes-text (questions lim s tables work room) (text s) h),
   )
     where
-      accepted : r ≡ 0 → one.Analyzed call → allYes (questions s tables work room) ≡ true
-      accepted z (one.succeeds u rz fits is tz wz az) = text-yes (questions s tables work room) (text s) u (sym (asked-in-turn s tables work room) ∙ is)
+      accepted : r ≡ 0 → one.Analyzed call → allYes (questions lim s tables work room) ≡ true
+      accepted z (one.succeeds u rz fits is tz wz az) = text-yes (questions lim s tables work room) (text s) u (sym (asked-in-turn lim s tables work room) ∙ is)
       accepted z (one.refuses n l c p at is tz wz az) = absurd (some-number at (sym (p .the-number) ∙ ap numberIn z))
 
   -- Then the answer is the text of the definitions, with zeros behind it.
@@ -105,25 +108,25 @@ module _ {s : List ℕ} {tables work room r : ℕ} {t w a : List ℕ} (call : An
   analyze-text z =
       call .answered
       ∙ ap (λ (o : Result). leftBy tables work room o .answer)
-      (asked-in-turn s tables work room ∙ yes-text (questions s tables work room) (text s) (analyze-accepts .0 z))
+      (asked-in-turn lim s tables work room ∙ yes-text (questions lim s tables work room) (text s) (analyze-accepts .0 z))
 
   -- And the sheet is one that is read, and that the walk finishes without an error.
-  pub analyze-reads : r ≡ 0 → (verdict s tables work ≡ Read) × (analyzeQuerySnippet (sheetIn s) .fault ≡ sound)
+  pub analyze-reads : r ≡ 0 → (verdict lim s tables work ≡ Read) × (analyzeQuerySnippet (sheetIn s) .fault ≡ sound)
   unfolding verdict asked
   analyze-reads z =
       let h1 = analyze-accepts .0 z in
-      let h2 = and-right (leb limits.tables tables && leb limits.work work) _ h1 in
+      let h2 = and-right (leb least.tables tables && leb (lim .work) work) _ h1 in
       let h3 = and-right (shortEnough s) _ h2 in
       let h4 = and-right (eqb (formFault s) 0) _ h3 in
       let h5 = and-right (eqb (namesFault s) 0) _ h4 in
-      let h6 = and-right (eqb (countsFault s) 0) _ h5 in
+      let h6 = and-right (eqb (countsFault lim s) 0) _ h5 in
       let h7 = and-right (eqb (fieldsFault s) 0) _ h6 in (
         rw (
-          and-left (leb limits.tables tables && leb limits.work work) _ h1,
+          and-left (leb least.tables tables && leb (lim .work) work) _ h1,
           and-left (shortEnough s) _ h2,
           and-left (eqb (formFault s) 0) _ h3,
           and-left (eqb (namesFault s) 0) _ h4,
-          and-left (eqb (countsFault s) 0) _ h5,
+          and-left (eqb (countsFault lim s) 0) _ h5,
           and-left (eqb (fieldsFault s) 0) _ h6,
         ),
         finished-sound (analyzeQuerySnippet (sheetIn s) .fault) (and-left (finishes (analyzeQuerySnippet (sheetIn s) .fault) .yes) _ h7),
@@ -131,15 +134,15 @@ module _ {s : List ℕ} {tables work room r : ℕ} {t w a : List ℕ} (call : An
 
 -- ---- `nokchbem_read`
 
-module _ {s : List ℕ} {tables work r : ℕ} {t w : List ℕ} (call : ReadCall s tables work r t w) where
+module _ (v : Width) {s : List ℕ} {tables work r : ℕ} {t w : List ℕ} (call : ReadCall (limits v) s tables work r t w) where
   -- What it returns and leaves is a function of the same, and exactly the sheets that questions 1 to 6 refuse are refused.
-  pub read-leaves : (r ≡ readNumber (verdict s tables work)) × (t ≡ leftTables s tables (verdict s tables work)) × (w ≡ replicate work 0)
+  pub read-leaves : (r ≡ readNumber (verdict (limits v) s tables work)) × (t ≡ leftTables s tables (verdict (limits v) s tables work)) × (w ≡ replicate work 0)
   read-leaves = (call .returned, call .tabled, call .worked)
 
-  pub read-accepts : (r ≡ 0) ↔ (verdict s tables work ≡ Read)
-  read-accepts = (λ z. accepted z (read-refuses-or-succeeds call), λ e. call .returned ∙ rw e)
+  pub read-accepts : (r ≡ 0) ↔ (verdict (limits v) s tables work ≡ Read)
+  read-accepts = (λ z. accepted z (read-refuses-or-succeeds v call), λ e. call .returned ∙ rw e)
     where
-      accepted : r ≡ 0 → one.HasRead call → verdict s tables work ≡ Read
+      accepted : r ≡ 0 → one.HasRead v call → verdict (limits v) s tables work ≡ Read
       accepted z (one.succeeds rz is tz wz) = is
       accepted z (one.refuses n l p at tz wz) = absurd (some-number at (sym (p .the-number) ∙ ap numberIn z))
 
@@ -147,8 +150,8 @@ module _ {s : List ℕ} {tables work r : ℕ} {t w : List ℕ} (call : ReadCall 
 
 -- The code analyses each query once, where the definition does so wherever it meets a comprehension: on every sheet that is read, both come to the
 -- same text and to the same fault.
-pub once-is-enough : (s : List ℕ) (tables work : ℕ) → verdict s tables work ≡ Read → (room : ℕ) → analysed (sheetIn s) room ≡ analysedOnce (sheetIn s) room
-once-is-enough s tables work read room =
-    let p = verdict-read s tables work read in
+pub once-is-enough : (v : Width) (s : List ℕ) (tables work : ℕ) → verdict (limits v) s tables work ≡ Read → (room : ℕ) → analysed (sheetIn s) room ≡ analysedOnce (sheetIn s) room
+once-is-enough v s tables work read room =
+    let p = verdict-read v s tables work read in
     subst (λ (sheet : Sheet). analysed sheet room ≡ analysedOnce sheet room) (p .sheet-is)
     (analysed-once (readCounts s) (readSpecial s) (readTables s) (p .few) (p .fine) room)

@@ -13,6 +13,8 @@ use Rattle.basics.specs.Truth.{bool-cases, and-left, and-right, or-cases}
 use Rattle.basics.specs.Lists.{elem, all, all-elem}
 use Rattle.basics.specs.Members.{all-mem}
 use Rattle.basics.specs.Ranges.{range}
+use Rattle.widths.specs.declared.Width.{Width}
+use Rattle.widths.specs.Widths.{limits}
 use Rattle.buffers.specs.Fills.{length-range}
 use Rattle.turns.specs.Definitions.{Definition, Named}
 use Rattle.turns.specs.PlainWalk.{plainWalk, WalkEnded, canBeWalked}
@@ -95,18 +97,18 @@ module _ (defs : List Definition) (n : ℕ) (named : Named defs nameBound) where
   pub order-read : map (λ k. getD (order defs n nameBound) k 0) (range 0 n) ≡ order defs n nameBound
   order-read = by-places (order defs n nameBound) n long
 
-module _ {s : List ℕ} {tables work room r : ℕ} {t w a : List ℕ} (call : AnalyzeCall s tables work room r t w a) (zero : r ≡ 0) where
+module _ (v : Width) {s : List ℕ} {tables work room r : ℕ} {t w a : List ℕ} (call : AnalyzeCall (limits v) s tables work room r t w a) (zero : r ≡ 0) where
   query-means : (q : ℕ) (b : QuerySchedule) → scheduleIn (sheetIn s) q ≡ some b → Meaning q b
   unfolding ownDefinition scheduleOnce recordedOnce
   query-means q b found =
       let read = analyze-reads call zero in
-      let names = read-names s tables work (read .0) in
-      let once : scheduleOnce (sheetIn s) q ≡ some b = sym (read-schedules s tables work (read .0) (read .1) q) ∙ found in
+      let names = read-names v s tables work (read .0) in
+      let once : scheduleOnce (sheetIn s) q ≡ some b = sym (read-schedules v s tables work (read .0) (read .1) q) ∙ found in
       let in-table = found-in (analyzeQuerySnippetOnce (sheetIn s) .schedules) q b once in
-      let low = scopes-below (sheetIn s) names b in-table in
+      let low = scopes-below nameBound refl (sheetIn s) names b in-table in
       let defs = b .definitions in
       let n = b .count in
-      let named : Named defs nameBound = subst (λ (o : Option QuerySchedule). Named (definitionsIn o) nameBound) once (recorded-named (sheetIn s) names q) in
+      let named : Named defs nameBound = subst (λ (o : Option QuerySchedule). Named (definitionsIn o) nameBound) once (recorded-named nameBound refl (sheetIn s) names q) in
       let p = plain-walks defs n nameBound named in
       let rows : orderIn (placeRows q (some b)) ≡ order defs n nameBound = map-map _ _ (range 0 n) ∙ order-read defs n named in
       record {
@@ -128,7 +130,7 @@ module _ {s : List ℕ} {tables work room r : ℕ} {t w a : List ℕ} (call : An
             );
       }
 
-  -- Where `nokchbem_analyze` returns 0, what it leaves has demand 3.
+  -- Where `nokchbem_analyze`, or the printing program's call, returns 0, what it leaves has demand 3.
   pub demand3 : Demand3 s room a
   unfolding answerText allRows scheduleIn
   demand3 = record {

@@ -6,6 +6,8 @@ use mathlib.Core.List.{List, []}
 use Prim.Native.Nat.{ℕ, _+_}
 use lib.ListN.{length}
 use Rattle.basics.specs.Truth.{not-both}
+use Rattle.widths.specs.declared.Width.{Width}
+use Rattle.widths.specs.Widths.{limits}
 use Rattle.records.specs.Layout.{deepest}
 use Rattle.trees.specs.Sheet.{Sheet, sheetIn}
 use Rattle.sheet.specs.declared.Outcome.the-variants.{Read}
@@ -36,10 +38,10 @@ alike-finished n room r o (stopped e h) = ap (finished n room o) (sym e) ∙ sto
 alike-finished n room r o (same s e) = ap (λ (x : Run). finished n room x (x .fault)) (sym e)
 
 -- Of every sheet that is read: with more levels, the answer's text and the fault are the same, and so is what every query recorded.
-module _ (s : List ℕ) (tables work : ℕ) (read : verdict s tables work ≡ Read) (more : ℕ) where
+module _ (v : Width) (s : List ℕ) (tables work : ℕ) (read : verdict (limits v) s tables work ≡ Read) (more : ℕ) where
   pub levels-alike : Alike (analyze deepest (sheetIn s) [] 1 []) (analyze (deepest + more) (sheetIn s) [] 1 [])
   levels-alike =
-      let p = verdict-read s tables work read in
+      let p = verdict-read v s tables work read in
       subst (λ (sheet : Sheet). Alike (analyze deepest sheet [] 1 []) (analyze (deepest + more) sheet [] 1 [])) (p .sheet-is)
       (depth.levels-suffice (readCounts s) (readSpecial s) (readTables s) (p .few) (p .fine) more)
 

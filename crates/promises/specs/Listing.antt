@@ -37,7 +37,7 @@ Listed q x rows =
 
 -- ---- own names
 
-module _ (q : ℕ) (a : QuerySchedule) (low : Below (a .scope)) where
+module _ (q : ℕ) (a : QuerySchedule) (low : Below nameBound (a .scope)) where
   local-listed : (x : ℕ) → x < nameBound → (o : Option Span) → spanIn (a .scope .locals) x ≡ o → isSome o ≡ true
       → Listed q x (setRows q (some a))
   local-listed x l none e h = absurd (not-both h refl)
@@ -52,7 +52,7 @@ module _ (q : ℕ) (a : QuerySchedule) (low : Below (a .scope)) where
   pub own-listed : (x : ℕ) → owns (a .scope) x ≡ true → Listed q x (setRows q (some a))
   unfolding owns elements
   own-listed x h =
-      let l : x < nameBound = ltb-true x nameBound (low x h) in
+      let l : x < nameBound = ltb-true x nameBound (low .own x h) in
       ⊎-elim (λ (p : isLocal (a .scope) x ≡ true). local-listed x l (spanIn (a .scope .locals) x) refl p)
       (λ (p : contains (a .scope .unscoped) x ≡ true).
       inr (mem-right (concatMap (λ y. localRow q y (spanIn (a .scope .locals) y)) (range 0 nameBound)) _ _

@@ -1,4 +1,4 @@
--- What `nokchbem_analyze` can come to: refusals, each with where it lies, and a text that fits.
+-- What a call on a sheet can come to: refusals, each with where it lies, and a text that fits.
 use mathlib.Core.Path.{_≡_, refl, sym, subst}
 use mathlib.Core.Bool.{Bool, true, false, cond, _&&_}
 use mathlib.Core.List.{List, [], _∷_}
@@ -7,9 +7,9 @@ use native.Mathlib.Omega.{arith}
 use lib.Dec.{eqb, leb}
 use lib.ListN.{length}
 use borrow.Author.Tests.{eqb-false, leb-true}
+use Rattle.basics.specs.Limits.{Limits}
 use Rattle.basics.specs.Lists.{elem}
 use Rattle.basics.specs.Refusals as refusals
-use Rattle.text.specs.Limits as limits
 use Rattle.text.specs.Questions.{shortEnough, formFault, namesFault, countsFault}
 use Rattle.trees.specs.Sheet.{sheetIn}
 use Rattle.sheet.specs.Verdict.{fieldsFault}
@@ -75,14 +75,14 @@ module _ (room : ℕ) where
 some-line : (l : ℕ) → eqb l 0 ≡ false → 1 ≤ l
 some-line l e = let no = eqb-false l 0 e in omega arith
 
-pub outcomes : (s : List ℕ) (tables work room : ℕ) → Outcomes room (result s tables work room)
-outcomes s tables work room =
-    subst (Outcomes room) (sym (asked-in-turn s tables work room))
+pub outcomes : (lim : Limits) (s : List ℕ) (tables work room : ℕ) → Outcomes room (result lim s tables work room)
+outcomes lim s tables work room =
+    subst (Outcomes room) (sym (asked-in-turn lim s tables work room))
     (one-more room _ _ _ (λ e. whole refl)
     (one-more room _ _ _ (λ e. whole refl)
     (one-more room _ _ _ (λ e. at-line refl (some-line (formFault s) e))
     (one-more room _ _ _ (λ e. at-line refl (some-line (namesFault s) e))
-    (one-more room _ _ _ (λ e. at-line refl (some-line (countsFault s) e))
+    (one-more room _ _ _ (λ e. at-line refl (some-line (countsFault lim s) e))
     (one-more room _ _ _ (λ e. at-line refl (some-line (fieldsFault s) e))
     (one-more room (finishes (analyzeQuerySnippet (sheetIn s) .fault)) _ _ (walk-at room (analyzeQuerySnippet (sheetIn s) .fault))
     (last room (text s)))))))))

@@ -1,12 +1,13 @@
--- The questions of document 01 put to an input of `nokchbem_analyze`, as a list in their order.
+-- The questions of document 01 put to an input of a call on a sheet, as a list in their order.
 use mathlib.Core.Path.{_≡_, refl}
 use mathlib.Core.Bool.{Bool, true, false, cond, _&&_}
 use mathlib.Core.List.{List, [], _∷_}
 use Prim.Native.Nat.{ℕ}
 use lib.Dec.{eqb, leb}
 use lib.ListN.{length}
+use Rattle.basics.specs.Limits as limits
+use Rattle.basics.specs.Limits.{Limits}
 use Rattle.basics.specs.Refusals as refusals
-use Rattle.text.specs.Limits as limits
 use Rattle.text.specs.Questions.{shortEnough, formFault, namesFault, countsFault}
 use Rattle.sheet.specs.declared.Outcome.{Outcome}
 use Rattle.sheet.specs.declared.Outcome.the-variants.{Read, NoRoom, TooLong, BadForm, BadName, BadCount, BadField}
@@ -44,15 +45,15 @@ firstNo (q ∷ questions) text = cond (q .yes) (firstNo questions text) (refused
 abbrev pub text : List ℕ → List ℕ
 text s = answerText (length (sheetIn s .queries)) (analyzeQuerySnippet (sheetIn s) .schedules)
 
--- The sheet s, with so many entries of tables, words of work and bytes for the answer.
-module _ (s : List ℕ) (tables work room : ℕ) where
+-- The sheet s, with the call's limits, and so many entries of tables, words of work and bytes for the answer.
+module _ (lim : Limits) (s : List ℕ) (tables work room : ℕ) where
   abbrev pub questions : List Question
   questions =
-      ask (leb limits.tables tables && leb limits.work work) refusals.noRoom 0 0
+      ask (leb limits.tables tables && leb (lim .work) work) refusals.noRoom 0 0
       ∷ ask (shortEnough s) refusals.tooLong 0 0
       ∷ ask (eqb (formFault s) 0) refusals.badForm (formFault s) 0
       ∷ ask (eqb (namesFault s) 0) refusals.badName (namesFault s) 0
-      ∷ ask (eqb (countsFault s) 0) refusals.badCount (countsFault s) 0
+      ∷ ask (eqb (countsFault lim s) 0) refusals.badCount (countsFault lim s) 0
       ∷ ask (eqb (fieldsFault s) 0) refusals.badField (fieldsFault s) 0
       ∷ finishes (analyzeQuerySnippet (sheetIn s) .fault)
       ∷ ask (leb (length (text s)) room) refusals.textTooLong 0 0
@@ -69,18 +70,18 @@ module _ (s : List ℕ) (tables work room : ℕ) where
   last-two (lengths l c) = refl
   last-two indexVariable = refl
 
-  pub asked-in-turn : result s tables work room ≡ firstNo questions (text s)
+  pub asked-in-turn : result lim s tables work room ≡ firstNo questions (text s)
   unfolding result verdict asked analysed firstNo
   asked-in-turn =
-      go (leb limits.tables tables && leb limits.work work) (shortEnough s) (eqb (formFault s) 0) (eqb (namesFault s) 0) (eqb (countsFault s) 0)
+      go (leb limits.tables tables && leb (lim .work) work) (shortEnough s) (eqb (formFault s) 0) (eqb (namesFault s) 0) (eqb (countsFault lim s) 0)
       (eqb (fieldsFault s) 0)
     where
       go : (a b c d e f : Bool)
           → afterReading s room
-          (cond a (cond b (cond c (cond d (cond e (cond f Read (BadField (fieldsFault s))) (BadCount (countsFault s))) (BadName (namesFault s))) (BadForm (formFault s))) TooLong)
+          (cond a (cond b (cond c (cond d (cond e (cond f Read (BadField (fieldsFault s))) (BadCount (countsFault lim s))) (BadName (namesFault s))) (BadForm (formFault s))) TooLong)
           NoRoom)
           ≡ firstNo
-          (ask a refusals.noRoom 0 0 ∷ ask b refusals.tooLong 0 0 ∷ ask c refusals.badForm (formFault s) 0 ∷ ask d refusals.badName (namesFault s) 0 ∷ ask e refusals.badCount (countsFault s) 0 ∷ ask f refusals.badField (fieldsFault s) 0
+          (ask a refusals.noRoom 0 0 ∷ ask b refusals.tooLong 0 0 ∷ ask c refusals.badForm (formFault s) 0 ∷ ask d refusals.badName (namesFault s) 0 ∷ ask e refusals.badCount (countsFault lim s) 0 ∷ ask f refusals.badField (fieldsFault s) 0
           ∷ finishes (analyzeQuerySnippet (sheetIn s) .fault) ∷ ask (leb (length (text s)) room) refusals.textTooLong 0 0 ∷ [])
           (text s)
       go false b c d e f = refl

@@ -89,19 +89,19 @@ module _ (w : Row) (p : Progress) (fs : List ℕ) where
   check-fault bad t work =
       runs-as t (guarded (asked w)) (λ s. checkFirstUse s w) p fs work p fs work (asked-is w) (runs-fault t (asked w) p bad fs work)
 
-  module _ (fine : isSound (p .fault) ≡ true) (low : w .name < 128) where
+  module _ (fine : isSound (p .fault) ≡ true) (low : w .name < 512) where
     abbrev word : ℕ
     word = getD fs (w .name) 0
 
-    asking : (r : Progress) → p .count ≡ r .count → ((t spans work : List ℕ) (s : State) → s .run .fault ≡ sound → p .count ≤ length (s .definitions)
+    asking : (r : Progress) → p .count ≡ r .count → r .width ≡ p .width → ((t spans work : List ℕ) (s : State) → s .run .fault ≡ sound → p .count ≤ length (s .definitions)
         → Whole t spans p fs work s → Agree t spans r fs work (asked w s)) → UseChecked w p fs r
-    asking r count step t work =
+    asking r count wide step t work =
         runs-as t (guarded (asked w)) (λ s. checkFirstUse s w) p fs work r fs work (asked-is w)
-        (runs-sound t (asked w) p fine fs work r fs work (record { long = refl; up = omega (arith, count); before = λ j l. refl })
+        (runs-sound t (asked w) p fine fs work r fs work (record { long = refl; up = omega (arith, count); wide = wide; before = λ j l. refl })
         (λ spans s e c h. step t spans work s e c h))
 
     stays : ((s : State) → Firsts fs (s .firstUses) → asked w s ≡ s) → UseChecked w p fs p
-    stays same = asking p refl (λ t spans work s e c h.
+    stays same = asking p refl refl (λ t spans work s e c h.
         subst (Agree t spans p fs work) (sym (same s (h .used-first))) (record {
           fault = sound-is (p .fault) fine ∙ sym e;
           count = c;
@@ -118,7 +118,7 @@ module _ (w : Row) (p : Progress) (fs : List ℕ) where
     pub check-before : w .col < 65536 → (word ≡ 0 → ⊥) → word - 1 < w .line * 65536 + w .col
         → (r : Progress) → r ≡ failed p (UsedBefore ((word - 1) / 65536) ((word - 1) % 65536)) → UseChecked w p fs r
     unfolding fail setRun
-    check-before short ne l r is = rw is (asking _ refl (λ t spans work s e c h.
+    check-before short ne l r is = rw is (asking _ refl refl (λ t spans work s e c h.
         subst (Agree t spans (failed p (UsedBefore ((word - 1) / 65536) ((word - 1) % 65536))) fs work)
         (sym (used-before w s word short (spanIn (s .firstUses) (w .name)) (h .used-first .has (w .name) low) (h .used-first .low (w .name)) ne l)) (record {
           fault = refl;

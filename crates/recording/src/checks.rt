@@ -15,7 +15,7 @@ ghost use Rattle.recording.specs.Checks.{VarChecked, VarsChecked, LeafCh
 const VAR: u16 = 6;
 
 fn check_var(w: Row, p: Progress, firsts: &[u64]) -> Progress
-    requires { ⌜ (w .name < 128) × (128 ≤ length (now firsts)) ⌝ }
+    requires { ⌜ (w .name < 512) × (512 ≤ length (now firsts)) ⌝ }
     ensures { λ r. ⌜ VarChecked w p (now (firsts .entry)) r ⌝ }
 {
     if w.kind == VAR {
@@ -26,7 +26,7 @@ fn check_var(w: Row, p: Progress, firsts: &[u64]) -> Progress
 
 // The variables of the chain from a row on.
 pub fn check_vars(tables: &[u16], row: usize, p: Progress, firsts: &[u64]) -> Progress
-    requires { ⌜ Accepted (now tables) × (row ≤ getD (now tables) 2 0) × (128 ≤ length (now firsts)) ⌝ }
+    requires { ⌜ Accepted (now tables) × (row ≤ getD (now tables) 2 0) × (512 ≤ length (now firsts)) ⌝ }
     ensures { λ r. ⌜ VarsChecked (now (tables .entry)) row p (now (firsts .entry)) r ⌝ }
 {
     if row == 0 {
@@ -39,7 +39,7 @@ pub fn check_vars(tables: &[u16], row: usize, p: Progress, firsts: &[u64]) -> Pr
 }
 
 fn check_leaf(w: Row, p: Progress, firsts: &[u64]) -> Progress
-    requires { ⌜ (w .name < 128) × (128 ≤ length (now firsts)) ⌝ }
+    requires { ⌜ (w .name < 512) × (512 ≤ length (now firsts)) ⌝ }
     ensures { λ r. ⌜ LeafChecked w p (now (firsts .entry)) r ⌝ }
 {
     if w.kind != VAR {
@@ -61,7 +61,7 @@ pub fn check_assigned(
     p: Progress,
     firsts: &[u64],
 ) -> Progress
-    requires { ⌜ Accepted (now tables) × (row ≤ getD (now tables) 2 0) × (128 ≤ length (now firsts)) ⌝ }
+    requires { ⌜ Accepted (now tables) × (row ≤ getD (now tables) 2 0) × (512 ≤ length (now firsts)) ⌝ }
     ensures { λ r. ⌜ AssignedChecked (now (tables .entry)) row rest p (now (firsts .entry)) r ⌝ }
 {
     if row == 0 {

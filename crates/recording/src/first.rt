@@ -12,7 +12,7 @@ const LINE: u64 = 65536;
 
 // A fault at the first use of the variable's name, where that stands before the variable. `firsts` has a word a name.
 pub fn check_first_use(w: Row, p: Progress, firsts: &[u64]) -> Progress
-    requires { ⌜ (w .name < 128) × (128 ≤ length (now firsts)) ⌝ }
+    requires { ⌜ (w .name < 512) × (512 ≤ length (now firsts)) ⌝ }
     ensures { λ r. ⌜ UseChecked w p (now (firsts .entry)) r ⌝ }
 {
     if p.is_sound() {

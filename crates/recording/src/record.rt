@@ -2,6 +2,7 @@
 
 use crate::each::define_each;
 use crate::each::less;
+use blocks::answers_of;
 use frame::Progress;
 use names::CAPACITY;
 use names::Names;
@@ -9,18 +10,16 @@ use used::index::push_definition;
 ghost use Rattle.recording.specs.Front.{Fits};
 ghost use Rattle.recording.specs.Records.{NamesFit, OneRecorded, NamesRecorded, EachRecorded, SomeRecorded};
 
-// The words of the table of schedules, the last ones of the work.
-const TABLE: usize = 4736;
-
 // The statement uses names under the empty name.
 pub fn record_one(statement: usize, used: Names, p: Progress, work: &mut [u64]) -> Progress
     requires { ⌜ Fits p (now work) 1 ⌝ }
     ensures { λ r. ⌜ OneRecorded statement used p (now (work .entry)) r (now (work .exit)) ⌝ }
 {
     if p.is_sound() {
-        let end = work.len() - TABLE;
+        let width = p.width;
+        let end = work.len() - answers_of(width);
         let count = p.count;
-        push_definition(statement, 0, used, count, &mut work[..end]);
+        push_definition(statement, 0, used, count, &mut work[..end], width);
         return p.with_count(count + 1);
     }
     p
@@ -39,9 +38,18 @@ fn record_names(
     ensures { λ r. ⌜ NamesRecorded statement names used without p (now (work .entry)) r (now (work .exit)) ⌝ }
 {
     if p.is_sound() {
-        let end = work.len() - TABLE;
+        let width = p.width;
+        let end = work.len() - answers_of(width);
         let count = p.count;
-        let n = define_each(statement, names, used, without, count, &mut work[..end]);
+        let n = define_each(
+            statement,
+            names,
+            used,
+            without,
+            count,
+            &mut work[..end],
+            width,
+        );
         return p.with_count(n);
     }
     p

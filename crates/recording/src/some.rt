@@ -18,7 +18,7 @@ const VAR: u16 = 6;
 
 // Is it a variable and a local, and not `input`?
 fn is_bound(tables: &[u16], scope: Scope, w: Row) -> bool
-    requires { ⌜ (8192 ≤ length (now tables)) × (w .name < 128) ⌝ }
+    requires { ⌜ (8192 ≤ length (now tables)) × (w .name < 512) ⌝ }
     ensures { λ r. ⌜ Binds (now (tables .entry)) scope w r ⌝ }
 {
     if w.kind != VAR {
@@ -32,7 +32,7 @@ fn is_bound(tables: &[u16], scope: Scope, w: Row) -> bool
 }
 
 fn some_step(tables: &[u16], scope: Scope, w: Row, names: Names) -> Names
-    requires { ⌜ (8192 ≤ length (now tables)) × (w .name < 128) ⌝ }
+    requires { ⌜ (8192 ≤ length (now tables)) × (w .name < 512) ⌝ }
     ensures { λ r. ⌜ SomeStep (now (tables .entry)) scope w names r ⌝ }
 {
     if is_bound(tables, scope, w) {
@@ -59,7 +59,7 @@ pub fn some_vars(tables: &[u16], scope: Scope, row: usize, names: Names) -> Name
 }
 
 fn enter_step(tables: &[u16], scope: Scope, w: Row, firsts: &mut [u64])
-    requires { ⌜ (8192 ≤ length (now tables)) × (w .name < 128) × (128 ≤ length (now firsts)) ⌝ }
+    requires { ⌜ (8192 ≤ length (now tables)) × (w .name < 512) × (512 ≤ length (now firsts)) ⌝ }
     ensures { λ _. ⌜ EnterStep (now (tables .entry)) scope w (now (firsts .entry)) (now (firsts .exit)) ⌝ }
 {
     if is_bound(tables, scope, w) {
@@ -69,7 +69,7 @@ fn enter_step(tables: &[u16], scope: Scope, w: Row, firsts: &mut [u64])
 
 // The same pattern's variables are uses of their names. `firsts` has a word a name.
 pub fn first_some(tables: &[u16], scope: Scope, row: usize, firsts: &mut [u64])
-    requires { ⌜ Accepted (now tables) × (row ≤ getD (now tables) 2 0) × (128 ≤ length (now firsts)) ⌝ }
+    requires { ⌜ Accepted (now tables) × (row ≤ getD (now tables) 2 0) × (512 ≤ length (now firsts)) ⌝ }
     ensures { λ _. ⌜ SomeEntered (now (tables .entry)) scope row (now (firsts .entry)) (now (firsts .exit)) ⌝ }
 {
     if row == 0 {

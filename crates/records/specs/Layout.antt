@@ -2,7 +2,8 @@
 use mathlib.Core.List.{List}
 use Prim.Native.Nat.{ℕ, _+_, _*_, _≤_}
 use lib.ListN.{getD}
-use Rattle.text.specs.Limits as limits
+use Rattle.basics.specs.Limits as limits
+use Rattle.basics.specs.Limits.{library}
 use Rattle.records.specs.declared.Counts.{Counts}
 use Rattle.records.specs.declared.Builtin.{Builtin}
 use Rattle.records.specs.declared.Row.{Row}
@@ -10,8 +11,9 @@ use Rattle.records.specs.declared.Statement.{Statement}
 
 -- ---- the bounds
 
+-- No call takes more names than the library.
 abbrev pub mostNames : ℕ
-mostNames = limits.names
+mostNames = library .names
 
 abbrev pub mostBuiltins : ℕ
 mostBuiltins = limits.builtIns

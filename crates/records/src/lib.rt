@@ -5,9 +5,7 @@ ghost use Prim.Native.Nat.{_≤_};
 ghost use lib.ListN.{length};
 ghost use Rattle.records.specs.Layout.{builtinAt, exprAt, statementAt, firstAt};
 
-// The most rows that each section may have.
-pub const NAMES: usize = tables::NAMES;
-
+// The most rows that each section behind the names may have.
 pub const BUILTINS: usize = tables::BUILT_INS;
 
 pub const EXPRS: usize = tables::EXPRESSIONS;

@@ -5,7 +5,7 @@ use mathlib.Core.List.{List, [], _∷_}
 use Prim.Native.Nat.{ℕ}
 use lib.Dec.{eqb}
 use Rattle.basics.specs.Lists.{all}
-use Rattle.names.specs.Sets.{member}
+use Rattle.names.specs.Sets.{member, members}
 use Rattle.turns.specs.Definitions.{Definition, ofStatement, resolves}
 use Rattle.turns.specs.PlainWalk.{defines}
 use Rattle.rows.specs.Rows.{rowCount, definitions}
@@ -26,11 +26,15 @@ waits [] S = false
 waits (d ∷ rest) S = not (all S (d .used)) || waits rest (gain S d)
 
 -- What `pass` answers for the definitions of statement s.
-pub record Passes (ws : List ℕ) (s : ℕ) (start seen : List ℕ) (waiting : Bool) : Type 0 where
-  pub gathered : (x : ℕ) → member seen x ≡ gather (chainOf ws s (rowCount ws)) (member start) x
-  pub waited : waiting ≡ waits (chainOf ws s (rowCount ws)) (member start)
+pub record Passes (w : ℕ) (ws : List ℕ) (s : ℕ) (start seen : List ℕ) (waiting : Bool) : Type 0 where
+  pub gathered : (x : ℕ) → member seen x ≡ gather (chainOf w ws s (rowCount w ws)) (member start) x
+  pub waited : waiting ≡ waits (chainOf w ws s (rowCount w ws)) (member start)
+
+-- Has `seen` a member that `start` lacks?
+pub record Grows (start seen : List ℕ) (grew : Bool) : Type 0 where
+  pub fresh : grew ≡ not (all (member start) (members seen))
 
 -- What `try_statement` answers: do the definitions of statement s resolve from the names known; and if so, what is known then.
-pub record Tries (ws : List ℕ) (s : ℕ) (known : List ℕ) (resolved : Bool) (after : List ℕ) : Type 0 where
-  pub says : resolved ≡ resolves (member known) (ofStatement s (definitions ws))
-  pub knows : resolved ≡ true → (x : ℕ) → member after x ≡ (defines (definitions ws) s x || member known x)
+pub record Tries (w : ℕ) (ws : List ℕ) (s : ℕ) (known : List ℕ) (resolved : Bool) (after : List ℕ) : Type 0 where
+  pub says : resolved ≡ resolves (member known) (ofStatement s (definitions w ws))
+  pub knows : resolved ≡ true → (x : ℕ) → member after x ≡ (defines (definitions w ws) s x || member known x)

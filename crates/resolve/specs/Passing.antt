@@ -13,17 +13,17 @@ use Rattle.rows.specs.Links.{lastOf, chainOf, Linked}
 use Rattle.rows.specs.ChainLaws.{last-leads, last-row, chain-row, chain-none}
 use Rattle.resolve.specs.Pass.{gain, gather, waits, Passes}
 
-pub record Passing (ws : List ℕ) (s : ℕ) (start : List ℕ) (at : ℕ) (seen : List ℕ) (waiting : Bool) : Type 0 where
-  pub high : at ≤ rowCount ws
-  pub last : lastOf ws s at ≡ at
-  pub gathers : gather (chainOf ws s at) (member seen) ≡ gather (chainOf ws s (rowCount ws)) (member start)
-  pub waited : (waiting || waits (chainOf ws s at) (member seen)) ≡ waits (chainOf ws s (rowCount ws)) (member start)
+pub record Passing (w : ℕ) (ws : List ℕ) (s : ℕ) (start : List ℕ) (at : ℕ) (seen : List ℕ) (waiting : Bool) : Type 0 where
+  pub high : at ≤ rowCount w ws
+  pub last : lastOf w ws s at ≡ at
+  pub gathers : gather (chainOf w ws s at) (member seen) ≡ gather (chainOf w ws s (rowCount w ws)) (member start)
+  pub waited : (waiting || waits (chainOf w ws s at) (member seen)) ≡ waits (chainOf w ws s (rowCount w ws)) (member start)
 
-module _ (ws links : List ℕ) (linked : Linked ws links) (s : ℕ) (start : List ℕ) where
+module _ (w : ℕ) (ws links : List ℕ) (linked : Linked w ws links) (s : ℕ) (start : List ℕ) where
   -- Before the loop.
-  pub passing-first : s < 128 → Passing ws s start (getD links s 0) start false
+  pub passing-first : s < 128 → Passing w ws s start (getD links s 0) start false
   passing-first h =
-      let leads = last-leads ws s (rowCount ws) in
+      let leads = last-leads w ws s (rowCount w ws) in
       rw (linked .head s h) (record {
         high = leads .below;
         last = leads .last;
@@ -31,11 +31,11 @@ module _ (ws links : List ℕ) (linked : Linked ws links) (s : ℕ) (start : Lis
         waited = ap (λ (c : List Definition). waits c (member start)) (sym (leads .chain));
       })
 
-  module _ {at : ℕ} {seen : List ℕ} {waiting : Bool} (p : Passing ws s start at seen waiting) where
+  module _ {at : ℕ} {seen : List ℕ} {waiting : Bool} (p : Passing w ws s start at seen waiting) where
     -- After the loop.
-    pub passing-end : at ≡ 0 → Passes ws s start seen waiting
+    pub passing-end : at ≡ 0 → Passes w ws s start seen waiting
     passing-end e =
-        let none = ap (chainOf ws s) e ∙ chain-none ws s in
+        let none = ap (chainOf w ws s) e ∙ chain-none w ws s in
         record {
           gathered = λ x. ap (λ (f : ℕ → Bool). f x) (ap (λ (c : List Definition). gather c (member seen)) (sym none) ∙ p .gathers);
           waited = sym (or-false waiting) ∙ ap (λ (c : List Definition). waiting || waits c (member seen)) (sym none) ∙ p .waited;
@@ -43,25 +43,25 @@ module _ (ws links : List ℕ) (linked : Linked ws links) (s : ℕ) (start : Lis
 
     -- In a turn: `at` is a row, counted from 1.
     module _ (some : at ≡ 0 → ⊥) where
-      here : lastOf ws s (suc (at - 1)) ≡ suc (at - 1)
+      here : lastOf w ws s (suc (at - 1)) ≡ suc (at - 1)
       here = let e : at ≡ suc (at - 1) = omega arith in rw e at (p .last)
 
-      leads-on : getD links (128 + (at - 1)) 0 ≡ lastOf ws s (at - 1)
-      leads-on = linked .next (at - 1) (omega arith) ∙ ap (λ (t : ℕ). lastOf ws t (at - 1)) (last-row ws s (at - 1) here)
+      leads-on : getD links (128 + (at - 1)) 0 ≡ lastOf w ws s (at - 1)
+      leads-on = linked .next (at - 1) (omega arith) ∙ ap (λ (t : ℕ). lastOf w ws t (at - 1)) (last-row w ws s (at - 1) here)
 
       pub passing-less : getD links (128 + (at - 1)) 0 < at
-      passing-less = omega (arith, leads-on, last-leads ws s (at - 1) .below)
+      passing-less = omega (arith, leads-on, last-leads w ws s (at - 1) .below)
 
-      first-row : chainOf ws s at ≡ definitionAt ws (at - 1) ∷ chainOf ws s (lastOf ws s (at - 1))
-      first-row = let e : at ≡ suc (at - 1) = omega arith in ap (chainOf ws s) e ∙ chain-row ws s (at - 1) here
+      first-row : chainOf w ws s at ≡ definitionAt w ws (at - 1) ∷ chainOf w ws s (lastOf w ws s (at - 1))
+      first-row = let e : at ≡ suc (at - 1) = omega arith in ap (chainOf w ws s) e ∙ chain-row w ws s (at - 1) here
 
       -- After the turn, if the set and the flag are as the pass over the row's definition leaves them.
-      turn : {more : List ℕ} {waits-now : Bool} → member more ≡ gain (member seen) (definitionAt ws (at - 1))
-          → waits-now ≡ (waiting || not (all (member seen) (members (usedWordsAt ws (at - 1)))))
-          → Passing ws s start (getD links (128 + (at - 1)) 0) more waits-now
+      turn : {more : List ℕ} {waits-now : Bool} → member more ≡ gain (member seen) (definitionAt w ws (at - 1))
+          → waits-now ≡ (waiting || not (all (member seen) (members (usedWordsAt w ws (at - 1)))))
+          → Passing w ws s start (getD links (128 + (at - 1)) 0) more waits-now
       turn {more} {waits-now} set flag =
-          let leads = last-leads ws s (at - 1) in
-          let rest = chainOf ws s (lastOf ws s (at - 1)) in
+          let leads = last-leads w ws s (at - 1) in
+          let rest = chainOf w ws s (lastOf w ws s (at - 1)) in
           rw leads-on (record {
             high = omega (arith, leads .below);
             last = leads .last;
@@ -70,10 +70,10 @@ module _ (ws links : List ℕ) (linked : Linked ws links) (s : ℕ) (start : Lis
                 ∙ ap (λ (c : List Definition). waiting || waits c (member seen)) (sym first-row) ∙ p .waited;
           })
 
-      pub passing-waits : all (member seen) (members (usedWordsAt ws (at - 1))) ≡ false
-          → Passing ws s start (getD links (128 + (at - 1)) 0) seen true
+      pub passing-waits : all (member seen) (members (usedWordsAt w ws (at - 1))) ≡ false
+          → Passing w ws s start (getD links (128 + (at - 1)) 0) seen true
       passing-waits fails = turn (rw fails) (rw fails (sym (or-true waiting)))
 
-      pub passing-adds : all (member seen) (members (usedWordsAt ws (at - 1))) ≡ true → {more : List ℕ} → Inserted seen (varAt ws (at - 1)) more
-          → Passing ws s start (getD links (128 + (at - 1)) 0) more waiting
+      pub passing-adds : all (member seen) (members (usedWordsAt w ws (at - 1))) ≡ true → {more : List ℕ} → Inserted seen (varAt w ws (at - 1)) more
+          → Passing w ws s start (getD links (128 + (at - 1)) 0) more waiting
       passing-adds holds i = turn (rw holds (fun-ext (i .has))) (rw holds (sym (or-false waiting)))

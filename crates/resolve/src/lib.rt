@@ -1,45 +1,62 @@
 // Whether the definitions of a statement resolve from the names known.
 
-use names::CAPACITY;
 use names::Names;
+use names::WORDS;
+use names::add;
+use names::has;
 use rows::CELLS;
-use rows::ROW;
 use rows::STATEMENTS;
+use widths::Width;
+ghost use mathlib.Core.Path.{_≡_};
 ghost use Prim.Native.Nat.{ℕ, _<_};
+ghost use lib.ListN.{length};
+ghost use Rattle.widths.specs.Widths.{row};
 ghost use Rattle.rows.specs.Rows.{rowCount, varAt};
 ghost use Rattle.rows.specs.Links.{Linked};
-ghost use Rattle.resolve.specs.Pass.{Passes, Tries};
+ghost use Rattle.resolve.specs.Pass.{Passes, Grows, Tries};
 
-// What a pass saw: the names it started from with those found to resolve, and whether a definition still waits.
+// What a pass found: whether a definition still waits, and whether there is a name more than before.
 pub struct Passed {
-    pub seen: Names,
     pub waiting: bool,
+    pub grew: bool,
 }
 
-// One pass over the definitions of a statement. The test of a definition stops at the first used name that is not known yet.
-pub fn pass(rows: &[u64], links: &[u16; CELLS], statement: usize, start: Names) -> Passed
-    requires { ⌜ (statement < 128) × Linked (now rows) (now links) ⌝ }
-    requires { ⌜ ((k : ℕ) → k < rowCount (now rows) → varAt (now rows) k < 128) ⌝ }
-    ensures { λ r. ⌜ Passes (now (rows .entry)) statement (start .words) (r .seen .words) (r .waiting) ⌝ }
+// One pass over the definitions of a statement: the names seen get those found to resolve. The test of a definition stops at the first used name
+// that is not known yet.
+pub fn pass(
+    width: Width,
+    rows: &[u64],
+    links: &[u16; CELLS],
+    statement: usize,
+    seen: &mut [u64; WORDS],
+) -> Passed
+    requires { ⌜ (statement < 128) × Linked (row width) (now rows) (now links) ⌝ }
+    requires { ⌜ ((k : ℕ) → k < rowCount (row width) (now rows) → varAt (row width) (now rows) k < 512) ⌝ }
+    requires { ⌜ length (now seen) ≡ 8 ⌝ }
+    ensures { λ r. ⌜ (length (now (seen .exit)) ≡ 8) × Passes (row width) (now (rows .entry)) statement (now (seen .entry)) (now (seen .exit)) (r .waiting) × Grows (now (seen .entry)) (now (seen .exit)) (r .grew) ⌝ }
 {
-    let mut seen = start;
+    let end = 64 * width.words();
     let mut waiting = false;
+    let mut grew = false;
     let mut at = links[statement] as usize;
     'definitions: while at != 0 {
         let k = at - 1;
         at = links[STATEMENTS + k] as usize;
-        let used = rows::used_at(rows, k);
-        let mut name = used.next(0);
-        while name < CAPACITY {
-            if !seen.contains(name) {
+        let mut name = rows::next_used(width, rows, k, 0);
+        while name < end {
+            if !has(seen, name) {
                 waiting = true;
                 continue 'definitions;
             }
-            name = used.next(name + 1);
+            name = rows::next_used(width, rows, k, name + 1);
         }
-        seen = seen.insert(rows[ROW * k + 1] as usize);
+        let own = rows::name_at(width, rows, k);
+        if !has(seen, own) {
+            add(seen, own);
+            grew = true;
+        }
     }
-    Passed { seen, waiting }
+    Passed { waiting, grew }
 }
 
 // Whether a statement's definitions resolve, and if so the names known with those that it defines.
@@ -49,27 +66,31 @@ pub struct Tried {
 }
 
 // Passes until none waits, or one finds nothing more.
-pub fn try_statement(rows: &[u64], links: &[u16; CELLS], statement: usize, known: Names) -> Tried
-    requires { ⌜ (statement < 128) × Linked (now rows) (now links) ⌝ }
-    requires { ⌜ ((k : ℕ) → k < rowCount (now rows) → varAt (now rows) k < 128) ⌝ }
-    ensures { λ r. ⌜ Tries (now (rows .entry)) statement (known .words) (r .resolved) (r .known .words) ⌝ }
+pub fn try_statement(
+    width: Width,
+    rows: &[u64],
+    links: &[u16; CELLS],
+    statement: usize,
+    known: Names,
+) -> Tried
+    requires { ⌜ (statement < 128) × Linked (row width) (now rows) (now links) ⌝ }
+    requires { ⌜ ((k : ℕ) → k < rowCount (row width) (now rows) → varAt (row width) (now rows) k < 512) ⌝ }
+    ensures { λ r. ⌜ Tries (row width) (now (rows .entry)) statement (known .words) (r .resolved) (r .known .words) ⌝ }
 {
-    let mut seen = known;
+    let mut seen = known.words;
     loop {
-        let p = pass(rows, links, statement, seen);
-        let more = p.seen;
+        let p = pass(width, rows, links, statement, &mut seen);
         if !p.waiting {
             return Tried {
                 resolved: true,
-                known: more,
+                known: Names { words: seen },
             };
         }
-        if more.is_subset(seen) {
+        if !p.grew {
             return Tried {
                 resolved: false,
                 known,
             };
         }
-        seen = more;
     }
 }

@@ -2,66 +2,76 @@
 use mathlib.Core.Path.{_≡_, refl, sym, ap, ap₂, _∙_}
 use mathlib.Core.Bool.{Bool, true, false, _&&_, _||_, and-comm}
 use mathlib.Core.List.{List, [], _∷_}
-use mathlib.Core.Logic.{_⊎_, inl, inr}
-use Prim.Native.Nat.{ℕ, _+_, _*_, _<_}
+use mathlib.Core.Logic.{_⊎_, inl, inr, ⊎-elim}
+use Prim.Native.Nat.{ℕ, suc, _+_, _*_, _/_, _≤_, _<_}
 use native.Mathlib.Numerals.{add-one}
 use native.Mathlib.Omega.{arith}
 use lib.Dec.{eqb}
 use lib.ListN.{length, getD, set, length-set}
+use lib.Bits.{bitOr}
 use lib.Seq.{getD-set-same, getD-set-other}
 use borrow.Author.Tests.{eqb-true, eqb-false, eq-eqb}
-use Rattle.basics.specs.Truth.{bool-cases, bool-ext}
+use Rattle.basics.specs.Truth.{bool-cases, bool-ext, lt-cases}
 use Rattle.names.specs.Sets.{member, Empty, Inserted}
-use Rattle.names.specs.Words.{zeros-empty}
+use Rattle.names.specs.Words.{zeros-empty, nameBit, stored-in}
 use Rattle.rows.specs.Rows.{statementAt, varAt}
 use Rattle.rows.specs.Masks.{maskAt, Added, definesIn, definedIn, MaskedTo}
 
 -- ---- add_to_mask
 
--- The two words of `more` stored for the name x.
-abbrev pub storedMask : List ℕ → ℕ → List ℕ → List ℕ
-storedMask masks x more = set (set masks (2 * x) (getD more 0 0)) (2 * x + 1) (getD more 1 0)
+-- A word of the set of x is stored.
+module _ (masks : List ℕ) (x v : ℕ) (long : 2 * x + 1 < length masks) where
+  own-words : (i : ℕ) → (i ≡ 0) ⊎ (i ≡ 1) → maskAt (set masks (2 * x + i) v) x ≡ set (maskAt masks x) i v
+  own-words i (inl e) =
+      let z : 2 * x + i ≡ 2 * x = omega arith in
+      rw (z, e)
+      (ap₂ (λ (a b : ℕ). a ∷ b ∷ []) (getD-set-same masks (2 * x) v 0 (omega arith)) (getD-set-other masks (2 * x) (suc (2 * x)) v 0 (λ q. omega arith)))
+  own-words i (inr e) =
+      let z : 2 * x + i ≡ suc (2 * x) = omega arith in
+      rw (z, e)
+      (ap₂ (λ (a b : ℕ). a ∷ b ∷ []) (getD-set-other masks (suc (2 * x)) (2 * x) v 0 (λ q. omega arith)) (getD-set-same masks (suc (2 * x)) v 0 (omega arith)))
 
-two-words : (l : List ℕ) → length l ≡ 2 → l ≡ getD l 0 0 ∷ getD l 1 0 ∷ []
-two-words [] h = absurd (omega arith)
-two-words (a ∷ []) h = absurd (omega arith)
-two-words (a ∷ b ∷ []) h = refl
-two-words (a ∷ b ∷ c ∷ l) h = absurd (omega arith)
+  other-words : (i y : ℕ) → i < 2 → (y ≡ x → ⊥) → maskAt (set masks (2 * x + i) v) y ≡ maskAt masks y
+  other-words i y h ne =
+      ap₂ (λ (a b : ℕ). a ∷ b ∷ []) (getD-set-other masks (2 * x + i) (2 * y) v 0 (λ q. ne (omega arith)))
+      (getD-set-other masks (2 * x + i) (suc (2 * y)) v 0 (λ q. ne (omega arith)))
 
-module _ (masks : List ℕ) (x : ℕ) (more : List ℕ) (room : 2 * x + 1 < length masks) (two : length more ≡ 2) where
-  mask-same : maskAt (storedMask masks x more) x ≡ more
-  mask-same =
-      let first = set masks (2 * x) (getD more 0 0) in
-      let low : getD (storedMask masks x more) (2 * x) 0 ≡ getD more 0 0 =
-      getD-set-other first (2 * x + 1) (2 * x) _ 0 (λ e. omega arith) ∙ getD-set-same masks (2 * x) _ 0 (omega arith) in
-      let high : getD (storedMask masks x more) (2 * x + 1) 0 ≡ getD more 1 0 =
-      getD-set-same first (2 * x + 1) _ 0 (simp length-set room) in
-      ap₂ (λ (a b : ℕ). a ∷ b ∷ []) low high ∙ sym (two-words more two)
+module _ (masks : List ℕ) (x s : ℕ) (long : 2 * x + 1 < length masks) (low : s < 128) where
+  abbrev word : ℕ
+  word = bitOr (getD masks (2 * x + s / 64) 0) (nameBit s)
 
-  mask-other : (y : ℕ) → (y ≡ x → ⊥) → maskAt (storedMask masks x more) y ≡ maskAt masks y
-  mask-other y ne =
-      let kept : (i : ℕ) → (i ≡ 2 * x → ⊥) → (i ≡ 2 * x + 1 → ⊥) → getD (storedMask masks x more) i 0 ≡ getD masks i 0 =
-      λ i p q. getD-set-other (set masks (2 * x) (getD more 0 0)) (2 * x + 1) i _ 0 q ∙ getD-set-other masks (2 * x) i _ 0 p in
-      ap₂ (λ (a b : ℕ). a ∷ b ∷ []) (kept (2 * y) (λ e. ne (omega arith)) (λ e. omega arith))
-      (kept (2 * y + 1) (λ e. omega arith) (λ e. ne (omega arith)))
+  half : (s / 64 ≡ 0) ⊎ (s / 64 ≡ 1)
+  half = ⊎-elim (λ (h : s < 64). inl (omega arith)) (λ (h : 64 ≤ s). inr (omega arith)) (lt-cases s 64)
 
-  pub mask-added : (s : ℕ) → Inserted (maskAt masks x) s more → Added masks x s (storedMask masks x more)
-  mask-added s i = record { long = simp length-set; has = λ y h t. go y t (bool-cases (eqb y x)) }
+  -- The word is the set's own.
+  own-word : (i : ℕ) → (i ≡ 0) ⊎ (i ≡ 1) → getD masks (2 * x + i) 0 ≡ getD (maskAt masks x) i 0
+  own-word i (inl e) = let z : 2 * x + i ≡ 2 * x = omega arith in rw (z, e)
+  own-word i (inr e) = let z : 2 * x + i ≡ suc (2 * x) = omega arith in rw (z, e)
+
+  pub mask-added : Added masks x s (set masks (2 * x + s / 64) word)
+  mask-added = record { long = length-set masks (2 * x + s / 64) word; has = λ y h t. go y t (bool-cases (eqb y x)) }
     where
+      more : (t : ℕ) → member (maskAt (set masks (2 * x + s / 64) word) x) t ≡ (eqb t s || member (maskAt masks x) t)
+      more t =
+          ap (λ (l : List ℕ). member l t)
+          (own-words masks x word long (s / 64) half ∙ ap (λ (w : ℕ). set (maskAt masks x) (s / 64) (bitOr w (nameBit s))) (own-word (s / 64) half))
+          ∙ stored-in (maskAt masks x) s (omega arith) .has t
+
       go : (y t : ℕ) → (eqb y x ≡ true) ⊎ (eqb y x ≡ false)
-          → member (maskAt (storedMask masks x more) y) t ≡ ((eqb y x && eqb t s) || member (maskAt masks y) t)
+          → member (maskAt (set masks (2 * x + s / 64) word) y) t ≡ ((eqb y x && eqb t s) || member (maskAt masks y) t)
       go y t (inl p) =
-          rw p (ap (λ (z : ℕ). member (maskAt (storedMask masks x more) z) t) (eqb-true y x p) ∙ ap (λ (l : List ℕ). member l t) mask-same
-          ∙ i .has t ∙ ap (λ (z : ℕ). eqb t s || member (maskAt masks z) t) (sym (eqb-true y x p)))
-      go y t (inr p) = rw p (ap (λ (l : List ℕ). member l t) (mask-other y (eqb-false y x p)))
+          rw p (ap (λ (z : ℕ). member (maskAt (set masks (2 * x + s / 64) word) z) t) (eqb-true y x p) ∙ more t
+          ∙ ap (λ (z : ℕ). eqb t s || member (maskAt masks z) t) (sym (eqb-true y x p)))
+      go y t (inr p) = rw p (ap (λ (l : List ℕ). member l t) (other-words masks x word long (s / 64) y (omega arith) (eqb-false y x p)))
 
 -- ---- mask
 
-pub masked-first : (ws masks names : List ℕ) → ((i : ℕ) → getD masks i 0 ≡ 0) → Empty names → MaskedTo ws masks names 0
+pub masked-first : (w : ℕ) (ws masks names : List ℕ) → length masks ≡ 1024 → ((i : ℕ) → getD masks i 0 ≡ 0) → Empty names → MaskedTo w ws masks names 0
 unfolding definesIn definedIn
-masked-first ws masks names zeros none = record {
+masked-first w ws masks names long zeros none = record {
+  long = long;
   masked = λ x h s.
-      ap₂ (λ (a b : ℕ). member (a ∷ b ∷ []) s) (zeros (2 * x)) (zeros (2 * x + 1)) ∙ zeros-empty 2 .has s;
+      ap₂ (λ (a b : ℕ). member (a ∷ b ∷ []) s) (zeros (2 * x)) (zeros (suc (2 * x))) ∙ zeros-empty 2 .has s;
   named = none .has;
 }
 
@@ -71,12 +81,13 @@ eqb-sym a b = bool-ext _ _ (turned a b) (turned b a)
     turned : (a b : ℕ) → eqb a b ≡ true → eqb b a ≡ true
     turned a b e = eq-eqb b a (sym (eqb-true a b e))
 
-pub masked-next : (ws masks names after more : List ℕ) (k : ℕ) → MaskedTo ws masks names k
-    → Added masks (varAt ws k) (statementAt ws k) after → Inserted names (varAt ws k) more → MaskedTo ws after more (k + 1)
+pub masked-next : (w : ℕ) (ws masks names after more : List ℕ) (k : ℕ) → MaskedTo w ws masks names k
+    → Added masks (varAt w ws k) (statementAt w ws k) after → Inserted names (varAt w ws k) more → MaskedTo w ws after more (k + 1)
 unfolding definesIn definedIn
-masked-next ws masks names after more k m a i = record {
+masked-next w ws masks names after more k m a i = record {
+  long = a .long ∙ m .long;
   masked = λ x h s.
-      let own = ap₂ (λ (p q : Bool). p && q) (eqb-sym x (varAt ws k)) (eqb-sym s (statementAt ws k)) ∙ and-comm (eqb (varAt ws k) x) _ in
+      let own = ap₂ (λ (p q : Bool). p && q) (eqb-sym x (varAt w ws k)) (eqb-sym s (statementAt w ws k)) ∙ and-comm (eqb (varAt w ws k) x) _ in
       rw (add-one k) (a .has x h s ∙ ap₂ (λ (p q : Bool). p || q) own (m .masked x h s));
-  named = λ x. rw (add-one k) (i .has x ∙ ap₂ (λ (p q : Bool). p || q) (eqb-sym x (varAt ws k)) (m .named x));
+  named = λ x. rw (add-one k) (i .has x ∙ ap₂ (λ (p q : Bool). p || q) (eqb-sym x (varAt w ws k)) (m .named x));
 }

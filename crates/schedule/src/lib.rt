@@ -3,11 +3,13 @@
 use place::State;
 use rows::CELLS;
 use rows::MASKS;
+use widths::Width;
 ghost use mathlib.Core.Path.{_≡_};
 ghost use mathlib.Core.Bool.{true};
 ghost use Prim.Native.Nat.{ℕ};
 ghost use lib.ListN.{length, getD};
 ghost use Rattle.turns.specs.Orders.{placedOrder};
+ghost use Rattle.widths.specs.Widths.{limits, row};
 ghost use Rattle.rows.specs.Rows.{definitions};
 ghost use Rattle.bounds.specs.Answers.{Accepted};
 ghost use Rattle.place.specs.State.{After};
@@ -21,29 +23,41 @@ pub enum Outcome {
 }
 
 // Indexes the rows of a list in bounds, and places what can be placed in buffers of zeros.
-pub fn place_rows(rows: &[u64], n: usize, order: &mut [u16], reached: &mut [u16]) -> State
-    requires { ⌜ Accepted (now rows) n (length (now order)) (length (now reached)) ⌝ }
+pub fn place_rows(
+    width: Width,
+    rows: &[u64],
+    n: usize,
+    order: &mut [u16],
+    reached: &mut [u16],
+) -> State
+    requires { ⌜ Accepted (limits width) (now rows) n (length (now order)) (length (now reached)) ⌝ }
     requires { ⌜ ((i : ℕ) → getD (now order) i 0 ≡ 0) ⌝ }
     requires { ⌜ ((i : ℕ) → getD (now reached) i 0 ≡ 0) ⌝ }
-    ensures { λ r. ⌜ After (definitions (now (rows .entry))) n (placedOrder (definitions (now (rows .entry))) n 128) r (now (order .exit)) (now (reached .exit)) ⌝ }
+    ensures { λ r. ⌜ After (definitions (row width) (now (rows .entry))) n (placedOrder (definitions (row width) (now (rows .entry))) n 512) r (now (order .exit)) (now (reached .exit)) ⌝ }
 {
     let mut links: [u16; CELLS] = [0; CELLS];
-    rows::link(rows, &mut links);
+    rows::link(width, rows, &mut links);
     let mut masks: [u64; MASKS] = [0; MASKS];
-    let defined = rows::mask(rows, &mut masks);
-    place::place_all(rows, &links, &masks, defined, n, order, reached)
+    let defined = rows::mask(width, rows, &mut masks);
+    place::place_all(width, rows, &links, &masks, defined, n, order, reached)
 }
 
 // The call: its question, then the turn rule; where not all are placed, the written order.
-pub fn schedule(rows: &[u64], n: usize, order: &mut [u16], reached: &mut [u16]) -> Outcome
-    ensures { λ r. ⌜ Scheduled (now (rows .entry)) n (length (now (order .entry))) (length (now (reached .entry))) r (now (order .exit)) (now (reached .exit)) ⌝ }
+pub fn schedule(
+    width: Width,
+    rows: &[u64],
+    n: usize,
+    order: &mut [u16],
+    reached: &mut [u16],
+) -> Outcome
+    ensures { λ r. ⌜ Scheduled (limits width) (now (rows .entry)) n (length (now (order .entry))) (length (now (reached .entry))) r (now (order .exit)) (now (reached .exit)) ⌝ }
 {
     buffers::clear(order);
     buffers::clear(reached);
-    if !bounds::admits(rows, n, order.len(), reached.len()) {
+    if !bounds::admits(width, rows, n, order.len(), reached.len()) {
         return Outcome::Refused;
     }
-    let end = place_rows(rows, n, order, reached);
+    let end = place_rows(width, rows, n, order, reached);
     let count = end.count;
     if count == n {
         return Outcome::Placed;

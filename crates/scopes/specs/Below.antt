@@ -9,7 +9,7 @@ use borrow.Author.Tests.{eqb-true}
 use Rattle.basics.specs.Truth.{bool-cases, not-both, and-right, or-left, or-right, or-cases}
 use Rattle.basics.specs.Lists.{all}
 use Rattle.records.specs.declared.Row.{Row}
-use Rattle.trees.specs.Sheet.{Sheet, nameBound}
+use Rattle.trees.specs.Sheet.{Sheet}
 use Rattle.trees.specs.Trees.{Tree}
 use Rattle.trees.specs.Statements.{Stmt}
 use Rattle.trees.specs.TreeRows.{allRows}
@@ -19,12 +19,14 @@ use Rattle.scopes.specs.Scopes.{Span, Scope, noScope, isLocal, owns, add
 use Rattle.scopes.specs.GatherLocals.{gatherLocalVars}
 use Rattle.scopes.specs.GatherLaws.{Kept, gathered}
 
--- A row whose name is below the bound.
-abbrev pub nameBelow : Row → Bool
-nameBelow w = ltb (w .name) nameBound
+-- A row whose name is below n.
+abbrev pub nameBelow : ℕ → Row → Bool
+nameBelow n w = ltb (w .name) n
 
-abbrev pub Below : Scope → Type 0
-Below s = (x : ℕ) → owns s x ≡ true → ltb x nameBound ≡ true
+-- The names of a scope are below n.
+pub record Below (n : ℕ) (s : Scope) : Type 0 where
+  pub own : (x : ℕ) → owns s x ≡ true → ltb x n ≡ true
+  pub inputs : (x : ℕ) → contains (s .inputs) x ≡ true → ltb x n ≡ true
 
 -- ---- the changes
 
@@ -51,38 +53,55 @@ unfolding removeAll contains remove
 removed-from [] u x h = h
 removed-from (p ∷ spans) u x h = and-right (not (eqb x (p .name))) (u x) (removed-from spans (remove u (p .name)) x h)
 
-pub unscoped-below : (s : Scope) (y : ℕ) → ltb y nameBound ≡ true → Below s → Below (addUnscoped s y)
-unscoped-below s y l b x h = ⊎-elim (λ (e : x ≡ y). ap (λ (z : ℕ). ltb z nameBound) e ∙ l) (λ (o : owns s x ≡ true). b x o) (unscoped-owns s y x h)
+module _ (n : ℕ) where
+  pub unscoped-below : (s : Scope) (y : ℕ) → ltb y n ≡ true → Below n s → Below n (addUnscoped s y)
+  unfolding addUnscoped
+  unscoped-below s y l b = record {
+    own = λ x h. ⊎-elim (λ (e : x ≡ y). ap (λ (z : ℕ). ltb z n) e ∙ l) (λ (o : owns s x ≡ true). b .own x o) (unscoped-owns s y x h);
+    inputs = b .inputs;
+  }
 
-pub input-below : (s : Scope) (y : ℕ) → Below s → Below (addInput s y)
-unfolding owns addInput
-input-below s y b x h = b x h
+  pub input-below : (s : Scope) (y : ℕ) → ltb y n ≡ true → Below n s → Below n (addInput s y)
+  unfolding owns addInput contains insert
+  input-below s y l b = record {
+    own = b .own;
+    inputs = λ x h. ⊎-elim (λ (e : eqb x y ≡ true). ap (λ (z : ℕ). ltb z n) (eqb-true x y e) ∙ l) (λ (o : s .inputs x ≡ true). b .inputs x o)
+        (or-cases (eqb x y) (s .inputs x) h);
+  }
 
-pub flag-below : (s : Scope) (f : Bool) → Below s → Below (useInput f s)
-unfolding owns useInput
-flag-below s f b x h = b x h
+  pub flag-below : (s : Scope) (f : Bool) → Below n s → Below n (useInput f s)
+  unfolding owns useInput
+  flag-below s f b = record { own = b .own; inputs = b .inputs }
 
-below-kept : (parents : List Scope) → Kept parents nameBelow Below
-below-kept parents = record {
-  local = λ s w l b x h. ⊎-elim (λ (e : w .name ≡ x). ap (λ (z : ℕ). ltb z nameBound) (sym e) ∙ l) (λ (o : owns s x ≡ true). b x o) (local-owns s w x h);
-  unscoped = λ s w l b. unscoped-below s (w .name) l b;
-  input = λ s w e b. input-below s (w .name) b;
-  flag = λ s f b. flag-below s f b;
-}
+  below-kept : (parents : List Scope) → Kept parents (nameBelow n) (Below n)
+  unfolding addLocal
+  below-kept parents = record {
+    local = λ s w l b. record {
+      own = λ x h. ⊎-elim (λ (e : w .name ≡ x). ap (λ (z : ℕ). ltb z n) (sym e) ∙ l) (λ (o : owns s x ≡ true). b .own x o) (local-owns s w x h);
+      inputs = b .inputs;
+    };
+    unscoped = λ s w l b. unscoped-below s (w .name) l b;
+    input = λ s w l e b. input-below s (w .name) l b;
+    flag = λ s f b. flag-below s f b;
+  }
 
-none-below : Below noScope
-unfolding owns contains empty
-none-below x h = absurd (not-both h refl)
+  none-below : Below n noScope
+  unfolding owns contains empty
+  none-below = record { own = λ x h. absurd (not-both h refl); inputs = λ x h. absurd (not-both h refl) }
 
-shadowed-below : (s : Scope) → Below s → Below (removeShadowed s)
-unfolding owns removeShadowed
-shadowed-below s b x h =
-    ⊎-elim (λ (p : isLocal s x ≡ true). b x (or-left (isLocal s x) (contains (s .unscoped) x) p))
-    (λ (p : contains (removeAll (s .unscoped) (s .locals)) x ≡ true). b x (or-right (isLocal s x) (contains (s .unscoped) x) (removed-from (s .locals) (s .unscoped) x p)))
-    (or-cases (isLocal s x) (contains (removeAll (s .unscoped) (s .locals)) x) h)
+  shadowed-below : (s : Scope) → Below n s → Below n (removeShadowed s)
+  unfolding owns removeShadowed
+  shadowed-below s b = record {
+    own = λ x h.
+        ⊎-elim (λ (p : isLocal s x ≡ true). b .own x (or-left (isLocal s x) (contains (s .unscoped) x) p))
+        (λ (p : contains (removeAll (s .unscoped) (s .locals)) x ≡ true). b .own x (or-right (isLocal s x) (contains (s .unscoped) x) (removed-from (s .locals) (s .unscoped) x p)))
+        (or-cases (isLocal s x) (contains (removeAll (s .unscoped) (s .locals)) x) h);
+    inputs = λ x h. b .inputs x (removed-from (s .locals) (s .inputs) x h);
+  }
 
--- ---- the scope of a query
+  -- ---- the scope of a query
 
-pub gathered-below : (sheet : Sheet) (parents : List Scope) (stmts : List Stmt) → all (stmtRows nameBelow) stmts ≡ true
-    → (outputs : List Tree) → all (allRows nameBelow) outputs ≡ true → Below (gatherLocalVars sheet parents stmts outputs)
-gathered-below sheet parents stmts h outputs g = gathered sheet parents nameBelow refl Below (below-kept parents) none-below shadowed-below stmts h outputs g
+  pub gathered-below : (sheet : Sheet) (parents : List Scope) (stmts : List Stmt) → ltb 0 n ≡ true → all (stmtRows (nameBelow n)) stmts ≡ true
+      → (outputs : List Tree) → all (allRows (nameBelow n)) outputs ≡ true → Below n (gatherLocalVars sheet parents stmts outputs)
+  gathered-below sheet parents stmts zero h outputs g =
+      gathered sheet parents (nameBelow n) zero (Below n) (below-kept parents) none-below shadowed-below stmts h outputs g

@@ -25,7 +25,7 @@ use Rattle.scopes.specs.GatherLocals.{gatherExtraArg, gatherExpr, gather
 pub record Kept (parents : List Scope) (q : Row → Bool) (P : Scope → Type 0) : Type 0 where
   pub local : (s : Scope) (w : Row) → q w ≡ true → P s → P (addLocal s w)
   pub unscoped : (s : Scope) (w : Row) → q w ≡ true → P s → P (addUnscoped s (w .name))
-  pub input : (s : Scope) (w : Row) → varExists parents w ≡ true → P s → P (addInput s (w .name))
+  pub input : (s : Scope) (w : Row) → q w ≡ true → varExists parents w ≡ true → P s → P (addInput s (w .name))
   pub flag : (s : Scope) (b : Bool) → P s → P (useInput b s)
 
 module _ (P : Scope → Type 0) {A : Type 0} (f : A → Bool) (g : Scope → A → Scope) (h : (s : Scope) (x : A) → f x ≡ true → P s → P (g s x)) where
@@ -43,7 +43,7 @@ module _ (sheet : Sheet) (parents : List Scope) (q : Row → Bool) (d : q noRow 
           (cond (varExists parents w) (addInput s (w .name)) (addUnscoped s (w .name)))))
       go true y e = k .flag s (isInput sheet (w .name)) p
       go false true e = k .local s w h p
-      go false false (inl e) = rw e (k .input s w e p)
+      go false false (inl e) = rw e (k .input s w h e p)
       go false false (inr e) = rw e (k .unscoped s w h p)
 
   pub assigned-kept : (b : Bool) (t : Tree) → allRows q t ≡ true → (s : Scope) → P s → P (gatherAssignedVars sheet parents b t s)
@@ -60,7 +60,7 @@ module _ (sheet : Sheet) (parents : List Scope) (q : Row → Bool) (d : q noRow 
 
       go : (x : Bool) → (found ≡ true) ⊎ (found ≡ false) → P (cond x (useInput true s) (cond found (addInput s (w .name)) s))
       go true e = k .flag s true p
-      go false (inl e) = rw e (k .input s w (and-right (not (contains (s .unscoped) (w .name))) _ e) p)
+      go false (inl e) = rw e (k .input s w h (and-right (not (contains (s .unscoped) (w .name))) _ e) p)
       go false (inr e) = rw e p
 
   loop-kept : (s : Scope) (e : Tree) → allRows q e ≡ true → P s → P (loopVar sheet parents s e)

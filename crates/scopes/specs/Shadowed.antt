@@ -77,7 +77,7 @@ unfolding addLocal addUnscoped useInput
 found-kept parents = record {
   local = λ s w l f. f;
   unscoped = λ s w l f. f;
-  input = λ s w e f. input-found parents s w e f;
+  input = λ s w q e f. input-found parents s w e f;
   flag = λ s b f. f;
 }
 

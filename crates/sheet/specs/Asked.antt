@@ -9,13 +9,17 @@ use lib.Dec.{eqb, leb, ltb}
 use lib.ListN.{length, getD, length-replicate}
 use lib.Seq.{sets}
 use borrow.Author.Tests.{ltb-false, eqb-true, eqb-false, lt-leb, le-leb, eq-eqb, ne-eqb}
+use Rattle.basics.specs.Limits.{Limits}
 use Rattle.basics.specs.Truth.{bool-cases, not-both}
+use Rattle.widths.specs.declared.Width.{Width}
+use Rattle.widths.specs.Widths.{limits}
+use Rattle.widths.specs.Laws as widths
 use Rattle.text.specs.Bytes.{bytes}
-use Rattle.text.specs.Sections.{Section, sections, lineOf}
+use Rattle.text.specs.Sections.{lineOf}
 use Rattle.text.specs.SectionLaws.{line-some}
 use Rattle.text.specs.Names.{nameRow}
 use Rattle.text.specs.Form.{same}
-use Rattle.text.specs.Counts.{overLine, noQueryLine, countFault}
+use Rattle.text.specs.Counts.{mostRows, overLine, noQueryLine, countFault}
 use Rattle.text.specs.Questions.{shortEnough, formFault, namesFault, countsFault, sectionRows, rowCounts, rowOfName, sheetNames}
 use Rattle.tables.specs.Tables.{tables}
 use Rattle.reader.specs.declared.Read as read-of
@@ -41,42 +45,45 @@ isRead (BadCount l) = false
 isRead (BadField l) = false
 
 -- What the questions leave.
-pub record Asked (s : List ℕ) (r : Outcome) (tableAfter : List ℕ) : Type 0 where
-  pub came-to : r ≡ asked s
+pub record Asked (lim : Limits) (s : List ℕ) (r : Outcome) (tableAfter : List ℕ) : Type 0 where
+  pub came-to : r ≡ asked lim s
   pub tabled : isRead r ≡ true → tableAfter ≡ readTables s
 
 -- What all questions leave, of tables and work that are so long. Nothing is said of the tables of a refused sheet.
-pub record SheetTaken (s : List ℕ) (room long : ℕ) (r : Outcome) (tablesAfter : List ℕ) : Type 0 where
-  pub came-to : r ≡ verdict s room long
+pub record SheetTaken (lim : Limits) (s : List ℕ) (room long : ℕ) (r : Outcome) (tablesAfter : List ℕ) : Type 0 where
+  pub came-to : r ≡ verdict lim s room long
   pub tabled : isRead r ≡ true → tablesAfter ≡ leftTables s room r
 
 -- The special names' rows fit an entry of the tables.
 pub record Small (x : Special) : Type 0 where
-  pub blank : x .blank ≤ 127
-  pub input : x .input ≤ 127
-  pub «data» : x .«data» ≤ 127
+  pub blank : x .blank ≤ 511
+  pub input : x .input ≤ 511
+  pub «data» : x .«data» ≤ 511
 
 -- ---- counts in bounds
 
-pub over-none : (ks : List ℕ) (k : ℕ) (s : Section) (ss : List Section) → overLine ks k (s ∷ ss) ≡ 0
-    → (getD ks k 0 ≤ s .limit) × (overLine ks (suc k) ss ≡ 0)
+pub over-none : (ks : List ℕ) (k most : ℕ) (more : List ℕ) → overLine ks k (most ∷ more) ≡ 0
+    → (getD ks k 0 ≤ most) × (overLine ks (suc k) more ≡ 0)
 unfolding overLine
-over-none ks k s ss h = go (bool-cases (ltb (s .limit) (getD ks k 0)))
+over-none ks k most more h = go (bool-cases (ltb most (getD ks k 0)))
   where
-    go : (ltb (s .limit) (getD ks k 0) ≡ true) ⊎ (ltb (s .limit) (getD ks k 0) ≡ false)
-        → (getD ks k 0 ≤ s .limit) × (overLine ks (suc k) ss ≡ 0)
-    go (inl p) = let z : lineOf ks k (s .limit + 1) ≡ 0 = rw p at h in absurd (omega (arith, line-some ks k (s .limit + 1)))
-    go (inr p) = (ltb-false (s .limit) (getD ks k 0) p, rw p at h)
+    go : (ltb most (getD ks k 0) ≡ true) ⊎ (ltb most (getD ks k 0) ≡ false) → (getD ks k 0 ≤ most) × (overLine ks (suc k) more ≡ 0)
+    go (inl p) = let z : lineOf ks k (most + 1) ≡ 0 = rw p at h in absurd (omega (arith, line-some ks k (most + 1)))
+    go (inr p) = (ltb-false most (getD ks k 0) p, rw p at h)
 
--- No section is over its limit, and there is a query.
-pub count-none : (ks : List ℕ) → countFault ks ≡ 0 → (overLine ks 0 sections ≡ 0) × (noQueryLine ks ≡ 0)
+-- No section has too many rows, and there is a query.
+pub count-none : (lim : Limits) (ks : List ℕ) → countFault lim ks ≡ 0 → (overLine ks 0 (mostRows lim) ≡ 0) × (noQueryLine ks ≡ 0)
 unfolding countFault
-count-none ks h = go (bool-cases (eqb (overLine ks 0 sections) 0))
+count-none lim ks h = go (bool-cases (eqb (overLine ks 0 (mostRows lim)) 0))
   where
-    go : (eqb (overLine ks 0 sections) 0 ≡ true) ⊎ (eqb (overLine ks 0 sections) 0 ≡ false)
-        → (overLine ks 0 sections ≡ 0) × (noQueryLine ks ≡ 0)
+    go : (eqb (overLine ks 0 (mostRows lim)) 0 ≡ true) ⊎ (eqb (overLine ks 0 (mostRows lim)) 0 ≡ false)
+        → (overLine ks 0 (mostRows lim) ≡ 0) × (noQueryLine ks ≡ 0)
     go (inl p) = (eqb-true _ 0 p, rw p at h)
-    go (inr p) = let z : overLine ks 0 sections ≡ 0 = rw p at h in absurd (eqb-false _ 0 p z)
+    go (inr p) = let z : overLine ks 0 (mostRows lim) ≡ 0 = rw p at h in absurd (eqb-false _ 0 p z)
+
+-- As many names as the limits say, at most.
+pub names-in : (lim : Limits) (ks : List ℕ) → countFault lim ks ≡ 0 → getD ks 0 0 ≤ lim .names
+names-in lim ks h = over-none ks 0 (lim .names) _ (count-none lim ks h .0) .0
 
 no-query : (ks : List ℕ) → noQueryLine ks ≡ 0 → getD ks 4 0 ≡ 0 → ⊥
 unfolding noQueryLine
@@ -92,10 +99,10 @@ asCounts ks = record {
   queries = getD ks 4 0;
 }
 
-pub within : (ks : List ℕ) → countFault ks ≡ 0 → Within (asCounts ks)
-unfolding sections
-within ks h =
-    let none = count-none ks h in
+-- Whatever the width, the bounds between the questions are kept.
+pub within : (w : Width) (ks : List ℕ) → countFault (limits w) ks ≡ 0 → Within (asCounts ks)
+within w ks h =
+    let none = count-none (limits w) ks h in
     let first = over-none ks 0 _ _ (none .0) in
     let second = over-none ks 1 _ _ (first .1) in
     let third = over-none ks 2 _ _ (second .1) in
@@ -103,7 +110,7 @@ within ks h =
     let fifth = over-none ks 4 _ _ (fourth .1) in
     let some = no-query ks (none .1) in
     record {
-      few-names = first .0;
+      few-names = omega (arith, first .0, widths.few-names w);
       few-builtins = second .0;
       few-exprs = third .0;
       few-statements = fourth .0;
@@ -127,8 +134,8 @@ first-count : (rs : List (List (List ℕ))) → getD (map length rs) 0 0 ≡ len
 first-count [] = refl
 first-count (ls ∷ rs) = refl
 
-module _ (s : List ℕ) (few : getD (rowCounts s) 0 0 ≤ 127) where
-  row-low : (w : List ℕ) → rowOfName s w ≤ 127
+module _ (s : List ℕ) (few : getD (rowCounts s) 0 0 ≤ 511) where
+  row-low : (w : List ℕ) → rowOfName s w ≤ 511
   unfolding rowOfName
   row-low w = let h = name-row-low 0 w (sheetNames s) in omega (arith, first-count (sectionRows s))
 
@@ -159,15 +166,15 @@ module _ (s d : List ℕ) (r : read-of.Read) (e : List ℕ) (is : d ≡ emptyTab
   pub counts-are : countsIn r ≡ readCounts s
   counts-are = ap asCounts (k .count good)
 
-  pub few-names : r .names ≤ 127 → getD (rowCounts s) 0 0 ≤ 127
+  pub few-names : r .names ≤ 511 → getD (rowCounts s) 0 0 ≤ 511
   few-names h = let n : r .names ≡ getD (rowCounts s) 0 0 = ap (λ (ks : List ℕ). getD ks 0 0) (k .count good) in omega arith
 
   rows-are : e ≡ tables s emptyTables
   rows-are = k .table good ∙ ap (tables s) is
 
-  pub counts-fault-is : countFault (counts r) ≡ countsFault s
+  pub counts-fault-is : (lim : Limits) → countFault lim (counts r) ≡ countsFault lim s
   unfolding countsFault
-  counts-fault-is = ap countFault (k .count good)
+  counts-fault-is lim = ap (countFault lim) (k .count good)
 
   -- With the head in front.
   module _ (x : Special) (special : SpecialRead s x) (t : List ℕ) (headed : t ≡ sets e 0 (headOf (countsIn r) x)) where
@@ -177,49 +184,49 @@ module _ (s d : List ℕ) (r : read-of.Read) (e : List ℕ) (is : d ≡ emptyTab
         headed
         ∙ rw (special .blank, special .input, special .«data») (ap₂ (λ (l : List ℕ) (c : Counts). sets l 0 (headOf c (readSpecial s))) rows-are counts-are)
 
-    pub fields-fault-is : formFault s ≡ 0 → countsFault s ≡ 0 → firstLine (countsIn r) (inTables t) ≡ fieldsFault s
+    pub fields-fault-is : (w : Width) → formFault s ≡ 0 → countsFault (limits w) s ≡ 0 → firstLine (countsIn r) (inTables t) ≡ fieldsFault s
     unfolding countsFault
-    fields-fault-is formed counted =
-        ap₂ (λ (c : Counts) (d : List ℕ). firstLine c (inTables d)) counts-are tables-are ∙ fields-in-tables s formed (within (rowCounts s) counted)
+    fields-fault-is w formed counted =
+        ap₂ (λ (c : Counts) (d : List ℕ). firstLine c (inTables d)) counts-are tables-are ∙ fields-in-tables s formed (within w (rowCounts s) counted)
 
 -- ---- each way out
 
-refused : (s : List ℕ) (r : Outcome) (e : List ℕ) → r ≡ asked s → isRead r ≡ false → Asked s r e
-refused s r e is not-read = record { came-to = is; tabled = λ is-read. absurd (not-both is-read not-read) }
+refused : (lim : Limits) (s : List ℕ) (r : Outcome) (e : List ℕ) → r ≡ asked lim s → isRead r ≡ false → Asked lim s r e
+refused lim s r e is not-read = record { came-to = is; tabled = λ is-read. absurd (not-both is-read not-read) }
 
-module _ (s e : List ℕ) where
-  pub too-long : 32768 < length s → Asked s TooLong e
+module _ (lim : Limits) (s e : List ℕ) where
+  pub too-long : 32768 < length s → Asked lim s TooLong e
   unfolding asked
-  too-long h = refused s TooLong e (sym (rw (lt-leb (length s) 32768 h))) refl
+  too-long h = refused lim s TooLong e (sym (rw (lt-leb (length s) 32768 h))) refl
 
   module _ (short : length s ≤ 32768) where
-    pub bad-form : (l : ℕ) → l ≡ formFault s → (l ≡ 0 → ⊥) → Asked s (BadForm l) e
+    pub bad-form : (l : ℕ) → l ≡ formFault s → (l ≡ 0 → ⊥) → Asked lim s (BadForm l) e
     unfolding asked
     bad-form l is some =
-        refused s (BadForm l) e (sym (rw (le-leb (length s) 32768 short, ne-eqb (formFault s) 0 (λ z. some (is ∙ z)), sym is))) refl
+        refused lim s (BadForm l) e (sym (rw (le-leb (length s) 32768 short, ne-eqb (formFault s) 0 (λ z. some (is ∙ z)), sym is))) refl
 
     module _ (formed : formFault s ≡ 0) where
-      pub bad-name : (l : ℕ) → l ≡ namesFault s → (l ≡ 0 → ⊥) → Asked s (BadName l) e
+      pub bad-name : (l : ℕ) → l ≡ namesFault s → (l ≡ 0 → ⊥) → Asked lim s (BadName l) e
       unfolding asked
       bad-name l is some =
-          refused s (BadName l) e
+          refused lim s (BadName l) e
           (sym (rw (le-leb (length s) 32768 short, formed, ne-eqb (namesFault s) 0 (λ z. some (is ∙ z)), sym is))) refl
 
       module _ (named : namesFault s ≡ 0) where
-        pub bad-count : (l : ℕ) → l ≡ countsFault s → (l ≡ 0 → ⊥) → Asked s (BadCount l) e
+        pub bad-count : (l : ℕ) → l ≡ countsFault lim s → (l ≡ 0 → ⊥) → Asked lim s (BadCount l) e
         unfolding asked
         bad-count l is some =
-            refused s (BadCount l) e
-            (sym (rw (le-leb (length s) 32768 short, formed, named, ne-eqb (countsFault s) 0 (λ z. some (is ∙ z)), sym is))) refl
+            refused lim s (BadCount l) e
+            (sym (rw (le-leb (length s) 32768 short, formed, named, ne-eqb (countsFault lim s) 0 (λ z. some (is ∙ z)), sym is))) refl
 
-        module _ (counted : countsFault s ≡ 0) where
-          pub bad-field : (l : ℕ) → l ≡ fieldsFault s → (l ≡ 0 → ⊥) → Asked s (BadField l) e
+        module _ (counted : countsFault lim s ≡ 0) where
+          pub bad-field : (l : ℕ) → l ≡ fieldsFault s → (l ≡ 0 → ⊥) → Asked lim s (BadField l) e
           unfolding asked
           bad-field l is some =
-              refused s (BadField l) e
+              refused lim s (BadField l) e
               (sym (rw (le-leb (length s) 32768 short, formed, named, counted, ne-eqb (fieldsFault s) 0 (λ z. some (is ∙ z)), sym is))) refl
 
-          pub all-read : fieldsFault s ≡ 0 → e ≡ readTables s → Asked s Read e
+          pub all-read : fieldsFault s ≡ 0 → e ≡ readTables s → Asked lim s Read e
           unfolding asked
           all-read held is = record {
             came-to = sym (rw (le-leb (length s) 32768 short, formed, named, counted, held));

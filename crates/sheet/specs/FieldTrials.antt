@@ -6,14 +6,9 @@ use Prim.Native.Nat.{ℕ}
 use Prim.Native.String.{String, _++_}
 use Rattle.basics.specs.Lists.{all}
 use Rattle.text.specs.Trials.{Trial}
-use Rattle.sheet.specs.Trials.{trial, judged, passes}
+use Rattle.sheet.specs.Trials.{trial, judgedBy, passes, rows}
 
 -- ---- sheets by their rows
-
--- Rows as lines, and the empty line behind them.
-abbrev rows : List String → String
-rows [] = "\n"
-rows (r ∷ rs) = r ++ "\n" ++ rows rs
 
 abbrev sheetWith : (names expressions statements queries : List String) → String
 sheetWith names expressions statements queries =
@@ -128,21 +123,21 @@ rings =
     ∷ []
 
 pub comprehensions-pass : all passes comprehensions ≡ true
-unfolding judged
+unfolding judgedBy
 comprehensions-pass = refl
 
 pub levels-pass : all passes levels ≡ true
-unfolding judged
+unfolding judgedBy
 levels-pass = refl
 
 pub everys-pass : all passes everys ≡ true
-unfolding judged
+unfolding judgedBy
 everys-pass = refl
 
 pub chains-pass : all passes chains ≡ true
-unfolding judged
+unfolding judgedBy
 chains-pass = refl
 
 pub rings-pass : all passes rings ≡ true
-unfolding judged
+unfolding judgedBy
 rings-pass = refl

@@ -7,6 +7,7 @@ use native.Mathlib.Omega.{arith}
 use lib.Dec.{leb}
 use lib.ListN.{take, drop, replicate, length-replicate, replicate-append-replicate}
 use lib.Seq.{take-at, drop-at}
+use Rattle.basics.specs.Limits.{Limits}
 use Rattle.basics.specs.Truth.{not-both}
 use Rattle.sheet.specs.declared.Outcome.{Outcome}
 use Rattle.sheet.specs.declared.Outcome.the-variants.{Read, NoRoom, TooLong, BadForm, BadName, BadCount, BadField}
@@ -59,13 +60,13 @@ zeros-left s room (BadField l) p = refl
 -- ---- the ways out
 
 -- Of the questions.
-module _ (s : List ℕ) (room long : ℕ) (t : List ℕ) where
-  pub no-room : (leb 8192 room && leb 8192 long) ≡ false → SheetTaken s room long NoRoom t
+module _ (lim : Limits) (s : List ℕ) (room long : ℕ) (t : List ℕ) where
+  pub no-room : (leb 8192 room && leb (lim .work) long) ≡ false → SheetTaken lim s room long NoRoom t
   unfolding verdict
   no-room few = record { came-to = sym (rw few); tabled = λ p. absurd (not-both p refl) }
 
-  pub takes : (leb 8192 room && leb 8192 long) ≡ true → (r : Outcome) (e : List ℕ) → Asked s r e → t ≡ e ++ replicate (room - 8192) 0
-      → SheetTaken s room long r t
+  pub takes : (leb 8192 room && leb (lim .work) long) ≡ true → (r : Outcome) (e : List ℕ) → Asked lim s r e → t ≡ e ++ replicate (room - 8192) 0
+      → SheetTaken lim s room long r t
   unfolding verdict
   takes enough r e k is = record {
     came-to = k .came-to ∙ sym (rw enough);
@@ -73,9 +74,9 @@ module _ (s : List ℕ) (room long : ℕ) (t : List ℕ) where
   }
 
 -- Of the reader.
-module _ (s : List ℕ) (room long : ℕ) (r : Outcome) (t : List ℕ) (k : SheetTaken s room long r t) (w : List ℕ) (worked : w ≡ replicate long 0) where
-  pub leaves-rows : isRead r ≡ true → SheetLeft s room long r t w
+module _ (lim : Limits) (s : List ℕ) (room long : ℕ) (r : Outcome) (t : List ℕ) (k : SheetTaken lim s room long r t) (w : List ℕ) (worked : w ≡ replicate long 0) where
+  pub leaves-rows : isRead r ≡ true → SheetLeft lim s room long r t w
   leaves-rows p = record { came-to = k .came-to; tabled = k .tabled p; worked = worked }
 
-  pub leaves-zeros : isRead r ≡ false → (u : List ℕ) → u ≡ replicate room 0 → SheetLeft s room long r u w
+  pub leaves-zeros : isRead r ≡ false → (u : List ℕ) → u ≡ replicate room 0 → SheetLeft lim s room long r u w
   leaves-zeros p u is = record { came-to = k .came-to; tabled = is ∙ zeros-left s room r p; worked = worked }

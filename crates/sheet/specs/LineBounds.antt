@@ -9,9 +9,12 @@ use lib.Dec.{eqb, leb, ltb}
 use lib.ListN.{length, getD}
 use borrow.Author.Tests.{ltb-false, leb-true, eqb-true}
 use Rattle.basics.specs.Truth.{bool-cases}
-use Rattle.text.specs.Sections.{Section, sections, builtInsAt, exprsAt, statementsAt, queriesAt, lineOf, lineOr}
+use Rattle.widths.specs.declared.Width.{Width}
+use Rattle.widths.specs.Widths.{limits, work}
+use Rattle.widths.specs.Laws.{few-names}
+use Rattle.text.specs.Sections.{builtInsAt, exprsAt, statementsAt, queriesAt, lineOf, lineOr}
 use Rattle.text.specs.SectionLaws.{line-row, line-next}
-use Rattle.text.specs.Counts.{overLine, noQueryLine, countFault}
+use Rattle.text.specs.Counts.{mostRows, overLine, noQueryLine, countFault}
 use Rattle.text.specs.Questions.{formFault, namesFault, countsFault, shortEnough, rowCounts}
 use Rattle.records.specs.declared.Counts.{Counts}
 use Rattle.records.specs.Layout.{Within}
@@ -28,64 +31,68 @@ use Rattle.sheet.specs.TextLines.{form-low, names-fault-low}
 
 -- ---- question 5
 
--- The most lines up to the last row of each of these sections.
-abbrev most : ℕ → List Section → ℕ
+-- The most lines up to the last row of sections with so many rows each.
+abbrev most : ℕ → List ℕ → ℕ
 most n [] = n
-most n (s ∷ ss) = most (n + s .limit + 2) ss
+most n (m ∷ ms) = most (n + m + 2) ms
 
-most-from : (ss : List Section) (n : ℕ) → n ≤ most n ss
+most-from : (ms : List ℕ) (n : ℕ) → n ≤ most n ms
 most-from [] n = omega arith
-most-from (s ∷ ss) n = omega (arith, most-from ss (n + s .limit + 2))
+most-from (m ∷ ms) n = omega (arith, most-from ms (n + m + 2))
 
 -- Up to the heading of these sections there are at most n lines.
-over-low : (ks : List ℕ) (k : ℕ) (ss : List Section) (n : ℕ) → lineOf ks k 0 ≤ n → overLine ks k ss ≤ most n ss
+over-low : (ks : List ℕ) (k : ℕ) (ms : List ℕ) (n : ℕ) → lineOf ks k 0 ≤ n → overLine ks k ms ≤ most n ms
 unfolding overLine
 over-low ks k [] n h = omega arith
-over-low ks k (s ∷ ss) n h =
-    go (bool-cases (ltb (s .limit) (getD ks k 0))) (λ g. over-low ks (suc k) ss (n + s .limit + 2) g)
+over-low ks k (m ∷ ms) n h = go (bool-cases (ltb m (getD ks k 0))) (λ g. over-low ks (suc k) ms (n + m + 2) g)
   where
-    go : (ltb (s .limit) (getD ks k 0) ≡ true) ⊎ (ltb (s .limit) (getD ks k 0) ≡ false)
-        → (lineOf ks (suc k) 0 ≤ n + s .limit + 2 → overLine ks (suc k) ss ≤ most (n + s .limit + 2) ss)
-        → cond (ltb (s .limit) (getD ks k 0)) (lineOf ks k (s .limit + 1)) (overLine ks (suc k) ss) ≤ most (n + s .limit + 2) ss
-    go (inl p) f = rw p (omega (arith, line-row ks k (s .limit + 1), most-from ss (n + s .limit + 2)))
+    go : (ltb m (getD ks k 0) ≡ true) ⊎ (ltb m (getD ks k 0) ≡ false)
+        → (lineOf ks (suc k) 0 ≤ n + m + 2 → overLine ks (suc k) ms ≤ most (n + m + 2) ms)
+        → cond (ltb m (getD ks k 0)) (lineOf ks k (m + 1)) (overLine ks (suc k) ms) ≤ most (n + m + 2) ms
+    go (inl p) f = rw p (omega (arith, line-row ks k (m + 1), most-from ms (n + m + 2)))
     go (inr p) f =
-        let few = ltb-false (s .limit) (getD ks k 0) p in
+        let few = ltb-false m (getD ks k 0) p in
         rw p (f (omega (arith, line-next ks k 0)))
-
--- The last heading, behind four sections within their limits.
-last-low : (ks : List ℕ) → overLine ks 0 sections ≡ 0 → lineOf ks 4 0 ≤ 875
-unfolding sections lineOf
-last-low ks none =
-    let first = over-none ks 0 _ _ none in
-    let second = over-none ks 1 _ _ (first .1) in
-    let third = over-none ks 2 _ _ (second .1) in
-    let fourth = over-none ks 3 _ _ (third .1) in
-    omega (
-      arith,
-      first .0,
-      second .0,
-      third .0,
-      fourth .0,
-      line-next ks 0 0,
-      line-next ks 1 0,
-      line-next ks 2 0,
-      line-next ks 3 0,
-    )
 
 first-heading : (ks : List ℕ) → lineOf ks 0 0 ≤ 1
 unfolding lineOf
 first-heading ks = omega arith
 
-counts-low : (ks : List ℕ) → countFault ks ≤ 875
-unfolding countFault noQueryLine sections
-counts-low ks = go (bool-cases (eqb (overLine ks 0 sections) 0)) (bool-cases (eqb (getD ks 4 0) 0))
-  where
-    go : (eqb (overLine ks 0 sections) 0 ≡ true) ⊎ (eqb (overLine ks 0 sections) 0 ≡ false)
-        → (eqb (getD ks 4 0) 0 ≡ true) ⊎ (eqb (getD ks 4 0) 0 ≡ false)
-        → cond (eqb (overLine ks 0 sections) 0) (cond (eqb (getD ks 4 0) 0) (lineOf ks 4 0) 0) (overLine ks 0 sections) ≤ 875
-    go (inl p) (inl q) = rw (p, q) (last-low ks (eqb-true _ 0 p))
-    go (inl p) (inr q) = rw (p, q) (omega arith)
-    go (inr p) q = rw p (let low = over-low ks 0 sections 1 (first-heading ks) in omega arith)
+module _ (w : Width) (ks : List ℕ) where
+  abbrev over : ℕ
+  over = overLine ks 0 (mostRows (limits w))
+
+  -- The last heading, behind four sections that have not too many rows.
+  last-low : over ≡ 0 → lineOf ks 4 0 ≤ 1259
+  unfolding lineOf
+  last-low none =
+      let first = over-none ks 0 _ _ none in
+      let second = over-none ks 1 _ _ (first .1) in
+      let third = over-none ks 2 _ _ (second .1) in
+      let fourth = over-none ks 3 _ _ (third .1) in
+      omega (
+        arith,
+        first .0,
+        second .0,
+        third .0,
+        fourth .0,
+        line-next ks 0 0,
+        line-next ks 1 0,
+        line-next ks 2 0,
+        line-next ks 3 0,
+        few-names w,
+      )
+
+  counts-low : countFault (limits w) ks ≤ 1259
+  unfolding countFault noQueryLine
+  counts-low = go (bool-cases (eqb over 0)) (bool-cases (eqb (getD ks 4 0) 0))
+    where
+      go : (eqb over 0 ≡ true) ⊎ (eqb over 0 ≡ false)
+          → (eqb (getD ks 4 0) 0 ≡ true) ⊎ (eqb (getD ks 4 0) 0 ≡ false)
+          → cond (eqb over 0) (cond (eqb (getD ks 4 0) 0) (lineOf ks 4 0) 0) over ≤ 1259
+      go (inl p) (inl q) = rw (p, q) (last-low (eqb-true _ 0 p))
+      go (inl p) (inr q) = rw (p, q) (omega arith)
+      go (inr p) q = rw p (omega (arith, over-low ks 0 (mostRows (limits w)) 1 (first-heading ks), few-names w))
 
 -- ---- question 6
 
@@ -106,7 +113,7 @@ line-or-low ks k r other most h g = go (bool-cases (eqb r 0))
     go (inl p) = rw p g
     go (inr p) = rw p h
 
-fields-low : (c : Counts) (t : Rows) → Within c → firstLine c t ≤ 872
+fields-low : (c : Counts) (t : Rows) → Within c → firstLine c t ≤ 1256
 unfolding firstLine lineOf
 fields-low c t w =
     let b = firstAtFault (builtinFault c t) 1 (c .builtins) in
@@ -116,10 +123,10 @@ fields-low c t w =
     let from-queries = lineOr (listed c) queriesAt q 0 in
     let from-statements = lineOr (listed c) statementsAt s from-queries in
     let from-exprs = lineOr (listed c) exprsAt e from-statements in
-    line-or-low (listed c) builtInsAt b from-exprs 872 (omega (arith, w, first-low (builtinFault c t) 0 (c .builtins)))
-    (line-or-low (listed c) exprsAt e from-statements 872 (omega (arith, w, first-low (exprFault c t) 0 (c .exprs)))
-    (line-or-low (listed c) statementsAt s from-queries 872 (omega (arith, w, first-low (statementFault c t) 0 (c .statements)))
-    (line-or-low (listed c) queriesAt q 0 872 (omega (arith, w, first-low (queryFault c t) 0 (c .queries))) (omega arith))))
+    line-or-low (listed c) builtInsAt b from-exprs 1256 (omega (arith, w, first-low (builtinFault c t) 0 (c .builtins)))
+    (line-or-low (listed c) exprsAt e from-statements 1256 (omega (arith, w, first-low (exprFault c t) 0 (c .exprs)))
+    (line-or-low (listed c) statementsAt s from-queries 1256 (omega (arith, w, first-low (statementFault c t) 0 (c .statements)))
+    (line-or-low (listed c) queriesAt q 0 1256 (omega (arith, w, first-low (queryFault c t) 0 (c .queries))) (omega arith))))
 
 -- ---- all of them
 
@@ -128,24 +135,24 @@ either-low : (b : Bool) (x y : Outcome) → (b ≡ true → Verdict.faultLine x 
 either-low true x y f g = f refl
 either-low false x y f g = g refl
 
-module _ (s : List ℕ) where
-  fields-fault-low : countsFault s ≡ 0 → fieldsFault s ≤ 872
+module _ (w : Width) (s : List ℕ) where
+  fields-fault-low : countsFault (limits w) s ≡ 0 → fieldsFault s ≤ 1256
   unfolding fieldsFault countsFault
   fields-fault-low counted =
-      fields-low _ _ (subst Within (counts-same s) (within (rowCounts s) counted))
+      fields-low _ _ (subst Within (counts-same s) (within w (rowCounts s) counted))
 
-  counts-fault-low : countsFault s ≤ 875
+  counts-fault-low : countsFault (limits w) s ≤ 1259
   unfolding countsFault
-  counts-fault-low = counts-low (rowCounts s)
+  counts-fault-low = counts-low w (rowCounts s)
 
-  asked-low : Verdict.faultLine (asked s) ≤ 65535
+  asked-low : Verdict.faultLine (asked (limits w) s) ≤ 65535
   unfolding asked
   asked-low =
       either-low (shortEnough s) _ TooLong (λ short.
       let few = leb-true (length s) 32768 short in
       either-low (eqb (formFault s) 0) _ (BadForm (formFault s)) (λ formed.
       either-low (eqb (namesFault s) 0) _ (BadName (namesFault s)) (λ named.
-      either-low (eqb (countsFault s) 0) _ (BadCount (countsFault s)) (λ counted.
+      either-low (eqb (countsFault (limits w) s) 0) _ (BadCount (countsFault (limits w) s)) (λ counted.
       either-low (eqb (fieldsFault s) 0) Read (BadField (fieldsFault s)) (λ held. omega arith)
       (λ some. let low = fields-fault-low (eqb-true _ 0 counted) in omega arith))
       (λ some. let low = counts-fault-low in omega arith))
@@ -153,10 +160,10 @@ module _ (s : List ℕ) where
       (λ some. let low = form-low s in omega arith))
       (λ long. omega arith)
 
-  pub line-fits : (room work : ℕ) → Verdict.faultLine (verdict s room work) ≤ 65535
+  pub line-fits : (room long : ℕ) → Verdict.faultLine (verdict (limits w) s room long) ≤ 65535
   unfolding verdict
-  line-fits room work =
-      either-low (leb 8192 room && leb 8192 work) (asked s) NoRoom (λ enough. asked-low) (λ few. omega arith)
+  line-fits room long =
+      either-low (leb 8192 room && leb (work w) long) (asked (limits w) s) NoRoom (λ enough. asked-low) (λ few. omega arith)
 
 -- The number of an outcome fits as well.
 pub number-fits : (r : Outcome) → Verdict.number r ≤ 6

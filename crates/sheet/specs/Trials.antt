@@ -1,13 +1,15 @@
 -- The specification's sheet, which is read, and broken ones, each with the number and the line that it is refused with.
 use mathlib.Core.Path.{_≡_, refl}
 use mathlib.Core.Bool.{Bool, true, _&&_}
-use mathlib.Core.List.{List, [], _∷_}
+use mathlib.Core.List.{List, [], _∷_, map}
 use Prim.Native.Nat.{ℕ}
 use Prim.Native.String.{String, _++_}
 use lib.Dec.{eqb}
+use lib.ListN.{take}
+use Rattle.basics.specs.Limits as limits
+use Rattle.basics.specs.Limits.{Limits, library, printing}
 use Rattle.basics.specs.Lists.{all}
 use Rattle.text.specs.Bytes.{bytes}
-use Rattle.text.specs.Limits as limits
 use Rattle.text.specs.Lines.{lines}
 use Rattle.text.specs.Numbers as numbers
 use Rattle.text.specs.Sections.{sections, lineOf}
@@ -25,12 +27,13 @@ use Rattle.naming.specs.Nesting.{grown, enclosing, parent, levelIn, level}
 use Rattle.naming.specs.Chains.{varsIn, endsIn, allVars, endsOdd}
 use Rattle.naming.specs.Faults.{fieldFault, entriesFault, isNamedSo, isMember, exprFault, statementFault, queryFault, pathBefore, builtinFault}
 use Rattle.naming.specs.Lines.{firstAtFault, firstLine}
+use Rattle.trees.specs.Lists.{concatMap}
 use Rattle.trees.specs.Sheet.{sheetIn}
 use Rattle.sheet.specs.declared.Outcome.{Outcome}
 use Rattle.sheet.specs.Verdict.{number, faultLine, emptyTables, readTables, fieldsFault, asked, verdict}
 
 -- The outcome of a text, where there is room; opened so that it computes.
-unfoldable pub judged : String → Outcome
+unfoldable pub judgedBy : Limits → String → Outcome
 unfolding bytes lines numbers.words numbers.value numbers.isNumber numbers.areNumbers numbers.values sections block wholeFrom form faultOf rowsIn before nameFault
     nameRow rowOfName lineOf overLine noQueryLine countFault formFault sectionRows namesFault countsFault
     tables putSections putRows areas areasFrom kinds forms kindOf formOf
@@ -38,13 +41,16 @@ unfolding bytes lines numbers.words numbers.value numbers.isNumber numbers.areNu
     grown enclosing parent levelIn level varsIn endsIn allVars endsOdd
     fieldFault entriesFault isNamedSo isMember exprFault statementFault queryFault pathBefore builtinFault
     firstAtFault firstLine emptyTables readTables sheetIn fieldsFault asked verdict
-judged s = verdict (bytes s) limits.tables limits.work
+judgedBy lim s = verdict lim (bytes s) limits.tables (lim .work)
 
 -- Is the text refused so?
-abbrev pub passes : Trial → Bool
-passes t =
-    let r = judged (t .text) in
+abbrev pub passesBy : Limits → Trial → Bool
+passesBy lim t =
+    let r = judgedBy lim (t .text) in
     eqb (number r) (t .number) && eqb (faultLine r) (t .line)
+
+abbrev pub passes : Trial → Bool
+passes = passesBy library
 
 abbrev pub trial : String → ℕ → ℕ → Trial
 trial s n l = record { text = s; number = n; line = l }
@@ -118,10 +124,42 @@ trials =
     ∷ []
 
 pub trials-pass : all passes trials ≡ true
-unfolding judged
+unfolding judgedBy
 trials-pass = refl
 
+-- ---- the limits of the library and of the printing program
+
 -- Question 1 comes before all others.
-pub no-room : (number (verdict [] 8191 8192) ≡ 1) × (number (verdict [] 8192 8191) ≡ 1)
+pub no-room : (number (verdict library [] 8191 24576) ≡ 1) × (number (verdict library [] 8192 24575) ≡ 1)
+    × (number (verdict printing [] 8191 8192) ≡ 1) × (number (verdict printing [] 8192 8191) ≡ 1)
 unfolding verdict
-no-room = (refl, refl)
+no-room = (refl, refl, refl, refl)
+
+-- Rows as lines, and the empty line behind them.
+abbrev pub rows : List String → String
+rows [] = "\n"
+rows (r ∷ rs) = r ++ "\n" ++ rows rs
+
+-- 512 names of three letters, ascending.
+abbrev letters : List String
+letters =
+    "a" ∷ "b" ∷ "c" ∷ "d" ∷ "e" ∷ "f" ∷ "g" ∷ "h" ∷ "i" ∷ "j" ∷ "k" ∷ "l" ∷ "m" ∷ "n" ∷ "o" ∷ "p" ∷ []
+
+abbrev each : List String → List String → List String
+each xs ys = concatMap (λ x. map (λ y. x ++ y) ys) xs
+
+abbrev manyNames : List String
+manyNames = each ("a" ∷ "b" ∷ []) (each letters letters)
+
+-- The sheet with the first n of them.
+abbrev namedBy : ℕ → String
+namedBy n = "name\n" ++ rows (take n manyNames) ++ noBuiltIns ++ expressions ++ statements ++ queries
+
+-- The last name that is let in, and one more.
+pub library-names : all (passesBy library) (trial (namedBy 511) 0 0 ∷ trial (namedBy 512) 5 513 ∷ []) ≡ true
+unfolding judgedBy
+library-names = refl
+
+pub printing-names : all (passesBy printing) (trial (namedBy 127) 0 0 ∷ trial (namedBy 128) 5 129 ∷ []) ≡ true
+unfolding judgedBy
+printing-names = refl

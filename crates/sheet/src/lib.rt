@@ -2,12 +2,14 @@
 
 use records::Counts;
 use spelling::Special;
+use widths::Width;
 ghost use mathlib.Core.Path.{_≡_};
 ghost use mathlib.Core.Bool.{_&&_};
 ghost use Prim.Native.Nat.{_≤_};
 ghost use lib.Dec.{leb};
 ghost use lib.ListN.{length};
 ghost use lib.Seq.{sets};
+ghost use Rattle.widths.specs.Widths.{limits};
 ghost use Rattle.records.specs.Layout.{Within};
 ghost use Rattle.sheet.specs.Verdict.{number, faultLine, emptyTables, headOf, SheetLeft};
 ghost use Rattle.sheet.specs.Asked.{isRead, Small, Asked, SheetTaken};
@@ -24,13 +26,13 @@ pub enum Outcome {
 }
 
 // Question 1.
-fn has_room(tables: usize, work: usize) -> bool
-    ensures { λ r. ⌜ r ≡ (leb 8192 tables && leb 8192 work) ⌝ }
+fn has_room(tables: usize, work: usize, width: Width) -> bool
+    ensures { λ r. ⌜ r ≡ (leb 8192 tables && leb (limits width .work) work) ⌝ }
 {
     if tables < tables::LENGTH {
         return false;
     }
-    tables::WORK <= work
+    width.work() <= work
 }
 
 // The counts and the special names in front of the rows.
@@ -49,9 +51,9 @@ fn store_head(table: &mut [u16], counts: Counts, special: Special)
 }
 
 // Questions 2 to 6. Where the sheet is read, its rows are left in the table.
-fn ask(s: &[u8], table: &mut [u16], work: &mut [u64]) -> Outcome
+fn ask(s: &[u8], table: &mut [u16], work: &mut [u64], width: Width) -> Outcome
     requires { ⌜ (now table ≡ emptyTables) × (8192 ≤ length (now work)) ⌝ }
-    ensures { λ r. ⌜ Asked (now (s .entry)) r (now (table .exit)) ⌝ }
+    ensures { λ r. ⌜ Asked (limits width) (now (s .entry)) r (now (table .exit)) ⌝ }
 {
     if tables::SHEET_BYTES < s.len() {
         return Outcome::TooLong;
@@ -71,6 +73,7 @@ fn ask(s: &[u8], table: &mut [u16], work: &mut [u64]) -> Outcome
         read.expressions,
         read.statements,
         read.queries,
+        width,
     );
     if count != 0 {
         return Outcome::BadCount(count);
@@ -91,14 +94,14 @@ fn ask(s: &[u8], table: &mut [u16], work: &mut [u64]) -> Outcome
 }
 
 // All questions. Where the sheet is read, its rows are left in the tables; work, and the tables of a refused sheet, are left as they come.
-pub fn take(s: &[u8], tables: &mut [u16], work: &mut [u64]) -> Outcome
-    ensures { λ r. ⌜ SheetTaken (now (s .entry)) (length (now (tables .entry))) (length (now (work .entry))) r (now (tables .exit)) ⌝ }
+pub fn take(s: &[u8], tables: &mut [u16], work: &mut [u64], width: Width) -> Outcome
+    ensures { λ r. ⌜ SheetTaken (limits width) (now (s .entry)) (length (now (tables .entry))) (length (now (work .entry))) r (now (tables .exit)) ⌝ }
 {
     buffers::clear(tables);
-    if !has_room(tables.len(), work.len()) {
+    if !has_room(tables.len(), work.len(), width) {
         return Outcome::NoRoom;
     }
-    ask(s, &mut tables[0..tables::LENGTH], work)
+    ask(s, &mut tables[0..tables::LENGTH], work, width)
 }
 
 fn is_read(outcome: Outcome) -> bool
@@ -116,10 +119,10 @@ fn is_read(outcome: Outcome) -> bool
 }
 
 // Reads a sheet into the tables, or refuses it and leaves zeros. Work is zeros afterwards in any case.
-pub fn read(s: &[u8], tables: &mut [u16], work: &mut [u64]) -> Outcome
-    ensures { λ r. ⌜ SheetLeft (now (s .entry)) (length (now (tables .entry))) (length (now (work .entry))) r (now (tables .exit)) (now (work .exit)) ⌝ }
+pub fn read(s: &[u8], tables: &mut [u16], work: &mut [u64], width: Width) -> Outcome
+    ensures { λ r. ⌜ SheetLeft (limits width) (now (s .entry)) (length (now (tables .entry))) (length (now (work .entry))) r (now (tables .exit)) (now (work .exit)) ⌝ }
 {
-    let outcome = take(s, tables, work);
+    let outcome = take(s, tables, work, width);
     buffers::clear_words(work);
     if !is_read(outcome) {
         buffers::clear(tables);

@@ -7,6 +7,7 @@ use native.Mathlib.Omega.{arith}
 use lib.ListN.{length, length-map}
 use borrow.Author.Tests.{lt-ltb, le-leb}
 use Rattle.basics.specs.Truth.{and-intro}
+use Rattle.basics.specs.Limits.{Limits}
 use Rattle.basics.specs.Lists.{all}
 use Rattle.basics.specs.Ranges.{counted, range}
 use Rattle.turns.specs.Definitions.{Definition}
@@ -15,40 +16,40 @@ use Rattle.bounds.specs.Question.{within, accepts}
 use Rattle.bounds.specs.Answers.{by-definitions}
 use Rattle.analysis.specs.States.{QuerySchedule}
 
--- At most 128 statements and 640 definitions, and each definition with a statement below the count and a name below 128.
-pub record InBounds (a : QuerySchedule) : Type 0 where
+-- At most 128 statements and 640 definitions, and each definition with a statement below the count and a name within the limit.
+pub record InBounds (lim : Limits) (a : QuerySchedule) : Type 0 where
   pub few-statements : a .count ≤ 128
   pub few-definitions : length (a .definitions) ≤ 640
   pub stated : (d : Definition) → List·Memᴰ d (a .definitions) → d .statement < a .count
-  pub named : (d : Definition) → List·Memᴰ d (a .definitions) → d .var < 128
+  pub named : (d : Definition) → List·Memᴰ d (a .definitions) → d .var ≤ lim .names
 
 -- Definitions that are in bounds one by one pass the question's test of them all.
-all-within : (n : ℕ) (defs : List Definition) → ((d : Definition) → List·Memᴰ d defs → d .statement < n)
-    → ((d : Definition) → List·Memᴰ d defs → d .var < 128) → all (within n) defs ≡ true
-all-within n [] s v = refl
-all-within n (d ∷ defs) s v =
+all-within : (lim : Limits) (n : ℕ) (defs : List Definition) → ((d : Definition) → List·Memᴰ d defs → d .statement < n)
+    → ((d : Definition) → List·Memᴰ d defs → d .var ≤ lim .names) → all (within lim n) defs ≡ true
+all-within lim n [] s v = refl
+all-within lim n (d ∷ defs) s v =
     let here : List·Memᴰ d (d ∷ defs) = List·Memᴰ·head refl in
-    let l = v d here in
-    and-intro (within n d) (all (within n) defs)
-    (and-intro _ _ (lt-ltb (d .statement) n (s d here)) (le-leb (d .var) 127 (omega arith)))
-    (all-within n defs (λ e m. s e (List·Memᴰ·tail m)) (λ e m. v e (List·Memᴰ·tail m)))
+    and-intro (within lim n d) (all (within lim n) defs)
+    (and-intro _ _ (lt-ltb (d .statement) n (s d here)) (le-leb (d .var) (lim .names) (v d here)))
+    (all-within lim n defs (λ e m. s e (List·Memᴰ·tail m)) (λ e m. v e (List·Memᴰ·tail m)))
 
 -- There are as many definitions as rows.
-definitions-counted : (ws : List ℕ) → length (definitions ws) ≡ rowCount ws
+definitions-counted : (v : ℕ) (ws : List ℕ) → length (definitions v ws) ≡ rowCount v ws
 unfolding definitions range
-definitions-counted ws = length-map (counted 0 (rowCount ws - 0)) (definitionAt ws) ∙ go (rowCount ws - 0) 0 ∙ less
+definitions-counted v ws = length-map (counted 0 (rowCount v ws - 0)) (definitionAt v ws) ∙ go (rowCount v ws - 0) 0 ∙ less
   where
     go : (n a : ℕ) → length (counted a n) ≡ n
     go zero a = refl
     go (suc n) a = ap suc (go n (suc a))
 
-    less : rowCount ws - 0 ≡ rowCount ws
+    less : rowCount v ws - 0 ≡ rowCount v ws
     less = omega arith
 
 -- So the scheduler's one question is met: by every list of whole rows that are these definitions, with buffers that hold the count.
-pub question-met : (a : QuerySchedule) → InBounds a → (ws : List ℕ) → length ws % 4 ≡ 0 → definitions ws ≡ a .definitions
-    → (room marks : ℕ) → a .count ≤ room → a .count ≤ marks → accepts ws (a .count) room marks ≡ true
-question-met a b ws whole these room marks ordered marked =
-    by-definitions ws (a .count) room marks whole (omega (arith, b .few-statements))
-    (omega (arith, definitions-counted ws, ap length these, b .few-definitions)) ordered marked
-    ∙ ap (all (within (a .count))) these ∙ all-within (a .count) (a .definitions) (b .stated) (b .named)
+pub question-met : (lim : Limits) (a : QuerySchedule) → InBounds lim a → (ws : List ℕ) → length ws % lim .row ≡ 0
+    → definitions (lim .row) ws ≡ a .definitions
+    → (room marks : ℕ) → a .count ≤ room → a .count ≤ marks → accepts lim ws (a .count) room marks ≡ true
+question-met lim a b ws whole these room marks ordered marked =
+    by-definitions lim ws (a .count) room marks whole (omega (arith, b .few-statements))
+    (omega (arith, definitions-counted (lim .row) ws, ap length these, b .few-definitions)) ordered marked
+    ∙ ap (all (within lim (a .count))) these ∙ all-within lim (a .count) (a .definitions) (b .stated) (b .named)

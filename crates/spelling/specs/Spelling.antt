@@ -7,10 +7,10 @@ use Prim.Native.Nat.{ℕ, suc, _+_, _-_, _<_}
 use native.Mathlib.Omega.{arith}
 use lib.Dec.{leb}
 use lib.ListN.{length, getD, drop}
+use Rattle.basics.specs.Limits as limits
 use Rattle.basics.specs.Truth.{not-both, eq-cases}
 use Rattle.basics.specs.Lists.{all}
 use Rattle.text.specs.Bytes.{newline}
-use Rattle.text.specs.Limits as limits
 use Rattle.text.specs.Lines.{lines, headLine, after, isLine, lineAt}
 use Rattle.text.specs.LineLaws.{text-newline, line-inside, passes}
 use Rattle.text.specs.Names.{letter, letterOrDigit, isName}

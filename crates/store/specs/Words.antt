@@ -2,11 +2,16 @@
 use mathlib.Core.Path.{_≡_, ap, _∙_, subst}
 use mathlib.Core.Bool.{Bool}
 use mathlib.Core.List.{List, [], _∷_}
-use Prim.Native.Nat.{ℕ, _+_, _-_, _*_, _≤_, _<_}
+use Prim.Native.Nat.{ℕ, _+_, _-_, _*_, _/_, _%_, _≤_, _<_}
 use native.Mathlib.Omega.{arith}
 use lib.ListN.{length, getD}
+use Rattle.names.specs.Sets.{member}
+use Rattle.widths.specs.declared.Width.{Width}
+use Rattle.widths.specs.Widths.{words, wordsAt, Put}
+use Rattle.widths.specs.Laws.{words-same}
+use Rattle.blocks.specs.Layout.{block, wordAt, setAt, spanAt, SpansPut}
+use Rattle.blocks.specs.Laws.{block-is, block-few}
 use Rattle.turns.specs.Turns.{mark}
-use Rattle.answer.specs.Stored.{wordAt}
 use Rattle.gather.specs.declared.scope.Scope.{Scope}
 use Rattle.store.specs.Writes.{Written, from}
 
@@ -14,43 +19,60 @@ use Rattle.store.specs.Writes.{Written, from}
 abbrev pub placeWord : List ℕ → List ℕ → ℕ → ℕ
 placeWord order reached k = 2 * getD order k 0 + getD reached (getD order k 0) 0
 
--- The first ten words of a block, with these for placed and the use of input.
-abbrev pub headFrom : Scope → ℕ → ℕ → ℕ → ℕ → List ℕ
-headFrom k count base m n =
-    (1 + m) ∷ n ∷ count ∷ getD (k .locals .words) 0 0 ∷ getD (k .locals .words) 1 0 ∷ getD (k .unscoped .words) 0 0
-    ∷ getD (k .unscoped .words) 1 0 ∷ getD (k .inputs .words) 0 0 ∷ getD (k .inputs .words) 1 0 ∷ base ∷ []
+-- The first four words of a block, with these for placed and the use of input.
+abbrev pub headFrom : ℕ → ℕ → ℕ → ℕ → List ℕ
+headFrom count base m n = (1 + m) ∷ n ∷ count ∷ base ∷ []
 
-abbrev pub headWords : Scope → ℕ → ℕ → Bool → List ℕ
-headWords k count base placed = headFrom k count base (mark placed) (mark (k .uses))
+abbrev pub headWords : Bool → ℕ → ℕ → Bool → List ℕ
+headWords uses count base placed = headFrom count base (mark placed) (mark uses)
 
--- The list v is w, with the block of query q written.
-pub record BlockWritten (w : List ℕ) (q : ℕ) (k : Scope) (l : List ℕ) (count base : ℕ) (placed : Bool) (v : List ℕ) : Type 0 where
+-- The list v is w, with the block of query q written: of each set what the width has room for.
+pub record BlockWritten (z : Width) (w : List ℕ) (q : ℕ) (k : Scope) (l : List ℕ) (count base : ℕ) (placed : Bool) (v : List ℕ) : Type 0 where
   pub long : length v ≡ length w
-  pub head : (i : ℕ) → i < 10 → wordAt v q i ≡ getD (headWords k count base placed) i 0
-  pub spans : (x : ℕ) → x < 128 → wordAt v q (16 + x) ≡ getD l x 0
-  pub between : (i : ℕ) → 10 ≤ i → i < 16 → wordAt v q i ≡ wordAt w q i
-  pub below : (i : ℕ) → i < 144 * (q - 1) → getD v i 0 ≡ getD w i 0
-  pub above : (i : ℕ) → 144 * (q - 1) + 144 ≤ i → getD v i 0 ≡ getD w i 0
+  pub head : (i : ℕ) → i < 4 → wordAt z v q i ≡ getD (headWords (k .uses) count base placed) i 0
+  pub locals : (x : ℕ) → x < 64 * words z → member (setAt z v q 0) x ≡ member (k .locals .words) x
+  pub unscoped : (x : ℕ) → x < 64 * words z → member (setAt z v q 1) x ≡ member (k .unscoped .words) x
+  pub inputs : (x : ℕ) → x < 64 * words z → member (setAt z v q 2) x ≡ member (k .inputs .words) x
+  pub spans : (x : ℕ) → x < 64 * words z → spanAt z v q x ≡ getD l x 0 % 4294967296
+  pub below : (i : ℕ) → i < block z * (q - 1) → getD v i 0 ≡ getD w i 0
+  pub above : (i : ℕ) → block z * (q - 1) + block z ≤ i → getD v i 0 ≡ getD w i 0
 
-module _ (w : List ℕ) (k : Scope) (count base : ℕ) (placed : Bool) where
-  pub head-written : (u : List ℕ) (at m n : ℕ) → m ≡ mark placed → n ≡ mark (k .uses)
-      → Written w u at 10 (from (headFrom k count base m n)) → Written w u at 10 (from (headWords k count base placed))
+module _ (w : List ℕ) (uses : Bool) (count base : ℕ) (placed : Bool) where
+  pub head-written : (u : List ℕ) (at m n : ℕ) → m ≡ mark placed → n ≡ mark uses
+      → Written w u at 4 (from (headFrom count base m n)) → Written w u at 4 (from (headWords uses count base placed))
   head-written u at m n e f h =
-      subst (λ (y : ℕ). Written w u at 10 (from (headFrom k count base (mark placed) y))) f
-      (subst (λ (x : ℕ). Written w u at 10 (from (headFrom k count base x n))) e h)
+      subst (λ (y : ℕ). Written w u at 4 (from (headFrom count base (mark placed) y))) f
+      (subst (λ (x : ℕ). Written w u at 4 (from (headFrom count base x n))) e h)
 
-module _ (w : List ℕ) (q : ℕ) (k : Scope) (l : List ℕ) (count base : ℕ) (placed : Bool) where
-  -- The head, and then the spans.
-  pub block-written : (u : List ℕ) → Written w u (144 * (q - 1)) 10 (from (headWords k count base placed)) → (v : List ℕ)
-      → Written u v (144 * (q - 1) + 16) 128 (from l) → BlockWritten w q k l count base placed v
-  block-written u h v s = record {
-    long = s .long ∙ h .long;
-    head = λ i low. s .below _ (omega arith) ∙ h .within i low;
-    spans = λ x low. ap (λ (n : ℕ). getD v n 0) (assoc x) ∙ s .within x low;
-    between = λ i low high. s .below _ (omega arith) ∙ h .above _ (omega arith);
-    below = λ i low. s .below i (omega arith) ∙ h .below i low;
-    above = λ i low. s .above i (omega arith) ∙ h .above i (omega arith);
+module _ (z : Width) (w : List ℕ) (q : ℕ) (k : Scope) (l : List ℕ) (count base : ℕ) (placed : Bool) where
+  abbrev from-set : ℕ → ℕ
+  from-set s = block z * (q - 1) + (4 + words z * s)
+
+  -- The head, the sets, and then the positions.
+  pub block-written : (at : ℕ) → at ≡ block z * (q - 1) → (u : List ℕ) → Written w u at 4 (from (headWords (k .uses) count base placed))
+      → (a : List ℕ) → Put (words z) u (from-set 0) (k .locals .words) a → (b : List ℕ) → Put (words z) a (from-set 1) (k .unscoped .words) b
+      → (c : List ℕ) → Put (words z) b (from-set 2) (k .inputs .words) c → (v : List ℕ) → SpansPut z c q l v → BlockWritten z w q k l count base placed v
+  block-written at is u h a pa b pb c pc v s = record {
+    long = s .long ∙ pc .long ∙ pb .long ∙ pa .long ∙ h .long;
+    head = λ i low.
+        let e : block z * (q - 1) + i ≡ at + i = omega (arith, is) in
+        under-three _ (omega (arith, low)) ∙ pc .below _ (omega (arith, low)) ∙ pb .below _ (omega (arith, low)) ∙ pa .below _ (omega (arith, low))
+        ∙ ap (λ (n : ℕ). getD u n 0) e ∙ h .within i low;
+    locals = λ x low. ap (λ (n : List ℕ). member n x)
+        (words-same (words z) v a (from-set 0) (λ i f t. under-three i (omega (arith, t)) ∙ pc .below i (omega (arith, t)) ∙ pb .below i (omega (arith, t))))
+        ∙ pa .held x low;
+    unscoped = λ x low. ap (λ (n : List ℕ). member n x)
+        (words-same (words z) v b (from-set 1) (λ i f t. under-three i (omega (arith, t)) ∙ pc .below i (omega (arith, t)))) ∙ pb .held x low;
+    inputs = λ x low. ap (λ (n : List ℕ). member n x) (words-same (words z) v c (from-set 2) (λ i f t. under-three i (omega (arith, t)))) ∙ pc .held x low;
+    spans = s .held;
+    below = λ i low.
+        s .below i (omega (arith, low)) ∙ pc .below i (omega (arith, low)) ∙ pb .below i (omega (arith, low)) ∙ pa .below i (omega (arith, low))
+        ∙ h .below i (omega (arith, low, is));
+    above = λ i low.
+        let size = block-is z in
+        s .above i low ∙ pc .above i (omega (arith, low, size)) ∙ pb .above i (omega (arith, low, size)) ∙ pa .above i (omega (arith, low, size))
+        ∙ h .above i (omega (arith, low, is, size));
   }
     where
-      assoc : (x : ℕ) → 144 * (q - 1) + (16 + x) ≡ (144 * (q - 1) + 16) + x
-      assoc x = omega arith
+      under-three : (i : ℕ) → i < block z * (q - 1) + (4 + 3 * words z) → getD v i 0 ≡ getD c i 0
+      under-three = s .below

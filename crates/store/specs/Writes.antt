@@ -19,6 +19,9 @@ pub record Written (w v : List ℕ) (at n : ℕ) (f : ℕ → ℕ) : Type 0 wher
 abbrev pub from : List ℕ → ℕ → ℕ
 from words i = getD words i 0
 
+pub written-at : (w v : List ℕ) (m k n : ℕ) (f : ℕ → ℕ) → m ≡ k → Written w v m n f → Written w v k n f
+written-at w v m k n f e = subst (λ (at : ℕ). Written w v at n f) e
+
 module _ (w : List ℕ) (at : ℕ) (f : ℕ → ℕ) where
   pub written-none : Written w w at 0 f
   written-none = record {

@@ -1,12 +1,15 @@
-// The block of a query: its first ten words, and where its locals stand.
+// The block of a query: its first four words, its sets, and where its locals stand.
 
 use crate::words::store_words;
-use answer::layout::BLOCK;
-use answer::layout::SPANS;
+use blocks::place_of;
+use blocks::put_set;
+use blocks::put_spans;
 use gather::scope::Scope;
+use widths::Width;
 ghost use mathlib.Core.Path.{_≡_};
 ghost use Prim.Native.Nat.{_+_, _≤_};
 ghost use lib.ListN.{length};
+ghost use Rattle.blocks.specs.Layout as layout;
 ghost use Rattle.turns.specs.Turns.{mark};
 ghost use Rattle.store.specs.Writes.{Written, from};
 ghost use Rattle.store.specs.Words.{headWords, BlockWritten};
@@ -17,34 +20,20 @@ fn flag(b: bool) -> u64
     if b { 1 } else { 0 }
 }
 
-// The ten words, in the order of answer's layout.
+// The first four words, in the order of the block.
 fn store_head(
     answers: &mut [u64],
     block: usize,
-    scope: Scope,
+    uses: bool,
     count: usize,
     base: usize,
     placed: bool,
 )
-    requires { ⌜ block + 10 ≤ length (now answers) ⌝ }
-    ensures { λ _. ⌜ Written (now (answers .entry)) (now (answers .exit)) block 10 (from (headWords scope count base placed)) ⌝ }
+    requires { ⌜ block + 4 ≤ length (now answers) ⌝ }
+    ensures { λ _. ⌜ Written (now (answers .entry)) (now (answers .exit)) block 4 (from (headWords uses count base placed)) ⌝ }
 {
-    let locals = scope.locals;
-    let unscoped = scope.unscoped;
-    let inputs = scope.inputs;
-    let words: [u64; 10] = [
-        1 + flag(placed),
-        flag(scope.uses),
-        count as u64,
-        locals.words[0],
-        locals.words[1],
-        unscoped.words[0],
-        unscoped.words[1],
-        inputs.words[0],
-        inputs.words[1],
-        base as u64,
-    ];
-    store_words(answers, block, &words, 10);
+    let words: [u64; 4] = [1 + flag(placed), flag(uses), count as u64, base as u64];
+    store_words(answers, block, &words, 4);
 }
 
 pub fn store_block(
@@ -55,11 +44,15 @@ pub fn store_block(
     count: usize,
     base: usize,
     placed: bool,
+    width: Width,
 )
-    requires { ⌜ (4736 ≤ length (now answers)) × (1 ≤ q) × (q ≤ 32) × (128 ≤ length (now spans)) ⌝ }
-    ensures { λ _. ⌜ BlockWritten (now (answers .entry)) q scope (now (spans .entry)) count base placed (now (answers .exit)) ⌝ }
+    requires { ⌜ (layout.answers width ≤ length (now answers)) × (1 ≤ q) × (q ≤ 32) × (512 ≤ length (now spans)) ⌝ }
+    ensures { λ _. ⌜ BlockWritten width (now (answers .entry)) q scope (now (spans .entry)) count base placed (now (answers .exit)) ⌝ }
 {
-    let block = BLOCK * (q - 1);
-    store_head(answers, block, scope, count, base, placed);
-    store_words(answers, block + SPANS, spans, 128);
+    let block = place_of(width, q, 0);
+    store_head(answers, block, scope.uses, count, base, placed);
+    put_set(width, answers, q, 0, scope.locals);
+    put_set(width, answers, q, 1, scope.unscoped);
+    put_set(width, answers, q, 2, scope.inputs);
+    put_spans(width, answers, q, spans);
 }

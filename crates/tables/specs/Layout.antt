@@ -2,7 +2,9 @@
 use mathlib.Core.Path.{_≡_, refl}
 use mathlib.Core.List.{List, [], _∷_}
 use Prim.Native.Nat.{ℕ, suc, _+_, _*_}
+use Rattle.basics.specs.Limits.{library}
 use Rattle.text.specs.Sections.{Section, sections}
+use Rattle.text.specs.Counts.{mostRows}
 use Rattle.tables.specs.declared.Area.{Area}
 
 module _ (a : Area) where
@@ -14,22 +16,24 @@ module _ (a : Area) where
   abbrev pub areaEnd : ℕ
   areaEnd = rowPlace (suc (a .rows))
 
--- The area of a section that starts at a place: room for as many rows as the section may have.
-abbrev pub areaOf : ℕ → Section → Area
-areaOf at s = record { start = at; width = s .width; rows = s .limit }
+-- The area of a section that starts at a place: room for so many rows.
+abbrev pub areaOf : ℕ → Section → ℕ → Area
+areaOf at s n = record { start = at; width = s .width; rows = n }
 
-unfoldable pub areasFrom : ℕ → List Section → List Area
-areasFrom at [] = []
-areasFrom at (s ∷ ss) = areaOf at s ∷ areasFrom (areaEnd (areaOf at s)) ss
+-- The areas of sections with so many rows each.
+unfoldable pub areasFrom : ℕ → List Section → List ℕ → List Area
+areasFrom at [] most = []
+areasFrom at (s ∷ ss) [] = []
+areasFrom at (s ∷ ss) (n ∷ most) = areaOf at s n ∷ areasFrom (areaEnd (areaOf at s n)) ss most
 
--- The areas of the five sections. The first eight entries are for counts.
+-- The areas of the five sections, for every call: none takes more rows than the library. The first eight entries are for counts.
 unfoldable pub areas : List Area
-areas = areasFrom 8 sections
+areas = areasFrom 8 sections (mostRows library)
 
 -- The same in numbers: names take no room.
 abbrev area : ℕ → ℕ → ℕ → Area
 area at k n = record { start = at; width = k; rows = n }
 
-areas-are : areas ≡ area 8 0 127 ∷ area 8 4 64 ∷ area 268 8 512 ∷ area 4372 7 128 ∷ area 5275 1 32 ∷ []
+areas-are : areas ≡ area 8 0 511 ∷ area 8 4 64 ∷ area 268 8 512 ∷ area 4372 7 128 ∷ area 5275 1 32 ∷ []
 unfolding areas areasFrom sections
 areas-are = refl

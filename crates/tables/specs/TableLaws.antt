@@ -5,10 +5,12 @@ use mathlib.Core.Logic.{inl}
 use Prim.Native.Nat.{ℕ, zero, suc, _+_, _-_, _*_, _≤_, _<_}
 use native.Mathlib.Omega.{arith}
 use lib.ListN.{length, getD}
-use Rattle.text.specs.Limits as limits
+use Rattle.basics.specs.Limits as limits
+use Rattle.basics.specs.Limits.{library}
 use Rattle.text.specs.Lines.{lines}
 use Rattle.text.specs.Numbers.{values}
 use Rattle.text.specs.Sections.{Section, sections}
+use Rattle.text.specs.Counts.{mostRows}
 use Rattle.text.specs.Form.{form, rowsIn}
 use Rattle.text.specs.FormLaws.{Shaped, none, next, sheet-formed}
 use Rattle.text.specs.Questions.{formFault, sectionRows}
@@ -19,14 +21,16 @@ use Rattle.tables.specs.Tables.{rowValues, putRows, putSections, tables}
 use Rattle.tables.specs.RowLaws.{length-putRows, putRows-other, putRows-at}
 
 -- Where the areas of sections end.
-unfoldable endFrom : ℕ → List Section → ℕ
-endFrom at [] = at
-endFrom at (s ∷ ss) = endFrom (areaEnd (areaOf at s)) ss
+unfoldable endFrom : ℕ → List Section → List ℕ → ℕ
+endFrom at [] most = at
+endFrom at (s ∷ ss) [] = at
+endFrom at (s ∷ ss) (n ∷ most) = endFrom (areaEnd (areaOf at s n)) ss most
 
-end-le : (at : ℕ) (ss : List Section) → at ≤ endFrom at ss
+end-le : (at : ℕ) (ss : List Section) (most : List ℕ) → at ≤ endFrom at ss most
 unfolding endFrom
-end-le at [] = omega arith
-end-le at (s ∷ ss) = let h = end-le (areaEnd (areaOf at s)) ss in omega arith
+end-le at [] most = omega arith
+end-le at (s ∷ ss) [] = omega arith
+end-le at (s ∷ ss) (n ∷ most) = let h = end-le (areaEnd (areaOf at s n)) ss most in omega arith
 
 pub length-putSections : (as′ : List Area) (rs : List (List (List ℕ))) (d : List ℕ) → length (putSections as′ rs d) ≡ length d
 unfolding putSections
@@ -35,13 +39,14 @@ length-putSections (a ∷ as′) [] d = refl
 length-putSections (a ∷ as′) (ls ∷ rs) d = length-putSections as′ rs (putRows a 1 ls d) ∙ length-putRows a 1 ls d
 
 -- Sections leave the entries in front of their areas.
-front : (at : ℕ) (ss : List Section) (rs : List (List (List ℕ))) (d : List ℕ) → Shaped ss rs
-    → (i : ℕ) → i < at → getD (putSections (areasFrom at ss) rs d) i 0 ≡ getD d i 0
+front : (at : ℕ) (ss : List Section) (most : List ℕ) (rs : List (List (List ℕ))) (d : List ℕ) → Shaped ss rs
+    → (i : ℕ) → i < at → getD (putSections (areasFrom at ss most) rs d) i 0 ≡ getD d i 0
 unfolding putSections areasFrom
-front at [] [] d none i h = refl
-front at (s ∷ ss) (ls ∷ rs) d (next w sh) i h =
-    let a = areaOf at s in
-    front (areaEnd a) ss rs (putRows a 1 ls d) sh i (omega arith) ∙ putRows-other a 1 ls d w i (inl (omega arith))
+front at [] most [] d none i h = refl
+front at (s ∷ ss) [] (ls ∷ rs) d (next w sh) i h = refl
+front at (s ∷ ss) (m ∷ most) (ls ∷ rs) d (next w sh) i h =
+    let a = areaOf at s m in
+    front (areaEnd a) ss most rs (putRows a 1 ls d) sh i (omega arith) ∙ putRows-other a 1 ls d w i (inl (omega arith))
 
 -- No area: it has no row.
 abbrev nowhere : Area
@@ -52,21 +57,22 @@ row-values zero l f h = absurd (omega arith)
 row-values (suc k) l f h = refl
 
 -- Line n of section k is row n + 1 of its area.
-stored : (at : ℕ) (ss : List Section) (rs : List (List (List ℕ))) (d : List ℕ) → Shaped ss rs → endFrom at ss ≤ length d
-    → (k n f : ℕ) → n < length (getD rs k []) → n < getD (areasFrom at ss) k nowhere .rows → f < getD (areasFrom at ss) k nowhere .width
-    → getD (putSections (areasFrom at ss) rs d) (rowPlace (getD (areasFrom at ss) k nowhere) (1 + n) + f) 0
+stored : (at : ℕ) (ss : List Section) (most : List ℕ) (rs : List (List (List ℕ))) (d : List ℕ) → Shaped ss rs → endFrom at ss most ≤ length d
+    → (k n f : ℕ) → n < length (getD rs k []) → n < getD (areasFrom at ss most) k nowhere .rows → f < getD (areasFrom at ss most) k nowhere .width
+    → getD (putSections (areasFrom at ss most) rs d) (rowPlace (getD (areasFrom at ss most) k nowhere) (1 + n) + f) 0
     ≡ getD (values (getD (getD rs k []) n [])) f 0
 unfolding putSections areasFrom endFrom
-stored at [] [] d none fits k n f h b g = absurd (omega arith)
-stored at (s ∷ ss) (ls ∷ rs) d (next w sh) fits zero n f h b g =
-    let a = areaOf at s in
+stored at [] most [] d none fits k n f h b g = absurd (omega arith)
+stored at (s ∷ ss) [] (ls ∷ rs) d (next w sh) fits k n f h b g = absurd (omega arith)
+stored at (s ∷ ss) (m ∷ most) (ls ∷ rs) d (next w sh) fits zero n f h b g =
+    let a = areaOf at s m in
     let e = row-inside a (1 + n) (omega arith) in
-    let l = end-le (areaEnd a) ss in
-    front (areaEnd a) ss rs (putRows a 1 ls d) sh (rowPlace a (1 + n) + f) (omega arith)
+    let l = end-le (areaEnd a) ss most in
+    front (areaEnd a) ss most rs (putRows a 1 ls d) sh (rowPlace a (1 + n) + f) (omega arith)
     ∙ putRows-at a 1 ls d w (omega arith) n f h (omega arith) g ∙ row-values (a .width) (getD ls n []) f g
-stored at (s ∷ ss) (ls ∷ rs) d (next w sh) fits (suc k) n f h b g =
-    let a = areaOf at s in
-    stored (areaEnd a) ss rs (putRows a 1 ls d) sh (omega (arith, length-putRows a 1 ls d)) k n f h b g
+stored at (s ∷ ss) (m ∷ most) (ls ∷ rs) d (next w sh) fits (suc k) n f h b g =
+    let a = areaOf at s m in
+    stored (areaEnd a) ss most rs (putRows a 1 ls d) sh (omega (arith, length-putRows a 1 ls d)) k n f h b g
 
 -- ---- the five sections
 
@@ -86,7 +92,7 @@ module _ (s d : List ℕ) (formed : formFault s ≡ 0) where
   -- The entries for counts stay.
   pub tables-front : (i : ℕ) → i < 8 → getD (tables s d) i 0 ≡ getD d i 0
   unfolding tables areas
-  tables-front i h = front 8 sections (sectionRows s) d shaped i h
+  tables-front i h = front 8 sections (mostRows library) (sectionRows s) d shaped i h
 
   module _ (fits : 8192 ≤ length d) (r : ℕ) (from : 1 ≤ r) where
     at : (k f : ℕ) → r ≤ length (getD (sectionRows s) k []) → r ≤ getD areas k nowhere .rows → f < getD areas k nowhere .width
@@ -94,7 +100,7 @@ module _ (s d : List ℕ) (formed : formFault s ≡ 0) where
     unfolding tables areas areasFrom endFrom sections
     at k f h b g =
         let z : 1 + (r - 1) ≡ r = omega arith in
-        rw z at (stored 8 sections (sectionRows s) d shaped (omega arith) k (r - 1) f (omega arith) (omega arith) g)
+        rw z at (stored 8 sections (mostRows library) (sectionRows s) d shaped (omega arith) k (r - 1) f (omega arith) (omega arith) g)
 
     pub builtIn-at : (f : ℕ) → r ≤ length (getD (sectionRows s) 1 []) → r ≤ limits.builtIns → f < 4
         → getD (tables s d) (8 + 4 * r + f) 0 ≡ fieldOf s 1 r f

@@ -1,12 +1,12 @@
-// The limits of a sheet, and where its rows stand in the tables. The code says these numbers here alone.
+// The limits that a sheet has in every call, and where its rows stand in the tables. The code says these numbers here alone; `widths` has the others.
 
 // The most bytes of a sheet, and of a name.
 pub const SHEET_BYTES: usize = 32768;
 
 pub const NAME_BYTES: usize = 32;
 
-// The most rows of each section.
-pub const NAMES: usize = 127;
+// The most rows of each section. A call may take fewer names.
+pub const NAMES: usize = 511;
 
 pub const BUILT_INS: usize = 64;
 
@@ -19,10 +19,8 @@ pub const QUERIES: usize = 32;
 // The deepest level of a query. Row 1 is level 1.
 pub const NESTING: usize = 8;
 
-// The entries that the tables have at least, and the words of work.
+// The entries that the tables have at least.
 pub const LENGTH: usize = 8192;
-
-pub const WORK: usize = 8192;
 
 // Room for rows of so many values: row r, counted from 1, stands at start + width * r.
 pub struct Area {

@@ -7,9 +7,9 @@ use native.Mathlib.Omega.{arith}
 use lib.Dec.{eqb}
 use lib.ListN.{length, getD, drop}
 use borrow.Author.Tests.{le-leb, lt-leb}
+use Rattle.basics.specs.Limits as limits
 use Rattle.basics.specs.Lists.{all}
 use Rattle.text.specs.Numbers.{digit, plain, value, isNumber}
-use Rattle.text.specs.Limits as limits
 
 abbrev keep : Bool → ℕ → List ℕ → List ℕ
 keep true b ds = b ∷ ds

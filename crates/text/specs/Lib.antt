@@ -1,7 +1,6 @@
 pub mod Bytes
 pub mod Lines
 pub mod Numbers
-pub mod Limits
 pub mod Sections
 pub mod SectionLaws
 pub mod Form

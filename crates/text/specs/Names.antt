@@ -4,10 +4,10 @@ use mathlib.Core.List.{List, [], _∷_}
 use Prim.Native.Nat.{ℕ, suc}
 use lib.Dec.{eqb, leb, ltb}
 use lib.ListN.{length}
+use Rattle.basics.specs.Limits as limits
 use Rattle.basics.specs.Lists.{all}
 use Rattle.text.specs.Numbers.{digit}
 use Rattle.text.specs.Form.{same}
-use Rattle.text.specs.Limits as limits
 
 -- A letter, or `_`.
 abbrev pub letter : ℕ → Bool

@@ -3,9 +3,9 @@ use mathlib.Core.Bool.{Bool, true, false, not, cond, _&&_}
 use mathlib.Core.List.{List, [], _∷_, map}
 use Prim.Native.Nat.{ℕ, zero, suc, _+_, _-_, _*_}
 use lib.Dec.{eqb, leb}
+use Rattle.basics.specs.Limits as limits
 use Rattle.basics.specs.Lists.{all}
 use Rattle.text.specs.Bytes.{space}
-use Rattle.text.specs.Limits as limits
 
 -- A byte in front of the first word.
 abbrev pub join : ℕ → List (List ℕ) → List (List ℕ)

@@ -4,11 +4,12 @@ use mathlib.Core.List.{List, [], map}
 use Prim.Native.Nat.{ℕ}
 use lib.Dec.{leb}
 use lib.ListN.{length, getD}
+use Rattle.basics.specs.Limits as limits
+use Rattle.basics.specs.Limits.{Limits}
 use Rattle.text.specs.Sections.{sections, namesAt, lineOr}
 use Rattle.text.specs.Form.{form, faultOf, rowsIn}
 use Rattle.text.specs.Names.{nameFault, nameRow}
 use Rattle.text.specs.Counts.{countFault}
-use Rattle.text.specs.Limits as limits
 
 module _ (s : List ℕ) where
   -- Question 2: is the sheet short enough? It has no line.
@@ -39,6 +40,6 @@ module _ (s : List ℕ) where
   unfoldable pub rowOfName : List ℕ → ℕ
   rowOfName w = nameRow 1 w sheetNames
 
-  -- Question 5: the first row over its section's limit, or the heading of no query.
-  unfoldable pub countsFault : ℕ
-  countsFault = countFault rowCounts
+-- Question 5: the first row over the most of its section, or the heading of no query.
+unfoldable pub countsFault : Limits → List ℕ → ℕ
+countsFault lim s = countFault lim (rowCounts s)

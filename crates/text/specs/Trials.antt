@@ -5,6 +5,7 @@ use mathlib.Core.List.{List, [], _∷_}
 use Prim.Native.Nat.{ℕ}
 use Prim.Native.String.{String, _++_}
 use lib.Dec.{eqb}
+use Rattle.basics.specs.Limits.{Limits, library, printing}
 use Rattle.basics.specs.Lists.{all}
 use Rattle.text.specs.Bytes.{bytes}
 use Rattle.text.specs.Lines.{lines}
@@ -27,7 +28,7 @@ fails s number line =
     cond (not (shortEnough s)) (eqb number 2 && eqb line 0)
     (cond (not (eqb (formFault s) 0)) (eqb number 3 && eqb line (formFault s))
     (cond (not (eqb (namesFault s) 0)) (eqb number 4 && eqb line (namesFault s))
-    (cond (not (eqb (countsFault s) 0)) (eqb number 5 && eqb line (countsFault s)) (eqb number 0 && eqb line 0))))
+    (cond (not (eqb (countsFault library s) 0)) (eqb number 5 && eqb line (countsFault library s)) (eqb number 0 && eqb line 0))))
 
 abbrev pub passes : Trial → Bool
 passes t = fails (bytes (t .text)) (t .number) (t .line)
@@ -110,6 +111,39 @@ pub trials-pass : all passes trials ≡ true
 unfolding bytes lines words value isNumber areNumbers values sections block wholeFrom form faultOf rowsIn before nameFault
     lineOf overLine noQueryLine countFault formFault sectionRows namesFault countsFault
 trials-pass = refl
+
+-- ---- question 5 at each limit, by the counts of rows alone
+
+-- So many names, built-ins, expressions, statements and queries, and the line at fault.
+pub record Counted : Type 0 where
+  pub limits : Limits
+  pub counts : List ℕ
+  pub line : ℕ
+
+abbrev counted : Limits → ℕ → ℕ → ℕ → ℕ → ℕ → ℕ → Counted
+counted lim a b c d e l = record { limits = lim; counts = a ∷ b ∷ c ∷ d ∷ e ∷ []; line = l }
+
+abbrev pub edges : List Counted
+edges =
+    counted library 511 64 512 128 32 0
+    ∷ counted library 512 64 512 128 32 513
+    ∷ counted library 511 65 512 128 32 579
+    ∷ counted library 511 64 513 128 32 1093
+    ∷ counted library 511 64 512 129 32 1223
+    ∷ counted library 511 64 512 128 33 1257
+    ∷ counted library 511 64 512 128 0 1224
+    ∷ counted printing 127 64 512 128 32 0
+    ∷ counted printing 128 64 512 128 32 129
+    ∷ counted printing 127 64 512 128 33 873
+    -- the first section over its limit counts
+    ∷ counted printing 128 65 513 129 33 129
+    ∷ counted library 512 65 513 129 33 513
+    ∷ counted library 128 65 513 129 33 196
+    ∷ []
+
+pub edges-pass : all (λ c. eqb (countFault (c .limits) (c .counts)) (c .line)) edges ≡ true
+unfolding lineOf overLine noQueryLine countFault
+edges-pass = refl
 
 -- In the specification's sheet `input` is the second name and `_` is none, and the second expression stands in line 11.
 input-is-second : rowOfName (bytes whole) (bytes "input") ≡ 2

@@ -1,6 +1,7 @@
 -- The definitions of the call, opened so that they compute: whoever unfolds one of these unfolds all that it names.
 use mathlib.Core.List.{List}
 use Prim.Native.Nat.{ℕ}
+use Rattle.basics.specs.Limits.{Limits}
 use Rattle.basics.specs.Ranges.{range}
 use Rattle.turns.specs.Definitions.{resolves}
 use Rattle.turns.specs.Turns.{round, placements}
@@ -71,10 +72,10 @@ unfolding range resolves round placements bytes isInput isSpecial decode treeAt 
 analysedSheet s = analyzeQuerySnippet s
 
 -- The whole call.
-unfoldable pub computed : List ℕ → ℕ → ℕ → ℕ → Result
+unfoldable pub computed : Limits → List ℕ → ℕ → ℕ → ℕ → Result
 unfolding sheetRead analysedSheet before nameFault lineOf overLine noQueryLine countFault formFault namesFault countsFault
     kinds forms kindOf formOf target placeOf exprEntries statementEntries queryEntries
     namers inChain entryNaming rowNamings byQueries byStatements byExprs namings grown enclosing parent levelIn level
     varsIn endsIn allVars endsOdd fieldFault entriesFault isNamedSo isMember exprFault statementFault queryFault pathBefore
     builtinFault firstAtFault firstLine questions.fieldsFault questions.asked questions.verdict result
-computed s room work text = result s room work text
+computed lim s room work text = result lim s room work text

@@ -3,6 +3,7 @@ use mathlib.Core.Path.{_≡_, refl}
 use mathlib.Core.List.{[], _∷_, _++_}
 use Prim.Native.Nat.{ℕ}
 use lib.ListN.{length, replicate}
+use Rattle.basics.specs.Limits.{library}
 use Rattle.text.specs.Bytes.{bytes}
 use Rattle.answers.specs.Call.{Left, left}
 use Rattle.trials.specs.Examples.{worked}
@@ -10,7 +11,7 @@ use Rattle.trials.specs.Computed.{computed}
 
 -- What is left where so many bytes are lent for the answer.
 abbrev leaves : ℕ → Left
-leaves room = left (bytes (worked .sheet)) 8192 8192 room
+leaves room = left library (bytes (worked .sheet)) 8192 24576 room
 
 text-length : length (bytes (worked .answer)) ≡ 114
 unfolding bytes
@@ -32,7 +33,7 @@ pub too-short : leaves 113 ≡ record {
   line = 0;
   col = 0;
   tables = replicate 8192 0;
-  work = replicate 8192 0;
+  work = replicate 24576 0;
   answer = replicate 113 0;
 }
 unfolding left computed

@@ -2,6 +2,7 @@
 use mathlib.Core.Path.{_≡_, refl}
 use mathlib.Core.Bool.{Bool, true}
 use mathlib.Core.List.{List, _++_, map}
+use Rattle.basics.specs.Limits.{printing}
 use Rattle.basics.specs.Lists.{all}
 use Rattle.basics.specs.Ranges.{range}
 use Rattle.turns.specs.Definitions.{resolves}
@@ -26,3 +27,8 @@ trials = map schedule schedules.trials ++ map sheet examples.trials
 pub trials-pass : all passes trials ≡ true
 unfolding computed resolves round placements range
 trials-pass = refl
+
+-- And the sheets by the limits of the printing program.
+pub printing-pass : all (sheets.passesBy printing) examples.trials ≡ true
+unfolding computed
+printing-pass = refl

@@ -4,6 +4,8 @@ use mathlib.Core.List.{List, [], _∷_, map}
 use Prim.Native.Nat.{ℕ, suc}
 use Prim.Native.String.{String, _++_}
 use lib.ListN.{length}
+use Rattle.basics.specs.Limits as limits
+use Rattle.basics.specs.Limits.{Limits, library}
 use Rattle.basics.specs.Lists.{all}
 use Rattle.basics.specs.Ranges.{range}
 use Rattle.turns.specs.Definitions.{Definition}
@@ -59,8 +61,11 @@ abbrev pub unlessRefused : Result → Sheet → List (List ℕ)
 unlessRefused (refused n l c) s = []
 unlessRefused (answered text) s = recordedRows s
 
--- Are these the text and the definitions, where the lent buffers are as long as the printing program's?
-abbrev pub passes : Trial → Bool
-passes t =
-    let r = result (bytes (t .sheet)) 8192 8192 65536 in
+-- Are these the text and the definitions, where 65,536 bytes are lent for the text, and of tables and work as much as is asked for?
+abbrev pub passesBy : Limits → Trial → Bool
+passesBy lim t =
+    let r = result lim (bytes (t .sheet)) limits.tables (lim .work) 65536 in
     same (printed r) (bytes (t .answer)) && sameRows (unlessRefused r (sheetIn (bytes (t .sheet)))) (t .recorded)
+
+abbrev pub passes : Trial → Bool
+passes = passesBy library

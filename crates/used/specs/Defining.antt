@@ -3,7 +3,7 @@ use mathlib.Core.Path.{_≡_, refl, sym, ap, _∙_, subst}
 use mathlib.Core.Bool.{Bool, true, false, cond}
 use mathlib.Core.List.{List, [], _++_, map}
 use mathlib.Core.Logic.{_⊎_, inl, inr}
-use Prim.Native.Nat.{ℕ, _+_, _*_, _≤_}
+use Prim.Native.Nat.{ℕ, _+_, _/_, _≤_}
 use native.Mathlib.Omega.{arith}
 use lib.ListN.{length, getD}
 use borrow.Author.Tests.{eqb-true}
@@ -11,6 +11,8 @@ use Rattle.basics.specs.Truth.{bool-cases}
 use Rattle.basics.specs.Lists.{elem}
 use Rattle.names.specs.Sets.{member, Empty, Union}
 use Rattle.names.specs.declared.Names.{Names}
+use Rattle.widths.specs.declared.Width.{Width}
+use Rattle.widths.specs.Widths as Widths
 use Rattle.turns.specs.Definitions.{Definition}
 use Rattle.records.specs.declared.Row.{Row}
 use Rattle.trees.specs.Sheet.{rowAt}
@@ -63,19 +65,19 @@ pub record Fresh (a b : Used) : Type 0 where
 pub made-fresh : (a : Used) (none : Names) → Empty (none .words) → (b : Used) → b ≡ named a none → Fresh a b
 made-fresh a none clear b is = subst (Fresh a) (sym is) (record { clear = clear; is = refl })
 
-module _ (t : List ℕ) (k : Scope) (i : ℕ) where
+module _ (t : List ℕ) (v : Width) (k : Scope) (i : ℕ) where
   -- What is done at a row that did `own` by itself and whose first part used the names in `part`.
   pub record Here (w : Row) (own part : Used) (ws rs : List ℕ) (b : Used) : Type 0 where
     pub count : (s : spec.Scope) → Sets k s → b .count ≡ part .count + length (assignedVars s (treeAt (sheetAt t) (indexRow w)))
     pub names : (p : List ℕ) → Holds (part .names) p → Adds (own .names) p (b .names)
     pub rows : (s : spec.Scope) → Sets k s → (p : List ℕ) → Holds (part .names) p
-        → Appended ws rs (part .count) (b .count) (map (λ (x : ℕ). define i x p) (assignedVars s (treeAt (sheetAt t) (indexRow w))))
+        → Appended v ws rs (part .count) (b .count) (map (λ (x : ℕ). define i x p) (assignedVars s (treeAt (sheetAt t) (indexRow w))))
     pub undefined : b .undefined ≡ part .undefined
     pub reads : b .reads ≡ part .reads
     pub comprs : b .comprs ≡ part .comprs
 
   pub here : (w : Row) (own part : Used) (ws rs : List ℕ) (c : ℕ) (all : Names)
-      → IndexDefined t k i (indexRow w) (part .names) ws rs (part .count) c
+      → IndexDefined t v k i (indexRow w) (part .names) ws rs (part .count) c
       → Union (own .names .words) (part .names .words) (all .words)
       → Here w own part ws rs (record { names = all; count = c; undefined = part .undefined; reads = part .reads; comprs = part .comprs })
   here w own part ws rs c all d j = record {
@@ -87,7 +89,7 @@ module _ (t : List ℕ) (k : Scope) (i : ℕ) where
     comprs = refl;
   }
 
-module _ (t : List ℕ) (k : Scope) (extras : Names) (i : ℕ) where
+module _ (t : List ℕ) (v : Width) (k : Scope) (extras : Names) (i : ℕ) where
   abbrev defsAt : spec.Scope → List ℕ → Bool → ℕ → List Definition
   defsAt s l rest row = indexDefinitions (sheetAt t) s l i (exprBy t rest row)
 
@@ -100,7 +102,7 @@ module _ (t : List ℕ) (k : Scope) (extras : Names) (i : ℕ) where
     pub sets : Sets k scope
     pub list : List ℕ
     pub holds : Holds extras list
-    pub low : 4 * (count + length (indexDefinitions (sheetAt t) scope list i (exprBy t rest row))) ≤ size
+    pub low : count + length (indexDefinitions (sheetAt t) scope list i (exprBy t rest row)) ≤ size / Widths.row v
 
   -- What the walk did, for every scope and every list of names that the code's stand for.
   pub record Walked (row : ℕ) (rest : Bool) (a : Used) (firsts ws : List ℕ) (b : Used) (firsts′ rs : List ℕ) : Type 0 where
@@ -109,7 +111,7 @@ module _ (t : List ℕ) (k : Scope) (extras : Names) (i : ℕ) where
     pub names : (s : spec.Scope) → Sets k s → (l : List ℕ) → Holds extras l
         → Adds (a .names) (usedVars (sheetAt t) s l (exprBy t rest row)) (b .names)
     pub rows : (s : spec.Scope) → Sets k s → (l : List ℕ) → Holds extras l
-        → Appended ws rs (a .count) (b .count) (indexDefinitions (sheetAt t) s l i (exprBy t rest row))
+        → Appended v ws rs (a .count) (b .count) (indexDefinitions (sheetAt t) s l i (exprBy t rest row))
     pub first : FirstWalk t k extras row rest firsts firsts′
     pub undefined : UndefinedWalk t k row rest (a .undefined) (b .undefined)
     pub reads : MetWalk t (reads t) row rest (a .reads) (b .reads)
@@ -126,7 +128,7 @@ module _ (t : List ℕ) (k : Scope) (extras : Names) (i : ℕ) where
     walked-none row z rest a firsts ws = subst (λ (r : ℕ). Walked r rest a firsts ws a firsts ws) (sym z) (record {
       count = λ s h l e. rw (defs-none s l rest) (omega arith);
       names = λ s h l e. rw (names-none t s l ok rest) (adds-none (a .names));
-      rows = λ s h l e. rw (defs-none s l rest) (appended-none ws (a .count));
+      rows = λ s h l e. rw (defs-none s l rest) (appended-none v ws (a .count));
       first = first-none t k extras ok 0 refl rest firsts;
       undefined = undefined-none t k ok 0 refl rest (a .undefined);
       reads = met-none t (reads t) ok 0 refl rest (a .reads);
@@ -208,8 +210,8 @@ module _ (t : List ℕ) (k : Scope) (extras : Names) (i : ℕ) where
         total = sum (room .scope) (room .list)
 
         -- A call with room for what is left.
-        with-room : (v n count : ℕ) → 4 * (count + length (defsAt (room .scope) (room .list) true v)) ≤ n → Room v true count n
-        with-room v n count h = record { scope = room .scope; sets = room .sets; list = room .list; holds = room .holds; low = h }
+        with-room : (r n count : ℕ) → count + length (defsAt (room .scope) (room .list) true r) ≤ n / Widths.row v → Room r true count n
+        with-room r n count h = record { scope = room .scope; sets = room .sets; list = room .list; holds = room .holds; low = h }
 
         module _ (own f : Used) (same : own .count ≡ a .count) (fresh : Fresh own f) where
           fresh-count : f .count ≡ a .count
@@ -222,29 +224,29 @@ module _ (t : List ℕ) (k : Scope) (extras : Names) (i : ℕ) where
             part-count : part .count ≡ a .count + length (defsAt (room .scope) (room .list) true (p .first))
             part-count = omega (arith, fresh-count, h₁ .count (room .scope) (room .sets) (room .list) (room .holds))
 
-            pub here-fits : (n : ℕ) → n ≡ size → IndexFits t k (indexRow w) (part .count) n
+            pub here-fits : (n : ℕ) → n ≡ size → IndexFits t v k (indexRow w) (part .count) n
             here-fits n e =
-                record { scope = room .scope; sets = room .sets; low = omega (arith, e, total .total, part-count, room .low) }
+                record { scope = room .scope; sets = room .sets; low = omega (arith, ap (λ (m : ℕ). m / Widths.row v) e, total .total, part-count, room .low) }
 
-            module _ (vs : List ℕ) (b : Used) (h₂ : Here t k i w own part us vs b) where
+            module _ (vs : List ℕ) (b : Used) (h₂ : Here t v k i w own part us vs b) where
               here-count : b .count ≡ a .count + length (defsAt (room .scope) (room .list) true (p .first)) + length (index (room .scope) w)
               here-count = omega (arith, part-count, h₂ .count (room .scope) (room .sets))
 
               pub second-room : (n : ℕ) → n ≡ size → Room (p .second) true (b .count) n
-              second-room n e = with-room (p .second) n (b .count) (omega (arith, e, total .total, here-count, room .low))
+              second-room n e = with-room (p .second) n (b .count) (omega (arith, ap (λ (m : ℕ). m / Widths.row v) e, total .total, here-count, room .low))
 
               module _ (hs xs : List ℕ) (c : Used) (h₃ : Walked (p .second) true b gs vs c hs xs) where
                 pub third-room : (n : ℕ) → n ≡ size → Room (p .third) true (c .count) n
                 third-room n e =
                     with-room (p .third) n (c .count)
-                    (omega (arith, e, total .total, here-count, room .low, h₃ .count (room .scope) (room .sets) (room .list) (room .holds)))
+                    (omega (arith, ap (λ (m : ℕ). m / Widths.row v) e, total .total, here-count, room .low, h₃ .count (room .scope) (room .sets) (room .list) (room .holds)))
 
                 pub next-room : (js ys : List ℕ) (d : Used) → Walked (p .third) true c hs xs d js ys → (n : ℕ) → n ≡ size → Room next true (d .count) n
                 next-room js ys d h₄ n e =
                     with-room next n (d .count)
                     (omega (
                       arith,
-                      e,
+                      ap (λ (m : ℕ). m / Widths.row v) e,
                       total .total,
                       here-count,
                       room .low,
@@ -255,7 +257,7 @@ module _ (t : List ℕ) (k : Scope) (extras : Names) (i : ℕ) where
       -- ---- and what they do together
 
       pub walked-turn : (a own f part b c d e : Used) (fs fs₀ fs₁ fs₂ fs₃ fs₄ ws us vs xs ys zs : List ℕ) → RowUsed t k extras row w a fs own fs₀
-          → Fresh own f → Walked (p .first) true f fs₀ ws part fs₁ us → Here t k i w own part us vs b → Walked (p .second) true b fs₁ vs c fs₂ xs
+          → Fresh own f → Walked (p .first) true f fs₀ ws part fs₁ us → Here t v k i w own part us vs b → Walked (p .second) true b fs₁ vs c fs₂ xs
           → Walked (p .third) true c fs₂ xs d fs₃ ys → Walked next true d fs₃ ys e fs₄ zs → Walked row rest a fs ws e fs₄ zs
       walked-turn a own f part b c d e fs fs₀ fs₁ fs₂ fs₃ fs₄ ws us vs xs ys zs h₀ fresh h₁ h₂ h₃ h₄ h₅ = record {
         count = λ s h l o.
@@ -277,13 +279,13 @@ module _ (t : List ℕ) (k : Scope) (extras : Names) (i : ℕ) where
             (adds-then (a .names) (own .names) (b .names) _ _ (h₀ .names s h l o) (h₂ .names _ (held s h l o))) (h₃ .names s h l o))
             (h₄ .names s h l o)) (h₅ .names s h l o));
         rows = λ s h l o.
-            subst (Appended ws zs (a .count) (e .count)) (sym (parts s l))
-            (appended-then ws ys zs (a .count) (d .count) (e .count) _ _
-            (appended-then ws xs ys (a .count) (c .count) (d .count) _ _
-            (appended-then ws vs xs (a .count) (b .count) (c .count) _ _
-            (appended-swap ws vs (a .count) (b .count) (defsAt s l true (p .first)) (own-defs s l)
-            (appended-then ws us vs (a .count) (part .count) (b .count) _ _
-            (subst (λ (n : ℕ). Appended ws us n (part .count) (defsAt s l true (p .first))) fresh-is (h₁ .rows s h l o))
+            subst (Appended v ws zs (a .count) (e .count)) (sym (parts s l))
+            (appended-then v ws ys zs (a .count) (d .count) (e .count) _ _
+            (appended-then v ws xs ys (a .count) (c .count) (d .count) _ _
+            (appended-then v ws vs xs (a .count) (b .count) (c .count) _ _
+            (appended-swap v ws vs (a .count) (b .count) (defsAt s l true (p .first)) (own-defs s l)
+            (appended-then v ws us vs (a .count) (part .count) (b .count) _ _
+            (subst (λ (n : ℕ). Appended v ws us n (part .count) (defsAt s l true (p .first))) fresh-is (h₁ .rows s h l o))
             (h₂ .rows s h _ (held s h l o)))) (h₃ .rows s h l o)) (h₄ .rows s h l o)) (h₅ .rows s h l o));
         first =
             first-turn t k extras ok row ne high rest w is p ps next ns fs fs₀ fs₁ fs₂ fs₃ fs₄ (h₀ .first) (h₁ .first) (h₃ .first) (h₄ .first)
@@ -321,7 +323,7 @@ module _ (t : List ℕ) (k : Scope) (extras : Names) (i : ℕ) where
     pub names : (s : spec.Scope) → Sets k s → (l : List ℕ) → Holds extras l
         → (x : ℕ) → member (r .names .words) x ≡ elem x (usedVars (sheetAt t) s l (exprBy t rest row))
     pub rows : (s : spec.Scope) → Sets k s → (l : List ℕ) → Holds extras l
-        → Appended ws rs count (r .count) (indexDefinitions (sheetAt t) s l i (exprBy t rest row))
+        → Appended v ws rs count (r .count) (indexDefinitions (sheetAt t) s l i (exprBy t rest row))
     pub first : FirstWalk t k extras row rest firsts firsts′
     pub undefined : Undefined t k row rest (r .undefined)
     pub reads : r .reads ≡ readsInput (sheetAt t) (exprBy t rest row)

@@ -39,7 +39,7 @@ wordOf (some p) = 1 + p .line * 65536 + p .col
 
 -- The words hold the first uses, one a name. Their lines and columns are low, so that a word can be taken apart again.
 pub record Firsts (ws : List ℕ) (spans : List Span) : Type 0 where
-  pub has : (x : ℕ) → x < 128 → wordOf (spanIn spans x) ≡ getD ws x 0
+  pub has : (x : ℕ) → x < 512 → wordOf (spanIn spans x) ≡ getD ws x 0
   pub low : (x : ℕ) (p : Span) → spanIn spans x ≡ some p → (p .line < 65536) × (p .col < 65536)
 
 -- ---- one use
@@ -47,7 +47,7 @@ pub record Firsts (ws : List ℕ) (spans : List Span) : Type 0 where
 abbrev pub FirstUse : Row → List ℕ → List ℕ → Type 0
 FirstUse w ws rs = (spans : List Span) → Firsts ws spans → Firsts rs (addFirstUse spans (spanOf w))
 
-module _ (w : Row) (low : w .name < 128) (ws : List ℕ) where
+module _ (w : Row) (low : w .name < 512) (ws : List ℕ) where
   pub use-stays : (getD ws (w .name) 0 ≡ 0 → ⊥) → FirstUse w ws ws
   unfolding addFirstUse
   use-stays ne spans h = go (spanIn spans (w .name)) (h .has (w .name) low)
@@ -56,14 +56,14 @@ module _ (w : Row) (low : w .name < 128) (ws : List ℕ) where
       go none e = absurd (ne (sym e))
       go (some p) e = h
 
-  pub use-enters : (w .line < 65536) × (w .col < 65536) → 128 ≤ length ws → getD ws (w .name) 0 ≡ 0 → FirstUse w ws (set ws (w .name) (1 + w .line * 65536 + w .col))
+  pub use-enters : (w .line < 65536) × (w .col < 65536) → 512 ≤ length ws → getD ws (w .name) 0 ≡ 0 → FirstUse w ws (set ws (w .name) (1 + w .line * 65536 + w .col))
   unfolding addFirstUse
   use-enters short room z spans h = go (spanIn spans (w .name)) (h .has (w .name) low)
     where
       new : List ℕ
       new = set ws (w .name) (1 + w .line * 65536 + w .col)
 
-      at : (x : ℕ) → x < 128 → (eqb (w .name) x ≡ true) ⊎ (eqb (w .name) x ≡ false) → wordOf (cond (eqb (w .name) x) (some (spanOf w)) (spanIn spans x)) ≡ getD new x 0
+      at : (x : ℕ) → x < 512 → (eqb (w .name) x ≡ true) ⊎ (eqb (w .name) x ≡ false) → wordOf (cond (eqb (w .name) x) (some (spanOf w)) (spanIn spans x)) ≡ getD new x 0
       at x l (inl p) =
           rw p
           (sym (getD-set-same ws (w .name) (1 + w .line * 65536 + w .col) 0 (omega arith)) ∙ ap (λ (y : ℕ). getD new y 0) (eqb-true (w .name) x p))

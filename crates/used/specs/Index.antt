@@ -2,11 +2,15 @@
 use mathlib.Core.Path.{_≡_, refl, sym, ap, _∙_, subst}
 use mathlib.Core.Bool.{Bool, true, false, cond}
 use mathlib.Core.List.{List, [], _∷_, _++_, map}
-use Prim.Native.Nat.{ℕ, suc, _+_, _*_, _≤_}
+use Prim.Native.Nat.{ℕ, suc, _+_, _*_, _/_, _≤_}
+use native.Mathlib.Nat.{div-le-self}
 use native.Mathlib.Omega.{arith}
 use lib.ListN.{length, getD}
 use borrow.Author.Tests.{eq-eqb, ne-eqb}
 use Rattle.names.specs.declared.Names.{Names}
+use Rattle.widths.specs.declared.Width.{Width}
+use Rattle.widths.specs.Widths as Widths
+use Rattle.widths.specs.Laws.{room-whole}
 use Rattle.records.specs.declared.Row.{Row}
 use Rattle.trees.specs.Sheet.{rowAt}
 use Rattle.trees.specs.Kinds.{isPattern, isRefBrack}
@@ -47,17 +51,17 @@ module _ (w : Row) where
 
 -- ---- names that are defined
 
-module _ (k : Scope) where
+module _ (v : Width) (k : Scope) where
   -- There is room for a row for each name on the list, for a scope that the code's stands for.
   pub record Fits (names : spec.Scope → List ℕ) (count size : ℕ) : Type 0 where
     pub scope : spec.Scope
     pub sets : Sets k scope
-    pub low : 4 * (count + length (names scope)) ≤ size
+    pub low : count + length (names scope) ≤ size / Widths.row v
 
   -- The names on the list were defined from those in the set, for every scope that the code's stands for.
   pub record Defined (i : ℕ) (names : spec.Scope → List ℕ) (used : Names) (ws rs : List ℕ) (a b : ℕ) : Type 0 where
     pub count : (s : spec.Scope) → Sets k s → b ≡ a + length (names s)
-    pub rows : (s : spec.Scope) → Sets k s → (l : List ℕ) → Holds used l → Appended ws rs a b (map (λ (x : ℕ). define i x l) (names s))
+    pub rows : (s : spec.Scope) → Sets k s → (l : List ℕ) → Holds used l → Appended v ws rs a b (map (λ (x : ℕ). define i x l) (names s))
 
   abbrev pub LeafFits : Row → ℕ → ℕ → Type 0
   LeafFits w count size = Fits (λ s. leafAt s w) count size
@@ -69,7 +73,7 @@ module _ (k : Scope) where
       → ((s : spec.Scope) → Sets k s → names s ≡ []) → Defined i names used ws ws a a
   defined-none i names used ws a none = record {
     count = λ s h. rw (none s h) (omega arith);
-    rows = λ s h l e. rw (none s h) (appended-none ws a);
+    rows = λ s h l e. rw (none s h) (appended-none v ws a);
   }
 
   pub defined-then : (i : ℕ) (m n : spec.Scope → List ℕ) (used : Names) (ws us rs : List ℕ) (a b c : ℕ)
@@ -77,8 +81,8 @@ module _ (k : Scope) where
   defined-then i m n used ws us rs a b c p q = record {
     count = λ s h. omega (arith, p .count s h, q .count s h, append-length (m s) (n s));
     rows = λ s h l e.
-        subst (Appended ws rs a c) (sym (map-append (λ (x : ℕ). define i x l) (m s) (n s)))
-        (appended-then ws us rs a b c _ _ (p .rows s h l e) (q .rows s h l e));
+        subst (Appended v ws rs a c) (sym (map-append (λ (x : ℕ). define i x l) (m s) (n s)))
+        (appended-then v ws us rs a b c _ _ (p .rows s h l e) (q .rows s h l e));
   }
 
   pub defined-as : (i : ℕ) (m n : spec.Scope → List ℕ) (used : Names) (ws rs : List ℕ) (a b : ℕ)
@@ -94,19 +98,24 @@ module _ (k : Scope) where
     pub leaf-undefined : (w .kind ≡ 6 → ⊥) → LeafDefined i w used ws ws a a
     leaf-undefined ne = defined-none i (λ s. leafAt s w) used ws a (λ s h. rw (ne-eqb (w .kind) 6 ne))
 
-    module _ (v : w .kind ≡ 6) (o : Bool) (owned : Owns k (w .name) o) where
+    module _ (var : w .kind ≡ 6) (o : Bool) (owned : Owns k (w .name) o) where
       pub leaf-not-own : o ≡ false → LeafDefined i w used ws ws a a
-      leaf-not-own p = defined-none i (λ s. leafAt s w) used ws a (λ s h. rw (eq-eqb (w .kind) 6 v, sym (owned s h), p))
+      leaf-not-own p = defined-none i (λ s. leafAt s w) used ws a (λ s h. rw (eq-eqb (w .kind) 6 var, sym (owned s h), p))
 
       own-is : o ≡ true → (s : spec.Scope) → Sets k s → leafAt s w ≡ w .name ∷ []
-      own-is p s h = rw (eq-eqb (w .kind) 6 v, sym (owned s h), p)
+      own-is p s h = rw (eq-eqb (w .kind) 6 var, sym (owned s h), p)
 
-      pub leaf-room : o ≡ true → (size : ℕ) → LeafFits w a size → 4 * a + 4 ≤ size
+      pub leaf-room : o ≡ true → (size : ℕ) → LeafFits w a size → Widths.row v * a + Widths.row v ≤ size
       leaf-room p size f =
           let e : length (leafAt (f .scope) w) ≡ 1 = ap length (own-is p (f .scope) (f .sets)) in
-          omega (arith, e, f .low)
+          room-whole (Widths.row v) a size (omega (arith, e, f .low))
 
-      pub leaf-defined : o ≡ true → (rs : List ℕ) → Pushed i (w .name) used a ws rs → LeafDefined i w used ws rs a (a + 1)
+      pub leaf-few : o ≡ true → (size : ℕ) → LeafFits w a size → a + 1 ≤ size
+      leaf-few p size f =
+          let e : length (leafAt (f .scope) w) ≡ 1 = ap length (own-is p (f .scope) (f .sets)) in
+          omega (arith, e, f .low, div-le-self size (Widths.row v))
+
+      pub leaf-defined : o ≡ true → (rs : List ℕ) → Pushed v i (w .name) used a ws rs → LeafDefined i w used ws rs a (a + 1)
       leaf-defined p rs put = record {
         count = λ s h. rw (own-is p s h) refl;
         rows = λ s h l e. rw (own-is p s h) (put l e);
@@ -114,15 +123,15 @@ module _ (k : Scope) where
 
 -- ---- the walk
 
-module _ (t : List ℕ) (k : Scope) where
+module _ (t : List ℕ) (v : Width) (k : Scope) where
   abbrev names : ℕ → spec.Scope → List ℕ
   names row s = assignedVars s (treeAt (sheetAt t) row)
 
   abbrev pub IndexFits : ℕ → ℕ → ℕ → Type 0
-  IndexFits row count size = Fits k (λ s. assignedVars s (treeAt (sheetAt t) row)) count size
+  IndexFits row count size = Fits v k (λ s. assignedVars s (treeAt (sheetAt t) row)) count size
 
   abbrev pub IndexDefined : ℕ → ℕ → Names → List ℕ → List ℕ → ℕ → ℕ → Type 0
-  IndexDefined i row used ws rs a b = Defined k i (λ s. assignedVars s (treeAt (sheetAt t) row)) used ws rs a b
+  IndexDefined i row used ws rs a b = Defined v k i (λ s. assignedVars s (treeAt (sheetAt t) row)) used ws rs a b
 
   -- At a row that is the same.
   pub index-as : (i r row : ℕ) → r ≡ row → (used : Names) (ws rs : List ℕ) (a b : ℕ) → IndexDefined i r used ws rs a b → IndexDefined i row used ws rs a b
@@ -130,7 +139,7 @@ module _ (t : List ℕ) (k : Scope) where
 
   module _ (ok : Accepted t) where
     pub index-none : (row : ℕ) → row ≡ 0 → (i : ℕ) (used : Names) (ws : List ℕ) (a : ℕ) → IndexDefined i row used ws ws a a
-    index-none row z i used ws a = defined-none k i (names row) used ws a (λ s h. rw (z, assigned-zero t s ok))
+    index-none row z i used ws a = defined-none v k i (names row) used ws a (λ s h. rw (z, assigned-zero t s ok))
 
     module _ (row : ℕ) (ne : row ≡ 0 → ⊥) (high : row ≤ getD t 2 0) (w : Row) (is : w ≡ rowAt t row)
         (inner : ℕ) (i-is : inner ≡ cond (isPattern w) (w .first) 0) (next : ℕ) (n-is : next ≡ w .next) where
@@ -143,14 +152,14 @@ module _ (t : List ℕ) (k : Scope) where
           ∙ ap (λ (n : ℕ). n + length (names next s)) (append-length (leafAt s w) (names inner s))
 
       module _ (i : ℕ) (used : Names) (a size : ℕ) (fits : IndexFits row a size) where
-        pub leaf-fits : LeafFits k w a size
+        pub leaf-fits : LeafFits v k w a size
         leaf-fits = record { scope = fits .scope; sets = fits .sets; low = omega (arith, fits .low, sum (fits .scope)) }
 
-        module _ (ws us : List ℕ) (b : ℕ) (leaf : LeafDefined k i w used ws us a b) where
+        module _ (ws us : List ℕ) (b : ℕ) (leaf : LeafDefined v k i w used ws us a b) where
           pub inner-fits : (n : ℕ) → n ≡ size → IndexFits inner b n
           inner-fits n e =
               let s = fits .scope in
-              record { scope = s; sets = fits .sets; low = omega (arith, e, fits .low, sum s, leaf .count s (fits .sets)) }
+              record { scope = s; sets = fits .sets; low = omega (arith, ap (λ (m : ℕ). m / Widths.row v) e, fits .low, sum s, leaf .count s (fits .sets)) }
 
           pub next-fits : (vs : List ℕ) (c : ℕ) → IndexDefined i inner used us vs b c → (n : ℕ) → n ≡ size → IndexFits next c n
           next-fits vs c d n e =
@@ -158,12 +167,12 @@ module _ (t : List ℕ) (k : Scope) where
               record {
                 scope = s;
                 sets = fits .sets;
-                low = omega (arith, e, fits .low, sum s, leaf .count s (fits .sets), d .count s (fits .sets));
+                low = omega (arith, ap (λ (m : ℕ). m / Widths.row v) e, fits .low, sum s, leaf .count s (fits .sets), d .count s (fits .sets));
               }
 
-      pub index-turn : (i : ℕ) (used : Names) (ws us vs rs : List ℕ) (a b c d : ℕ) → LeafDefined k i w used ws us a b
+      pub index-turn : (i : ℕ) (used : Names) (ws us vs rs : List ℕ) (a b c d : ℕ) → LeafDefined v k i w used ws us a b
           → IndexDefined i inner used us vs b c → IndexDefined i next used vs rs c d → IndexDefined i row used ws rs a d
       index-turn i used ws us vs rs a b c d p q r =
-          defined-as k i (λ s. (leafAt s w ++ names inner s) ++ names next s) (names row) used ws rs a d parts
-          (defined-then k i (λ s. leafAt s w ++ names inner s) (names next) used ws vs rs a c d
-          (defined-then k i (λ s. leafAt s w) (names inner) used ws us vs a b c p q) r)
+          defined-as v k i (λ s. (leafAt s w ++ names inner s) ++ names next s) (names row) used ws rs a d parts
+          (defined-then v k i (λ s. leafAt s w ++ names inner s) (names next) used ws vs rs a c d
+          (defined-then v k i (λ s. leafAt s w) (names inner) used ws us vs a b c p q) r)

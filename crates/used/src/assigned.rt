@@ -36,7 +36,7 @@ pub fn pattern_of(w: Row) -> usize
 
 // A row: a variable of the query is a name.
 pub fn leaf_step(scope: Scope, w: Row, names: Names) -> Names
-    requires { ⌜ w .name < 128 ⌝ }
+    requires { ⌜ w .name < 512 ⌝ }
     ensures { λ r. ⌜ LeafStep scope w names r ⌝ }
 {
     if w.kind != VAR {

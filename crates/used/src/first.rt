@@ -10,7 +10,7 @@ const LINE: u64 = 65536;
 
 // A use of a name. The first one stays.
 pub fn add_first_use(w: Row, firsts: &mut [u64])
-    requires { ⌜ (128 ≤ length (now firsts)) × (w .name < 128) ⌝ }
+    requires { ⌜ (512 ≤ length (now firsts)) × (w .name < 512) ⌝ }
     ensures { λ _. ⌜ FirstUse w (now (firsts .entry)) (now (firsts .exit)) ⌝ }
 {
     let name = w.name as usize;

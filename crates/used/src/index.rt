@@ -7,10 +7,13 @@ use gather::scope::Scope;
 use names::Names;
 use records::Row;
 use records::row_at;
+use widths::Width;
+use widths::store_set;
 ghost use mathlib.Core.Path.{_≡_};
 ghost use mathlib.Core.Bool.{cond};
 ghost use Prim.Native.Nat.{_+_, _*_, _≤_, _<_};
 ghost use lib.ListN.{length, getD};
+ghost use Rattle.widths.specs.Widths.{row};
 ghost use Rattle.trees.specs.Kinds.{isRefBrack};
 ghost use Rattle.gather.specs.Sheets.{Accepted};
 ghost use Rattle.used.specs.Appended.{Pushed};
@@ -38,16 +41,15 @@ pub fn push_definition(
     used: Names,
     count: usize,
     definitions: &mut [u64],
+    width: Width,
 )
-    requires { ⌜ 4 * count + 4 ≤ length (now definitions) ⌝ }
-    ensures { λ _. ⌜ Pushed statement name used count (now (definitions .entry)) (now (definitions .exit)) ⌝ }
+    requires { ⌜ row width * count + row width ≤ length (now definitions) ⌝ }
+    ensures { λ _. ⌜ Pushed width statement name used count (now (definitions .entry)) (now (definitions .exit)) ⌝ }
 {
-    let at = 4 * count;
-    let words = used.words;
+    let at = width.row() * count;
     definitions[at] = statement as u64;
     definitions[at + 1] = name as u64;
-    definitions[at + 2] = words[0];
-    definitions[at + 3] = words[1];
+    store_set(width, definitions, at + 2, used);
 }
 
 // A row of the index: a variable of the query is defined. Hands back the count of rows.
@@ -58,16 +60,17 @@ fn define_leaf(
     used: Names,
     count: usize,
     definitions: &mut [u64],
+    width: Width,
 ) -> usize
-    requires { ⌜ (w .name < 128) × LeafFits scope w count (length (now definitions)) ⌝ }
-    ensures { λ r. ⌜ LeafDefined scope statement w used (now (definitions .entry)) (now (definitions .exit)) count r ⌝ }
+    requires { ⌜ (w .name < 512) × LeafFits width scope w count (length (now definitions)) ⌝ }
+    ensures { λ r. ⌜ LeafDefined width scope statement w used (now (definitions .entry)) (now (definitions .exit)) count r ⌝ }
 {
     if w.kind != VAR {
         return count;
     }
     let name = w.name as usize;
     if owns(scope, name) {
-        push_definition(statement, name, used, count, definitions);
+        push_definition(statement, name, used, count, definitions, width);
         return count + 1;
     }
     count
@@ -82,9 +85,10 @@ pub fn define_index(
     used: Names,
     count: usize,
     definitions: &mut [u64],
+    width: Width,
 ) -> usize
-    requires { ⌜ Accepted (now tables) × (row ≤ getD (now tables) 2 0) × IndexFits (now tables) scope row count (length (now definitions)) ⌝ }
-    ensures { λ r. ⌜ IndexDefined (now (tables .entry)) scope statement row used (now (definitions .entry)) (now (definitions .exit)) count r ⌝ }
+    requires { ⌜ Accepted (now tables) × (row ≤ getD (now tables) 2 0) × IndexFits (now tables) width scope row count (length (now definitions)) ⌝ }
+    ensures { λ r. ⌜ IndexDefined (now (tables .entry)) width scope statement row used (now (definitions .entry)) (now (definitions .exit)) count r ⌝ }
 {
     if row == 0 {
         return count;
@@ -92,7 +96,7 @@ pub fn define_index(
     let w = row_at(tables, row);
     let inner = pattern_of(w);
     let next = next_of(w, true);
-    let mut n = define_leaf(scope, statement, w, used, count, definitions);
-    n = define_index(tables, scope, statement, inner, used, n, definitions);
-    define_index(tables, scope, statement, next, used, n, definitions)
+    let mut n = define_leaf(scope, statement, w, used, count, definitions, width);
+    n = define_index(tables, scope, statement, inner, used, n, definitions, width);
+    define_index(tables, scope, statement, next, used, n, definitions, width)
 }

@@ -37,7 +37,7 @@ pub fn is_compr(w: Row) -> bool
 
 // A variable of the query: a use, unless the extra argument binds it.
 fn use_own(extras: Names, w: Row, used: Used, firsts: &mut [u64]) -> Used
-    requires { ⌜ (w .name < 128) × (128 ≤ length (now firsts)) ⌝ }
+    requires { ⌜ (w .name < 512) × (512 ≤ length (now firsts)) ⌝ }
     ensures { λ r. ⌜ OwnUsed extras w used (now (firsts .entry)) r (now (firsts .exit)) ⌝ }
 {
     let name = w.name as usize;
@@ -59,7 +59,7 @@ fn use_var(
     used: Used,
     firsts: &mut [u64],
 ) -> Used
-    requires { ⌜ (8192 ≤ length (now tables)) × (w .kind ≡ 6) × (w .name < 128) × (row ≡ 0 → ⊥) × (row ≤ getD (now tables) 2 0) × (128 ≤ length (now firsts)) ⌝ }
+    requires { ⌜ (8192 ≤ length (now tables)) × (w .kind ≡ 6) × (w .name < 512) × (row ≡ 0 → ⊥) × (row ≤ getD (now tables) 2 0) × (512 ≤ length (now firsts)) ⌝ }
     ensures { λ r. ⌜ RowUsed (now (tables .entry)) scope extras row w used (now (firsts .entry)) r (now (firsts .exit)) ⌝ }
 {
     if is_special(tables, w.name) {
@@ -85,7 +85,7 @@ pub fn use_row(
     used: Used,
     firsts: &mut [u64],
 ) -> Used
-    requires { ⌜ Accepted (now tables) × (w .name < 128) × (w .second ≤ getD (now tables) 2 0) × (row ≡ 0 → ⊥) × (row ≤ getD (now tables) 2 0) × (128 ≤ length (now firsts)) ⌝ }
+    requires { ⌜ Accepted (now tables) × (w .name < 512) × (w .second ≤ getD (now tables) 2 0) × (row ≡ 0 → ⊥) × (row ≤ getD (now tables) 2 0) × (512 ≤ length (now firsts)) ⌝ }
     ensures { λ r. ⌜ RowUsed (now (tables .entry)) scope extras row w used (now (firsts .entry)) r (now (firsts .exit)) ⌝ }
 {
     if w.kind == VAR {

@@ -17,7 +17,7 @@ const BRACKET: u16 = 16;
 
 // A variable.
 fn used_var(tables: &[u16], scope: Scope, extras: Names, w: Row, names: Names) -> Names
-    requires { ⌜ (8192 ≤ length (now tables)) × (w .name < 128) ⌝ }
+    requires { ⌜ (8192 ≤ length (now tables)) × (w .name < 512) ⌝ }
     ensures { λ r. ⌜ UsedVar (now (tables .entry)) scope extras w names r ⌝ }
 {
     if is_use(tables, scope, extras, w) {
@@ -29,7 +29,7 @@ fn used_var(tables: &[u16], scope: Scope, extras: Names, w: Row, names: Names) -
 
 // Any expression: a bracket uses the names in its index.
 pub fn used_step(tables: &[u16], scope: Scope, extras: Names, w: Row, names: Names) -> Names
-    requires { ⌜ Accepted (now tables) × (w .name < 128) × (w .second ≤ getD (now tables) 2 0) ⌝ }
+    requires { ⌜ Accepted (now tables) × (w .name < 512) × (w .second ≤ getD (now tables) 2 0) ⌝ }
     ensures { λ r. ⌜ UsedStep (now (tables .entry)) scope extras w names r ⌝ }
 {
     if w.kind == VAR {

@@ -10,6 +10,7 @@ use gather::scope::Scope;
 use names::Names;
 use records::Row;
 use records::row_at;
+use widths::Width;
 ghost use mathlib.Core.Path.{_≡_};
 ghost use Prim.Native.Nat.{_≤_};
 ghost use lib.ListN.{length, getD};
@@ -35,15 +36,25 @@ fn define_here(
     inner: Names,
     count: usize,
     definitions: &mut [u64],
+    width: Width,
 ) -> usize
-    requires { ⌜ Accepted (now tables) × (w .second ≤ getD (now tables) 2 0) × IndexFits (now tables) scope (indexRow w) count (length (now definitions)) ⌝ }
-    ensures { λ r. ⌜ IndexDefined (now (tables .entry)) scope statement (indexRow w) inner (now (definitions .entry)) (now (definitions .exit)) count r ⌝ }
+    requires { ⌜ Accepted (now tables) × (w .second ≤ getD (now tables) 2 0) × IndexFits (now tables) width scope (indexRow w) count (length (now definitions)) ⌝ }
+    ensures { λ r. ⌜ IndexDefined (now (tables .entry)) width scope statement (indexRow w) inner (now (definitions .entry)) (now (definitions .exit)) count r ⌝ }
 {
     let index = index_of(w);
     if index == 0 {
         return count;
     }
-    define_index(tables, scope, statement, index, inner, count, definitions)
+    define_index(
+        tables,
+        scope,
+        statement,
+        index,
+        inner,
+        count,
+        definitions,
+        width,
+    )
 }
 
 // The row w did `own` by itself, and its first part came to `part`, from no name on.
@@ -55,12 +66,22 @@ fn used_here(
     own: Used,
     part: Used,
     definitions: &mut [u64],
+    width: Width,
 ) -> Used
-    requires { ⌜ Accepted (now tables) × (w .second ≤ getD (now tables) 2 0) × IndexFits (now tables) scope (indexRow w) (part .count) (length (now definitions)) ⌝ }
-    ensures { λ r. ⌜ Here (now (tables .entry)) scope statement w own part (now (definitions .entry)) (now (definitions .exit)) r ⌝ }
+    requires { ⌜ Accepted (now tables) × (w .second ≤ getD (now tables) 2 0) × IndexFits (now tables) width scope (indexRow w) (part .count) (length (now definitions)) ⌝ }
+    ensures { λ r. ⌜ Here (now (tables .entry)) width scope statement w own part (now (definitions .entry)) (now (definitions .exit)) r ⌝ }
 {
     let inner = part.names;
-    let count = define_here(tables, scope, statement, w, inner, part.count, definitions);
+    let count = define_here(
+        tables,
+        scope,
+        statement,
+        w,
+        inner,
+        part.count,
+        definitions,
+        width,
+    );
     let names = own.names.union(inner);
     Used {
         names,
@@ -83,9 +104,10 @@ fn used_from(
     used: Used,
     firsts: &mut [u64],
     definitions: &mut [u64],
+    width: Width,
 ) -> Used
-    requires { ⌜ Accepted (now tables) × (row ≤ getD (now tables) 2 0) × (128 ≤ length (now firsts)) × Room (now tables) scope extras statement row rest (used .count) (length (now definitions)) ⌝ }
-    ensures { λ r. ⌜ Walked (now (tables .entry)) scope extras statement row rest used (now (firsts .entry)) (now (definitions .entry)) r (now (firsts .exit)) (now (definitions .exit)) ⌝ }
+    requires { ⌜ Accepted (now tables) × (row ≤ getD (now tables) 2 0) × (512 ≤ length (now firsts)) × Room (now tables) width scope extras statement row rest (used .count) (length (now definitions)) ⌝ }
+    ensures { λ r. ⌜ Walked (now (tables .entry)) width scope extras statement row rest used (now (firsts .entry)) (now (definitions .entry)) r (now (firsts .exit)) (now (definitions .exit)) ⌝ }
 {
     if row == 0 {
         return used;
@@ -106,9 +128,10 @@ fn used_from(
             part,
             firsts,
             definitions,
+            width,
         );
     }
-    let mut s = used_here(tables, scope, statement, w, own, part, definitions);
+    let mut s = used_here(tables, scope, statement, w, own, part, definitions, width);
     if k.second != 0 {
         s = used_from(
             tables,
@@ -120,6 +143,7 @@ fn used_from(
             s,
             firsts,
             definitions,
+            width,
         );
     }
     if k.third != 0 {
@@ -133,6 +157,7 @@ fn used_from(
             s,
             firsts,
             definitions,
+            width,
         );
     }
     if next == 0 {
@@ -148,6 +173,7 @@ fn used_from(
         s,
         firsts,
         definitions,
+        width,
     )
 }
 
@@ -163,9 +189,10 @@ pub fn used_vars(
     count: usize,
     firsts: &mut [u64],
     definitions: &mut [u64],
+    width: Width,
 ) -> Used
-    requires { ⌜ Accepted (now tables) × (row ≤ getD (now tables) 2 0) × (128 ≤ length (now firsts)) × Room (now tables) scope extras statement row rest count (length (now definitions)) ⌝ }
-    ensures { λ r. ⌜ Gathered (now (tables .entry)) scope extras statement row rest count (now (firsts .entry)) (now (definitions .entry)) r (now (firsts .exit)) (now (definitions .exit)) ⌝ }
+    requires { ⌜ Accepted (now tables) × (row ≤ getD (now tables) 2 0) × (512 ≤ length (now firsts)) × Room (now tables) width scope extras statement row rest count (length (now definitions)) ⌝ }
+    ensures { λ r. ⌜ Gathered (now (tables .entry)) width scope extras statement row rest count (now (firsts .entry)) (now (definitions .entry)) r (now (firsts .exit)) (now (definitions .exit)) ⌝ }
 {
     let names = Names::empty();
     let start = Used {
@@ -185,5 +212,6 @@ pub fn used_vars(
         start,
         firsts,
         definitions,
+        width,
     )
 }

@@ -1,12 +1,16 @@
 -- The uses of an expression where there is no fault, once it is walked.
-use mathlib.Core.Path.{_≡_, sym, _∙_, subst}
+use mathlib.Core.Path.{_≡_, sym, ap, _∙_, subst}
 use mathlib.Core.Bool.{Bool, true, cond}
 use mathlib.Core.List.{List, _++_}
-use Prim.Native.Nat.{ℕ, _+_, _*_, _≤_}
+use Prim.Native.Nat.{ℕ, _+_, _-_, _*_, _/_, _≤_}
+use native.Mathlib.Nat.{mul-le-mul-left, div-mul-le-self}
 use native.Mathlib.Omega.{arith}
 use lib.ListN.{length, take, drop}
 use lib.Seq.{length-take-le}
 use Rattle.names.specs.declared.Names.{Names}
+use Rattle.widths.specs.declared.Width.{Width}
+use Rattle.widths.specs.Widths as Widths
+use Rattle.blocks.specs.Layout.{answers}
 use Rattle.uses.specs.Uses.{readsInput, usedVars, indexDefinitions}
 use Rattle.analysis.specs.States.{State, setScope, addFirstUses, addDefinitions}
 use Rattle.sizes.specs.Leaves.{bracketVars}
@@ -21,6 +25,7 @@ use Rattle.used.specs.Defining.{Room, Gathered}
 use Rattle.frame.specs.declared.Progress.{Progress}
 use Rattle.frame.specs.Faults.{isSound}
 use Rattle.frame.specs.Held.{Held, held-append}
+use Rattle.frame.specs.Table.{Table}
 use Rattle.frame.specs.Lent.{back-length, back-appended, back-table}
 use Rattle.frame.specs.Frames.{Whole, Grown, Ready}
 use Rattle.frame.specs.Steps.{agree-whole}
@@ -37,6 +42,7 @@ pub record Taken (row : ℕ) (p : Progress) (u : Used) (r : Using) : Type 0 wher
   pub flag : WithFlag (p .scope) (u .reads) (r .progress .scope)
   pub count : r .progress .count ≡ u .count
   pub fault : r .progress .fault ≡ p .fault
+  pub wide : r .progress .width ≡ p .width
   pub names : r .names ≡ u .names
   pub comprs : r .comprs ≡ cond (u .comprs) row 0
 
@@ -58,44 +64,47 @@ module _ (t : List ℕ) (extras : Names) (statement row : ℕ) (rest : Bool) (p 
     now-whole = agree-whole t (ready .spans) p firsts work (ready .state) (ready .agrees) fine
 
     -- In front of the table there are e words.
-    module _ (e : ℕ) (last : e + 4736 ≡ length work) where
+    module _ (e : ℕ) (last : e + answers (p .width) ≡ length work) where
       few : e ≤ length work
       few = omega arith
 
-      fits : 4 * (p .count + length (indexDefinitions (sheetAt t) (ready .state .scope) (listed .list) statement (exprBy t rest row))) ≤ e
+      fits : p .count + length (indexDefinitions (sheetAt t) (ready .state .scope) (listed .list) statement (exprBy t rest row)) ≤ e / Widths.row (p .width)
       fits =
+          let is : length work - answers (p .width) ≡ e = omega (arith, last) in
           omega (
             arith,
-            ready .room,
+            ready .room .rows,
+            ap (λ (m : ℕ). m / Widths.row (p .width)) is,
             ready .agrees .count,
             index-few (sheetAt t) (ready .state .scope) (listed .list) statement (exprBy t rest row),
           )
 
-      pub defined-room : (n : ℕ) → n ≡ length (take e work) → Room t (p .scope) extras statement row rest (p .count) n
+      pub defined-room : (n : ℕ) → n ≡ length (take e work) → Room t (p .width) (p .scope) extras statement row rest (p .count) n
       defined-room n is = record {
         scope = ready .state .scope;
         sets = now-whole .scope .sets;
         list = listed .list;
         holds = listed .holds;
-        low = omega (arith, fits, is, length-take-le e work few);
+        low = omega (arith, fits, ap (λ (m : ℕ). m / Widths.row (p .width)) (is ∙ length-take-le e work few));
       }
 
       module _ (firsts′ ys : List ℕ) (long : length ys ≡ length (take e work)) (u : Used)
-          (g : Gathered t (p .scope) extras statement row rest (p .count) firsts (take e work) u firsts′ ys) where
+          (g : Gathered t (p .width) (p .scope) extras statement row rest (p .count) firsts (take e work) u firsts′ ys) where
         same : length ys ≡ e
         same = long ∙ length-take-le e work few
 
-        count-fits : 4 * u .count ≤ e
+        count-fits : Widths.row (p .width) * u .count ≤ e
         count-fits =
-            omega (arith, fits, g .total (ready .state .scope) (now-whole .scope .sets) (listed .list) (listed .holds))
+            let low : u .count ≤ e / Widths.row (p .width) = omega (arith, fits, g .total (ready .state .scope) (now-whole .scope .sets) (listed .list) (listed .holds)) in
+            omega (arith, mul-le-mul-left (Widths.row (p .width)) low, div-mul-le-self e (Widths.row (p .width)))
 
         -- The rows that were there stay, whatever the count is said to be.
-        pub rows-stay : (r : Progress) → p .count ≤ r .count → Grown t p work r (ys ++ drop e work)
-        rows-stay r up =
+        pub rows-stay : (r : Progress) → p .count ≤ r .count → r .width ≡ p .width → Grown t p work r (ys ++ drop e work)
+        rows-stay r up wide =
             let rows =
-            back-appended work ys e few same (p .count) (u .count) _ count-fits
+            back-appended (p .width) work ys e few same (p .count) (u .count) _ count-fits
             (g .rows (ready .state .scope) (now-whole .scope .sets) (listed .list) (listed .holds)) in
-            record { long = back-length work ys e few same; up = up; before = rows .before }
+            record { long = back-length (p .width) work ys e few same; up = up; wide = wide; before = rows .before }
 
         module _ (r : Using) (taken : Taken row p u r) where
           defined-whole : (l : List ℕ) → Holds extras l → (spans : List ℕ) (s : State) → Whole t spans p firsts work s
@@ -107,18 +116,22 @@ module _ (t : List ℕ) (extras : Names) (statement row : ℕ) (rest : Bool) (p 
                 (subst (λ (c : Bool). WithFlag (p .scope) c (r .progress .scope)) (g .reads) (taken .flag));
             used-first = g .first (s .scope) (w .scope .sets) l h (s .firstUses) (w .used-first);
             rows =
-                subst (λ (n : ℕ). Held (ys ++ drop e work) n (s .definitions ++ indexDefinitions (sheetAt t) (s .scope) l statement (exprBy t rest row)))
+                subst (λ (n : ℕ). Held (r .progress .width) (ys ++ drop e work) n (s .definitions ++ indexDefinitions (sheetAt t) (s .scope) l statement (exprBy t rest row)))
                 (sym (taken .count))
-                (held-append work (ys ++ drop e work) (p .count) (s .definitions) (w .rows) (u .count) _
-                (back-appended work ys e few same (p .count) (u .count) _ count-fits (g .rows (s .scope) (w .scope .sets) l h)));
-            table = back-table work ys e few same t (s .run .schedules) last (w .table);
+                (subst (λ (v : Width). Held v (ys ++ drop e work) (u .count) (s .definitions ++ indexDefinitions (sheetAt t) (s .scope) l statement (exprBy t rest row)))
+                (sym (taken .wide))
+                (held-append (p .width) work (ys ++ drop e work) (p .count) (s .definitions) (w .rows) (u .count) _
+                (back-appended (p .width) work ys e few same (p .count) (u .count) _ count-fits (g .rows (s .scope) (w .scope .sets) l h))));
+            table =
+                subst (λ (v : Width). Table v t (ys ++ drop e work) (s .run .schedules)) (sym (taken .wide))
+                (back-table (p .width) work ys e few same t (s .run .schedules) last (w .table));
           }
 
           pub uses-all : UsesDefined r firsts′ (ys ++ drop e work)
           uses-all =
               let total = g .total (ready .state .scope) (now-whole .scope .sets) (listed .list) (listed .holds) in
               record {
-                grown = rows-stay (r .progress) (omega (arith, total, taken .count));
+                grown = rows-stay (r .progress) (omega (arith, total, taken .count)) (taken .wide);
                 fault = taken .fault;
                 whole = defined-whole;
                 names = λ l h spans s w. rw (taken .names) (record { has = λ x. sym (g .names (s .scope) (w .scope .sets) l h x) });

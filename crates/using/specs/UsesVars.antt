@@ -75,11 +75,11 @@ module _ (t : List ℕ) (extras : Names) (statement row : ℕ) (rest : Bool) (p 
           go (suc n) ne f = f .is
 
       -- What the walk left is not asked after, but for the rows that were there.
-      module _ (firsts′ work′ : List ℕ) (grown : (r : Progress) → p .count ≤ r .count → Grown t p work r work′) where
+      module _ (firsts′ work′ : List ℕ) (grown : (r : Progress) → p .count ≤ r .count → r .width ≡ p .width → Grown t p work r work′) where
         stops : (e : Names) → UsesVars (record { progress = failed p (UndefinedAt (rowAt t at .line) (rowAt t at .col)); names = e; comprs = row }) firsts′ work′
         stops e = record {
           runs = λ l h. record {
-            grown = grown (failed p (UndefinedAt (rowAt t at .line) (rowAt t at .col))) (omega arith);
+            grown = grown (failed p (UndefinedAt (rowAt t at .line) (rowAt t at .col))) (omega arith) refl;
             agrees = λ spans s a.
                 subst (Agree t spans (failed p (UndefinedAt (rowAt t at .line) (rowAt t at .col))) firsts′ work′)
                 (sym (done (gatherUsedVars (sheetAt t) statement l (exprBy t rest row)) spans s a

@@ -24,7 +24,7 @@ pub fn use_mods(
     firsts: &mut [u64],
     work: &mut [u64],
 ) -> Using
-    requires { ⌜ Accepted (now tables) × (row ≤ getD (now tables) 2 0) × (128 ≤ length (now firsts)) × Ready (now tables) p (now firsts) (now work) (total bracketVars (chainAt (now tables) row)) ⌝ }
+    requires { ⌜ Accepted (now tables) × (row ≤ getD (now tables) 2 0) × (512 ≤ length (now firsts)) × Ready (now tables) p (now firsts) (now work) (total bracketVars (chainAt (now tables) row)) ⌝ }
     ensures { λ r. ⌜ UsesMods (now (tables .entry)) statement row p names (now (firsts .entry)) (now (work .entry)) r (now (firsts .exit)) (now (work .exit)) ⌝ }
 {
     if row == 0 {

@@ -2,6 +2,7 @@
 
 use crate::Using;
 use crate::compr_row;
+use blocks::answers_of;
 use frame::Fault;
 use frame::Progress;
 use names::Names;
@@ -19,9 +20,6 @@ ghost use Rattle.frame.specs.Frames.{failed, Ready};
 ghost use Rattle.frame.specs.declared.Fault.the-variants.{Undefined};
 ghost use Rattle.using.specs.Defined.{Listed, Taken};
 ghost use Rattle.using.specs.UsesVars.{UsesVars};
-
-// The table of schedules stands in the last words of the work.
-const TABLE: usize = 4736;
 
 // The fault at an undefined variable.
 fn fail_undefined(tables: &[u16], row: usize, p: Progress) -> Progress
@@ -41,10 +39,12 @@ fn use_defined(row: usize, p: Progress, used: Used) -> Using
     let scope = before.use_input(used.reads);
     let fault = p.fault;
     let names = used.names;
+    let width = p.width;
     let progress = Progress {
         scope,
         count: used.count,
         fault,
+        width,
     };
     Using {
         progress,
@@ -65,12 +65,13 @@ pub fn use_vars(
     firsts: &mut [u64],
     work: &mut [u64],
 ) -> Using
-    requires { ⌜ Accepted (now tables) × (row ≤ getD (now tables) 2 0) × (128 ≤ length (now firsts)) × Ready (now tables) p (now firsts) (now work) (bracketVars (exprBy (now tables) rest row)) × Listed extras ⌝ }
+    requires { ⌜ Accepted (now tables) × (row ≤ getD (now tables) 2 0) × (512 ≤ length (now firsts)) × Ready (now tables) p (now firsts) (now work) (bracketVars (exprBy (now tables) rest row)) × Listed extras ⌝ }
     ensures { λ r. ⌜ UsesVars (now (tables .entry)) extras statement row rest p (now (firsts .entry)) (now (work .entry)) r (now (firsts .exit)) (now (work .exit)) ⌝ }
 {
     if p.is_sound() {
         let scope = p.scope;
-        let end = work.len() - TABLE;
+        let width = p.width;
+        let end = work.len() - answers_of(width);
         let used = used_vars(
             tables,
             scope,
@@ -81,6 +82,7 @@ pub fn use_vars(
             p.count,
             firsts,
             &mut work[..end],
+            width,
         );
         if used.undefined == 0 {
             return use_defined(row, p, used);

@@ -8,8 +8,8 @@ use lib.Dec.{leb}
 use lib.ListN.{length, getD, drop, length-drop}
 use lib.Seq.{drop-length, getD-drop, drop-drop}
 use borrow.Author.Tests.{lt-leb, le-leb, leb-true, ne-eqb}
+use Rattle.basics.specs.Limits as limits
 use Rattle.basics.specs.Truth.{not-both, and-right}
-use Rattle.text.specs.Limits as limits
 use Rattle.text.specs.Numbers.{digit, plain, value}
 use Rattle.text.specs.LineLaws.{drop-next}
 use Rattle.text.specs.DigitLaws.{

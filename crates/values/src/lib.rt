@@ -3,7 +3,7 @@
 ghost use mathlib.Core.Path.{_≡_};
 ghost use Prim.Native.Nat.{_+_, _≤_, _<_};
 ghost use lib.ListN.{length, drop};
-ghost use Rattle.text.specs.Limits as limits;
+ghost use Rattle.basics.specs.Limits as limits;
 ghost use Rattle.values.specs.Numbers.{digitAt, NumberRead, Checked};
 ghost use Rattle.values.specs.Fields.{FieldRead};
 ghost use Rattle.values.specs.Rows.{RowRead};

@@ -18,10 +18,9 @@ pub use spread::spread;
 pub use tally::{Outcome, Tally};
 
 use nokchbem::Refusal;
+use reader::Rows;
+use sheets::limits::{Limits, TABLES};
 use std::fmt;
-
-/// How many entries question 1 asks for, in the tables and in work; said here anew.
-pub const ENOUGH: usize = 8_192;
 
 /// How long the lent buffers are.
 #[derive(Clone, Copy, Debug, PartialEq, Eq)]
@@ -34,25 +33,25 @@ pub struct Lengths {
 
 impl Lengths {
     /// Just what question 1 asks for, and so many bytes of answer.
-    pub const fn exact(answer: usize) -> Lengths {
+    pub const fn exact(limits: Limits, answer: usize) -> Lengths {
         Lengths {
-            tables: ENOUGH,
-            work: ENOUGH,
+            tables: TABLES,
+            work: limits.work,
             answer,
         }
     }
 
     /// More than what question 1 asks for.
-    pub const fn longer(answer: usize) -> Lengths {
+    pub const fn longer(limits: Limits, answer: usize) -> Lengths {
         Lengths {
-            tables: ENOUGH + 37,
-            work: ENOUGH + 5,
+            tables: TABLES + 37,
+            work: limits.work + 5,
             answer,
         }
     }
 
-    pub fn enough(&self) -> bool {
-        self.tables >= ENOUGH && self.work >= ENOUGH
+    pub fn enough(&self, limits: Limits) -> bool {
+        self.tables >= TABLES && self.work >= limits.work
     }
 }
 
@@ -114,12 +113,26 @@ impl Due {
 
 /// A proved call, with what it is compared with.
 pub trait Call {
+    const LIMITS: Limits;
+
+    /// How many names the plain reader lets pass, by its own account.
+    const READER_NAMES: usize;
+
     fn call(
         sheet: &[u8],
         tables: &mut [u16],
         work: &mut [u64],
         answer: &mut [u8],
     ) -> Result<(), Refusal>;
+
+    /// Question 1 comes first; 2 to 6 are the plain reader's.
+    fn rows(sheet: &[u8], lengths: Lengths) -> Result<Rows, Refusal> {
+        if !lengths.enough(Self::LIMITS) {
+            return Err(refusal(1, 0));
+        }
+        let read = reader::read(sheet, Self::READER_NAMES);
+        read.map_err(|fault| refusal(fault.number, fault.line))
+    }
 
     fn due(sheet: &[u8], lengths: Lengths) -> Due;
 
@@ -138,8 +151,8 @@ impl<C: Call> Comparer<C> {
     /// With answers of so many bytes.
     fn new(answer: usize) -> Comparer<C> {
         Comparer {
-            exact: Lent::new(Lengths::exact(answer)),
-            longer: Lent::new(Lengths::longer(answer)),
+            exact: Lent::new(Lengths::exact(C::LIMITS, answer)),
+            longer: Lent::new(Lengths::longer(C::LIMITS, answer)),
             tally: Tally::default(),
         }
     }
@@ -152,6 +165,7 @@ impl<C: Call> Comparer<C> {
             &mut self.exact
         };
         self.tally.count(lent.compare(sheet)?);
+        self.tally.count_names(sheet);
         Ok(())
     }
 }

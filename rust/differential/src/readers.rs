@@ -4,4 +4,4 @@
 mod expected;
 pub mod parts;
 
-pub use expected::{rows, ReadCall};
+pub use expected::ReadCall;

@@ -12,10 +12,10 @@ const JUNK: u16 = 0xABCD;
 /// record holds.
 pub fn records(rows: &[u64]) -> Option<Vec<Definition>> {
     let record = |row: &[u64]| match *row {
-        [statement, name, low, high] => Some(Definition {
+        [statement, name, ref used @ ..] => Some(Definition {
             statement: statement.try_into().ok()?,
             name: name.try_into().ok()?,
-            used: [low, high],
+            used: used.try_into().ok()?,
         }),
         _ => None,
     };

@@ -1,9 +1,13 @@
 //! The exported reader beside the plain one: a short run of each part, and its examples.
 
-use differential::comparing::{Difference, Tally, ENOUGH};
+use differential::comparing::{Difference, Tally};
 use differential::readers::parts;
 use nokchbem::Refusal;
 use sheets::edges;
+use sheets::limits::{LIBRARY, TABLES};
+
+/// What the deepest sheets are read in. A reader has no sets of names, so their words do not count.
+const STACK: usize = 64 << 10;
 
 fn equal(run: Result<Tally, Difference>) -> Tally {
     let tally = run.unwrap_or_else(|difference| panic!("{difference}"));
@@ -14,8 +18,8 @@ fn equal(run: Result<Tally, Difference>) -> Tally {
 #[test]
 fn question_1_is_asked_first_and_at_its_edge() {
     let tally = equal(parts::lengths());
-    // Of seven lengths three are enough.
-    assert_eq!((tally.all(), tally[1]), (49 * 6, 40 * 6));
+    // Of seven lengths of tables three are enough, and of nine of work two.
+    assert_eq!((tally.all(), tally[1]), (63 * 6, 57 * 6));
 }
 
 #[test]
@@ -25,8 +29,8 @@ fn edges_come_out_the_same() {
 
 #[test]
 fn edges_come_out_as_specified() {
-    let (mut tables, mut work) = (vec![7; ENOUGH], vec![7; ENOUGH]);
-    for edge in edges::edges() {
+    let (mut tables, mut work) = (vec![7; TABLES], vec![7; LIBRARY.work]);
+    for edge in edges::edges(LIBRARY) {
         let expected = edge.expected.map_err(|fault| Refusal {
             number: fault.number,
             line: fault.line as u16,
@@ -70,12 +74,13 @@ fn generated_and_damaged_sheets_come_out_the_same() {
     let tally = equal(parts::generated(21, 20_000));
     assert_eq!(tally.all(), 20_000);
     assert!([0, 2, 3, 4, 5, 6].iter().all(|&number| tally[number] > 0));
+    assert!(3 * tally.many_names >= tally.all());
 }
 
 #[test]
 fn the_worked_example_is_in_the_tables() {
     let [_, worked, _] = parts::small_sheets();
-    let (mut tables, mut work) = (vec![7; ENOUGH], vec![7; ENOUGH]);
+    let (mut tables, mut work) = (vec![7; TABLES], vec![7; LIBRARY.work]);
     assert_eq!(nokchbem::read(&worked, &mut tables, &mut work), Ok(()));
     assert_eq!(tables[..8], [4, 0, 7, 2, 1, 0, 2, 0], "the head");
     assert_eq!(tables[276..284], [20, 0, 1, 1, 2, 3, 0, 0], "expression 1");
@@ -84,14 +89,15 @@ fn the_worked_example_is_in_the_tables() {
     assert_eq!(tables[4_379..4_386], [3, 1, 0, 0, 0, 0, 2], "statement 1");
     assert_eq!(tables[4_386..4_393], [3, 4, 0, 0, 0, 0, 0], "statement 2");
     assert_eq!(tables[5_276..5_278], [1, 0], "query 1 alone");
-    assert_eq!(work, [0; ENOUGH], "work");
+    assert_eq!(work, [0; LIBRARY.work], "work");
 }
 
 #[test]
 fn a_small_stack_is_enough() {
-    let sheets: Vec<Vec<u8>> = edges::edges().into_iter().map(|edge| edge.text).collect();
-    let (mut tables, mut work) = (vec![0; ENOUGH], vec![0; ENOUGH]);
-    let thread = std::thread::Builder::new().stack_size(64 << 10);
+    let edges = edges::edges(LIBRARY).into_iter();
+    let sheets: Vec<Vec<u8>> = edges.map(|edge| edge.text).collect();
+    let (mut tables, mut work) = (vec![0; TABLES], vec![0; LIBRARY.work]);
+    let thread = std::thread::Builder::new().stack_size(STACK);
     let call = move || {
         let read = |sheet: &Vec<u8>| nokchbem::read(sheet, &mut tables, &mut work).is_ok();
         sheets.iter().map(read).filter(|&passed| passed).count()

@@ -5,8 +5,13 @@ use differential::schedules::{both_calls, compare_random, compare_small, records
 use differential::walks::{relist, Walk};
 use nokchbem::Refusal;
 use sheets::examples;
-use sheets::lists::List;
+use sheets::lists::{Definition, List};
 use sheets::rng::Rng;
+
+/// What the longest rounds are scheduled in, in KiB: by the flat call, and by the one over records,
+/// which copies 640 of them.
+const FLAT_STACK: usize = 128;
+const RECORDS_STACK: usize = 256;
 
 const REFUSED: Result<bool, Refusal> = Err(Refusal {
     number: 8,
@@ -54,13 +59,17 @@ fn call(rows: &[u64], statements: usize, room: usize, marks: usize) -> Result<bo
 
 #[test]
 fn the_one_question_is_asked_at_its_edges() {
-    let row = |statement, name| [statement, name, 0, 0];
+    let row = |statement, name| [statement, name, 0, 0, 0, 0, 0, 0, 0, 0];
     assert_eq!(call(&[], 0, 0, 0), Ok(true), "nothing at all");
     assert_eq!(call(&[], 128, 128, 128), Ok(false), "128 bare statements");
     assert_eq!(call(&[], 129, 129, 129), REFUSED, "129 statements");
     assert_eq!(call(&[], usize::MAX, 4, 4), REFUSED, "any number of them");
-    assert_eq!(call(&row(0, 127), 1, 1, 1), Ok(true), "name 127");
-    assert_eq!(call(&row(0, 128), 1, 1, 1), REFUSED, "name 128");
+    for name in [127, 128, 510, 511] {
+        assert_eq!(call(&row(0, name), 1, 1, 1), Ok(true), "name {name}");
+    }
+    for name in [512, 513, 1_023, 1_024] {
+        assert_eq!(call(&row(0, name), 1, 1, 1), REFUSED, "name {name}");
+    }
     assert_eq!(call(&row(0, u64::MAX), 1, 1, 1), REFUSED, "any name");
     assert_eq!(
         call(&row(127, 0), 128, 128, 128),
@@ -71,7 +80,7 @@ fn the_one_question_is_asked_at_its_edges() {
     assert_eq!(call(&row(u64::MAX, 0), 1, 1, 1), REFUSED, "any statement");
     assert_eq!(call(&row(0, 0), 1, 0, 1), REFUSED, "a short order");
     assert_eq!(call(&row(0, 0), 1, 1, 0), REFUSED, "short marks");
-    for part in 1..4 {
+    for part in 1..10 {
         assert_eq!(call(&row(0, 0)[..part], 1, 1, 1), REFUSED, "part of a row");
     }
     let full = row(0, 0).repeat(640);
@@ -80,7 +89,7 @@ fn the_one_question_is_asked_at_its_edges() {
     assert_eq!(call(&over, 1, 1, 1), REFUSED, "641 definitions");
     let many = row(0, 0).repeat(100_000);
     assert_eq!(call(&many, 1, 1, 1), REFUSED, "any number of them");
-    assert_eq!(call(&full[..2559], 1, 1, 1), REFUSED, "639 and a part");
+    assert_eq!(call(&full[..6399], 1, 1, 1), REFUSED, "639 and a part");
     let name = u64::from(u16::MAX);
     assert_eq!(
         call(&row(0, name), 1, 1, 1),
@@ -89,13 +98,37 @@ fn the_one_question_is_asked_at_its_edges() {
     );
 }
 
+/// Each used name by itself: a definition waits for it, and no other name will do.
+#[test]
+fn every_name_is_told_from_every_other() {
+    let names = 0..sheets::lists::NAMES as u16;
+    for used in names.clone() {
+        let others = names.clone().filter(|&name| name != used);
+        let definition = |statement, name, used: Option<u16>| Definition {
+            statement,
+            name,
+            used: used.into_iter().collect(),
+        };
+        let mut definitions = vec![definition(0, 0, Some(used))];
+        definitions.extend(others.map(|name| definition(1, name, None)));
+        let mut list = List {
+            statements: 2,
+            definitions,
+        };
+        let scheduled = schedule(&list);
+        assert_eq!(scheduled.reached, [false, true], "name {used}");
+        list.definitions.push(definition(1, used, None));
+        let scheduled = schedule(&list);
+        assert_eq!((scheduled.placed, scheduled.order), (true, vec![1, 0]));
+    }
+}
+
 #[test]
 fn the_longest_rounds_are_placed() {
     for statements in [1, 2, 64, 127, 128] {
-        for repeats in [1, 5] {
-            let list = List::longest_rounds(statements, repeats);
-            let mut order: Vec<u16> = (0..statements.min(127)).rev().collect();
-            order.extend(127..statements);
+        for (repeats, apart) in [(1, 1), (5, 1), (1, 4), (5, 4)] {
+            let list = List::longest_rounds(statements, repeats, apart);
+            let order: Vec<u16> = (0..statements).rev().collect();
             let scheduled = schedule(&list);
             assert!(scheduled.placed);
             assert_eq!(scheduled.order, order);
@@ -105,7 +138,7 @@ fn the_longest_rounds_are_placed() {
 
 #[test]
 fn a_small_stack_is_enough() {
-    let rows = List::longest_rounds(128, 5).rows();
+    let rows = List::longest_rounds(128, 5, 4).rows();
     let records = records(&rows).expect("small numbers");
     let flat = move || {
         let (mut order, mut reached) = ([0; 128], [0; 128]);
@@ -116,7 +149,10 @@ fn a_small_stack_is_enough() {
         nokchbem::schedule_records(&records, 128, &mut order, &mut reached)
     };
     let stack = |kib: usize| std::thread::Builder::new().stack_size(kib << 10);
-    let calls = [stack(64).spawn(flat), stack(128).spawn(over_records)];
+    let calls = [
+        stack(FLAT_STACK).spawn(flat),
+        stack(RECORDS_STACK).spawn(over_records),
+    ];
     for call in calls {
         let placed = call.expect("a thread").join();
         assert_eq!(placed.expect("no overflow"), Ok(true));

@@ -9,7 +9,8 @@ fn main() -> Result<(), Box<dyn Error>> {
     let sheet = std::fs::read(path)?;
     let (mut tables, mut work) = (vec![0; TABLES_LENGTH], vec![0; WORK_LENGTH]);
     let mut answer = vec![0; 65_536];
-    let length = nokchbem::analyze(&sheet, &mut tables, &mut work, &mut answer)?;
+    let analyzed = nokchbem::analyze(&sheet, &mut tables, &mut work, &mut answer);
+    let length = analyzed.map_err(|refusal| refusal.to_string())?;
     std::io::stdout().write_all(&answer[..length])?;
     Ok(())
 }

@@ -3,47 +3,18 @@
 //! The exported functions demand nothing of their arguments beyond what a Rust slice is, so these
 //! wrappers are safe as they stand.
 
-use std::fmt;
+mod refusal;
 
-/// What an exported call refuses with: a number of the specification, and a position.
-#[derive(Clone, Copy, Debug, PartialEq, Eq)]
-pub struct Refusal {
-    pub number: u16,
-    pub line: u16,
-    pub col: u16,
-}
+pub use refusal::Refusal;
 
-impl Refusal {
-    /// Every exported call packs a refusal as number x 2^32 + line x 2^16 + col.
-    fn unpack(packed: u64) -> Refusal {
-        Refusal {
-            number: (packed >> 32) as u16,
-            line: (packed >> 16) as u16,
-            col: packed as u16,
-        }
-    }
-}
-
-impl fmt::Display for Refusal {
-    fn fmt(&self, f: &mut fmt::Formatter<'_>) -> fmt::Result {
-        write!(
-            f,
-            "refused with {} at line {}, column {}",
-            self.number, self.line, self.col
-        )
-    }
-}
-
-impl std::error::Error for Refusal {}
-
-/// A definition as a record: a statement, the name that it defines (0 is the empty one), and the set
-/// of names that it uses (name n is bit n % 64 of word n / 64).
+/// A definition as a record: a statement, the name that it defines (0 is the empty one, at most 511),
+/// and the set of names that it uses (name n is bit n % 64 of word n / 64).
 #[repr(C)]
 #[derive(Clone, Copy, Debug, Default, PartialEq, Eq)]
 pub struct Definition {
     pub statement: u16,
     pub name: u16,
-    pub used: [u64; 2],
+    pub used: [u64; 8],
 }
 
 extern "C" {
@@ -90,9 +61,9 @@ extern "C" {
 
 /// Puts statements into an order in which every name has a value when it is read.
 ///
-/// `definitions` are rows of four words: statement, name (0 is the empty one), and the two words
-/// of the set of used names. `order` receives the statements in order and `reached` a mark for
-/// each, 1 or 0; both hold zeros after the first `statements` entries. Answers whether all
+/// `definitions` are rows of ten words: statement, name (0 is the empty one, at most 511), and the
+/// eight words of the set of used names. `order` receives the statements in order and `reached` a
+/// mark for each, 1 or 0; both hold zeros after the first `statements` entries. Answers whether all
 /// statements were placed; where not, the order is the written one. A refusal (8) leaves zeros in
 /// both buffers.
 pub fn schedule(
@@ -150,7 +121,7 @@ fn placed(result: u64) -> Result<bool, Refusal> {
 
 /// How many entries [`read`] and [`analyze`] want at least, in the tables and in work.
 pub const TABLES_LENGTH: usize = 8_192;
-pub const WORK_LENGTH: usize = 8_192;
+pub const WORK_LENGTH: usize = 24_576;
 
 /// Reads a sheet into tables, and asks whether all of it is as it should be.
 ///
@@ -159,10 +130,10 @@ pub const WORK_LENGTH: usize = 8_192;
 /// section, counted from 1, stands at 8 + 4r (built-ins), 268 + 8r (expressions), 4372 + 7r
 /// (statements) or 5275 + r (queries); every other entry is 0.
 ///
-/// Refuses with the first of these numbers that applies: 1, a buffer is shorter than 8,192 entries;
-/// 2, the sheet has more than 32,768 bytes; 3, its form; 4, its names; 5, its counts; 6, its fields
-/// and nesting. The line is the first at fault, 0 for 1 and 2. A refusal leaves zeros in the
-/// tables; `work` is zeros afterwards in any case.
+/// Refuses with the first of these numbers that applies: 1, `tables` has fewer than 8,192 entries or
+/// `work` fewer than 24,576; 2, the sheet has more than 32,768 bytes; 3, its form; 4, its names; 5,
+/// its counts (at most 511 names); 6, its fields and nesting. The line is the first at fault, 0 for
+/// 1 and 2. A refusal leaves zeros in the tables; `work` is zeros afterwards in any case.
 pub fn read(sheet: &[u8], tables: &mut [u16], work: &mut [u64]) -> Result<(), Refusal> {
     // SAFETY: each pointer and length are one slice's, and the two written ones are exclusive.
     let result = unsafe {

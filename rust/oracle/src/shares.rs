@@ -3,6 +3,7 @@
 use crate::{analyze, NotAtHand, Outcome};
 use sheets::answer::{Answer, Placed};
 use sheets::census;
+use sheets::limits::PRINTING;
 use sheets::lists::Definition;
 use std::collections::{BTreeMap, BTreeSet};
 use std::fmt;
@@ -22,6 +23,8 @@ pub struct Shares {
     /// Sheets by feature.
     pub features: BTreeMap<String, usize>,
     pub bytes: usize,
+    /// Sheets with more names than the printing program takes.
+    pub many_names: usize,
     /// Analyses of a query that had been analysed before.
     pub analysed_again: usize,
     /// Those of them with another answer.
@@ -53,6 +56,7 @@ impl Shares {
         let run = analyze(sheet)?;
         self.sheets += 1;
         self.bytes += sheet.text().len();
+        self.many_names += usize::from(sheet.names.len() > PRINTING.names);
         for feature in census::features_of(sheet) {
             *self.features.entry(feature).or_default() += 1;
         }
@@ -113,6 +117,7 @@ impl fmt::Display for Shares {
         let all = self.sheets;
         writeln!(f, "sheets             {all}")?;
         writeln!(f, "mean bytes         {}", self.bytes / all.max(1))?;
+        writeln!(f, "over 127 names    {}", share(self.many_names, all))?;
         writeln!(f, "accepted          {}", share(self.accepted, all))?;
         for number in 11..=14 {
             let count = self.refusals(number);

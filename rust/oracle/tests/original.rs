@@ -69,6 +69,7 @@ mod with_the_original {
         }
         assert!(share(shares.unplaced, shares.accepted) >= 0.2);
         assert!(share(shares.too_long, shares.sheets) <= 0.01);
+        assert!(share(shares.many_names, shares.sheets) >= 1.0 / 3.0);
     }
 
     #[test]

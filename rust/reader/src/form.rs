@@ -1,13 +1,12 @@
 //! Question 3, the form of the text, and question 5, the counts.
 
-/// The sections: heading, how many values a row has (0: any line that is not empty), and how many
-/// rows there may be.
-const SECTIONS: [(&[u8], usize, usize); 5] = [
-    (b"name", 0, 127),
-    (b"arity first second third", 4, 64),
-    (b"kind name line col first second third next", 8, 512),
-    (b"form first second third query with next", 7, 128),
-    (b"statement", 1, 32),
+/// The sections: heading, and how many values a row has (0: any line that is not empty).
+const SECTIONS: [(&[u8], usize); 5] = [
+    (b"name", 0),
+    (b"arity first second third", 4),
+    (b"kind name line col first second third next", 8),
+    (b"form first second third query with next", 7),
+    (b"statement", 1),
 ];
 
 /// What a sheet holds. Rows count from 1, so row `r` stands at index `r - 1`.
@@ -26,7 +25,7 @@ pub fn read(sheet: &[u8]) -> Result<Rows, usize> {
     let missing = lines.len() + 1;
     let mut rows = Rows::default();
     let mut at = 0;
-    for (index, (heading, width, _)) in SECTIONS.into_iter().enumerate() {
+    for (index, (heading, width)) in SECTIONS.into_iter().enumerate() {
         if *lines.get(at).ok_or(missing)? != heading {
             return Err(at + 1);
         }
@@ -89,8 +88,8 @@ impl Rows {
     }
 
     /// The line of the first row over its section's limit, or of `statement` where no query is.
-    pub(crate) fn counts(&self) -> Result<(), usize> {
-        for (section, (_, _, limit)) in SECTIONS.into_iter().enumerate() {
+    pub(crate) fn counts(&self, most_names: usize) -> Result<(), usize> {
+        for (section, limit) in [most_names, 64, 512, 128, 32].into_iter().enumerate() {
             if self.section_rows(section) > limit {
                 return Err(self.line(section, limit + 1));
             }

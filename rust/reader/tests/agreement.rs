@@ -1,11 +1,18 @@
 //! The plain reader and the generator's own check, written apart, answer the same.
 
 use reader::{read, Refusal};
+use sheets::limits::{self, Limits};
 use sheets::rng::Rng;
 use sheets::{check, damage, edges, generate};
 
-fn own_check(text: &[u8]) -> Result<(), Refusal> {
-    check::check_text(text)
+/// The limits of the library and of the printing program, by both accounts.
+const BOTH: [(usize, Limits); 2] = [
+    (reader::LIBRARY, limits::LIBRARY),
+    (reader::PRINTING, limits::PRINTING),
+];
+
+fn own_check(text: &[u8], limits: Limits) -> Result<(), Refusal> {
+    check::check_text(text, limits)
         .map(|_| ())
         .map_err(|fault| Refusal {
             number: fault.number,
@@ -13,26 +20,35 @@ fn own_check(text: &[u8]) -> Result<(), Refusal> {
         })
 }
 
-fn plain(text: &[u8]) -> Result<(), Refusal> {
-    read(text).map(|_| ())
+fn plain(text: &[u8], most_names: usize) -> Result<(), Refusal> {
+    read(text, most_names).map(|_| ())
 }
 
 #[test]
-fn generated_sheets_pass() {
+fn generated_sheets_pass_where_they_may() {
     for seed in 1..=3_000 {
-        let sheet = generate::sheet(seed);
-        assert_eq!(plain(sheet.text().as_bytes()), Ok(()), "seed {seed}");
+        let text = generate::sheet(seed).text();
+        for (most_names, limits) in BOTH {
+            let due = own_check(text.as_bytes(), limits);
+            assert_eq!(plain(text.as_bytes(), most_names), due, "seed {seed}");
+        }
+        let text = generate::few(seed).text();
+        for (most_names, _) in BOTH {
+            assert_eq!(plain(text.as_bytes(), most_names), Ok(()), "seed {seed}");
+        }
     }
 }
 
 #[test]
 fn edges_answer_as_expected() {
-    for edge in edges::edges() {
-        let expected = edge.expected.map_err(|fault| Refusal {
-            number: fault.number,
-            line: fault.line,
-        });
-        assert_eq!(plain(&edge.text), expected, "{}", edge.label);
+    for (most_names, limits) in BOTH {
+        for edge in edges::edges(limits) {
+            let expected = edge.expected.map_err(|fault| Refusal {
+                number: fault.number,
+                line: fault.line,
+            });
+            assert_eq!(plain(&edge.text, most_names), expected, "{}", edge.label);
+        }
     }
 }
 
@@ -43,6 +59,9 @@ fn damaged_sheets_answer_the_same() {
         let text = generate::sheet(seed % 3_000 + 1).text();
         let damaged = damage::damage(text.as_bytes(), &mut rng);
         let shown = String::from_utf8_lossy(&damaged);
-        assert_eq!(plain(&damaged), own_check(&damaged), "{shown}");
+        for (most_names, limits) in BOTH {
+            let due = own_check(&damaged, limits);
+            assert_eq!(plain(&damaged, most_names), due, "{shown}");
+        }
     }
 }

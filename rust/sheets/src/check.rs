@@ -6,7 +6,8 @@ mod fields;
 mod naming;
 mod rows;
 
-use crate::sheet::{limits, Sheet};
+use crate::sheet::limits::{self, Limits};
+use crate::sheet::Sheet;
 use std::fmt;
 
 /// A refusal by one of questions 2 to 6.
@@ -28,13 +29,13 @@ impl std::error::Error for Fault {}
 
 /// Puts questions 2, 4, 5 and 6 to a sheet of rows. Rows have the form of question 3, but for
 /// a name that is empty or holds a line end; such a name is refused as question 4's.
-pub fn check(sheet: &Sheet) -> Result<(), Fault> {
+pub fn check(sheet: &Sheet, limits: Limits) -> Result<(), Fault> {
     check_length(sheet.text().len())?;
-    check_rows(sheet)
+    check_rows(sheet, limits)
 }
 
 /// Puts questions 2 to 6 to a text, and gives its rows if it passes.
-pub fn check_text(text: &[u8]) -> Result<Sheet, Fault> {
+pub fn check_text(text: &[u8], limits: Limits) -> Result<Sheet, Fault> {
     check_length(text.len())?;
     // Replacing bytes that are no UTF-8 neither adds nor removes line ends, and leaves a line
     // that is no name, no heading and no row of values.
@@ -43,7 +44,7 @@ pub fn check_text(text: &[u8]) -> Result<Sheet, Fault> {
         number: 3,
         line: malformed.line,
     })?;
-    check_rows(&sheet)?;
+    check_rows(&sheet, limits)?;
     Ok(sheet)
 }
 
@@ -54,14 +55,14 @@ fn check_length(bytes: usize) -> Result<(), Fault> {
     Ok(())
 }
 
-fn check_rows(sheet: &Sheet) -> Result<(), Fault> {
+fn check_rows(sheet: &Sheet, limits: Limits) -> Result<(), Fault> {
     let lines = Lines::of(sheet);
     let first_fault = |number, line: Option<usize>| match line {
         Some(line) => Err(Fault { number, line }),
         None => Ok(()),
     };
     first_fault(4, bad_name(sheet).map(|row| lines.name(row)))?;
-    first_fault(5, count_out_of_bounds(sheet, &lines))?;
+    first_fault(5, count_out_of_bounds(sheet, &lines, limits))?;
     first_fault(6, rows::first_line_at_fault(sheet, &lines))
 }
 
@@ -132,9 +133,9 @@ fn is_identifier(name: &str) -> bool {
 
 /// Question 5: the line of the first row over a limit, or of the last heading if no query is
 /// below it.
-fn count_out_of_bounds(sheet: &Sheet, lines: &Lines) -> Option<usize> {
+fn count_out_of_bounds(sheet: &Sheet, lines: &Lines, limits: Limits) -> Option<usize> {
     let most = [
-        limits::NAMES,
+        limits.names,
         limits::BUILTINS,
         limits::EXPRESSIONS,
         limits::STATEMENTS,

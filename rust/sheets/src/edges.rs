@@ -1,14 +1,19 @@
 //! The edges of the specification: one below, at and one above each limit, and the smallest
 //! and deepest sheets. Every expected result is written from the specification; none is
 //! computed by [`crate::check`].
+//!
+//! The library and the printing program have the same edges, with other results where names count.
 
 mod counts;
 mod deep;
+mod long;
+mod rows_of_names;
 mod shapes;
 mod texts;
 mod twice;
 
 use crate::check::Fault;
+use crate::sheet::limits::Limits;
 use crate::sheet::Sheet;
 use crate::tree::{Expr, Literal, Node, Query, Snippet, Statement};
 
@@ -23,13 +28,16 @@ pub struct Edge {
     pub expected: Result<(), Fault>,
 }
 
-/// All edges.
-pub fn edges() -> Vec<Edge> {
+/// All edges, with what these limits make of them.
+pub fn edges(limits: Limits) -> Vec<Edge> {
+    let most_names = limits.names;
     let mut edges = Vec::new();
-    counts::add(&mut edges);
-    shapes::add(&mut edges);
+    counts::add(&mut edges, most_names);
+    rows_of_names::add(&mut edges, most_names);
+    shapes::add(&mut edges, most_names);
     deep::add(&mut edges);
-    texts::add(&mut edges);
+    long::add(&mut edges, most_names);
+    texts::add(&mut edges, most_names);
     twice::add(&mut edges);
     edges
 }
@@ -55,12 +63,24 @@ impl Edge {
             expected: Err(Fault { number, line }),
         }
     }
+
+    /// Of a sheet that is refused for its names where there are too many, and else passes.
+    fn by_names(label: impl Into<String>, sheet: &Sheet, most_names: usize) -> Edge {
+        if sheet.names.len() <= most_names {
+            Edge::passes(label, sheet.text())
+        } else {
+            // The first name over the limit.
+            let line = headings(sheet).name + most_names + 1;
+            Edge::refused(label, sheet.text(), 5, line)
+        }
+    }
 }
 
 /// The limits once more, written from the specification, so that a slip elsewhere shows.
 mod limits {
     pub(super) const BYTES: usize = 32_768;
-    pub(super) const NAMES: usize = 127;
+    /// Of the printing program and of the library.
+    pub(super) const NAMES: [usize; 2] = [127, 511];
     pub(super) const NAME_BYTES: usize = 32;
     pub(super) const BUILTINS: usize = 64;
     pub(super) const ARITY: u16 = 255;
@@ -117,7 +137,12 @@ fn plain(e: Expr) -> Statement {
 
 /// `count` names, ascending.
 fn names(count: usize) -> Vec<String> {
-    (1..=count).map(|i| format!("n{i:04}")).collect()
+    (1..=count).map(name).collect()
+}
+
+/// The name of a row, where no other names stand between.
+fn name(row: usize) -> String {
+    format!("n{row:04}")
 }
 
 /// The sheet of an outer query.

@@ -20,4 +20,4 @@ pub mod small;
 pub mod tree;
 pub mod vectors;
 
-pub use sheet::{limits, Form, Kind, Sheet};
+pub use sheet::{limits, limits::Limits, Form, Kind, Sheet};

@@ -2,10 +2,12 @@
 
 use crate::rng::Rng;
 
-/// The names that a list may use: the empty one, 0, and 127 more.
-pub const NAMES: usize = 128;
-/// The words of a row: statement, name, and two words of used names.
-pub const ROW: usize = 4;
+/// The names that a list may use: the empty one, 0, and 511 more.
+pub const NAMES: usize = 512;
+/// The words of a set of names.
+pub const SET: usize = NAMES / 64;
+/// The words of a row: statement, name, and the set of used names.
+pub const ROW: usize = 2 + SET;
 
 /// A definition by numbers; name 0 is the empty name.
 #[derive(Clone, Debug, Default, PartialEq, Eq)]
@@ -36,28 +38,35 @@ impl List {
     pub fn rows(&self) -> Vec<u64> {
         let mut rows = Vec::with_capacity(ROW * self.definitions.len());
         for d in &self.definitions {
-            let mut used = [0u64; 2];
+            let mut used = [0u64; SET];
             for &name in &d.used {
                 used[usize::from(name) / 64] |= 1 << (name % 64);
             }
-            rows.extend([u64::from(d.statement), u64::from(d.name), used[0], used[1]]);
+            rows.extend([u64::from(d.statement), u64::from(d.name)]);
+            rows.extend(used);
         }
         rows
     }
 
     /// A list of any size up to the limits; mostly small.
     pub fn random(rng: &mut Rng) -> List {
+        List::random_of(rng, any_names)
+    }
+
+    /// The same with names up to 127 alone.
+    pub fn random_few(rng: &mut Rng) -> List {
+        List::random_of(rng, few_names)
+    }
+
+    /// A random list over the names that are chosen for it.
+    fn random_of(rng: &mut Rng, choose: fn(&mut Rng) -> Vec<u16>) -> List {
         let (statements, most) = match rng.weighted(&[40, 40, 14, 6]) {
             0 => (rng.between(0, 4), 8),
             1 => (rng.between(3, 12), 40),
             2 => (rng.between(13, 60), 200),
             _ => (rng.between(60, 128), 640),
         };
-        let names = match rng.weighted(&[30, 40, 30]) {
-            0 => rng.between(1, 4),
-            1 => rng.between(3, 20),
-            _ => NAMES,
-        };
+        let names = choose(rng);
         let uses = *rng.pick(&[1, 1, 2, 3, 6]);
         let mut definitions = Vec::new();
         for statement in 0..statements {
@@ -67,8 +76,10 @@ impl List {
             for _ in 0..rng.between(low, high) {
                 definitions.push(Definition {
                     statement: statement as u16,
-                    name: name(rng, names),
-                    used: (0..rng.below(uses + 1)).map(|_| name(rng, names)).collect(),
+                    name: name(rng, &names),
+                    used: (0..rng.below(uses + 1))
+                        .map(|_| name(rng, &names))
+                        .collect(),
                 });
             }
         }
@@ -81,29 +92,17 @@ impl List {
     }
 
     /// A list that takes as many rounds as there are statements: each waits for the one after it,
-    /// and the names go the other way.
-    pub fn longest_rounds(statements: u16, repeats: usize) -> List {
+    /// and the names go the other way, so far apart.
+    pub fn longest_rounds(statements: u16, repeats: usize, apart: u16) -> List {
+        let name = |statement: u16| 1 + apart * statement;
         let mut definitions = Vec::new();
-        for statement in 0..statements.min(127) {
-            let used = if statement + 1 < statements.min(127) {
-                vec![statement + 2]
-            } else {
-                Vec::new()
-            };
+        for statement in 0..statements {
+            let used = (statement + 1 < statements).then(|| name(statement + 1));
             for _ in 0..repeats {
                 definitions.push(Definition {
                     statement,
-                    name: statement + 1,
-                    used: used.clone(),
-                });
-            }
-        }
-        for statement in 127..statements {
-            for _ in 0..repeats {
-                definitions.push(Definition {
-                    statement,
-                    name: 0,
-                    used: vec![1],
+                    name: name(statement),
+                    used: used.into_iter().collect(),
                 });
             }
         }
@@ -151,12 +150,37 @@ fn extend(list: &mut List, all: &[Definition], more: usize, visit: &mut impl FnM
     }
 }
 
-/// A name below `names`; the empty one often.
-fn name(rng: &mut Rng, names: usize) -> u16 {
+/// One of the names; the empty one often.
+fn name(rng: &mut Rng, names: &[u16]) -> u16 {
     if rng.percent(25) {
         0
     } else {
-        rng.below(names) as u16
+        *rng.pick(names)
+    }
+}
+
+/// The first few names, some more, or 128.
+fn few_names(rng: &mut Rng) -> Vec<u16> {
+    let count = match rng.weighted(&[30, 40, 30]) {
+        0 => rng.between(1, 4),
+        1 => rng.between(3, 20),
+        _ => 128,
+    };
+    (0..count as u16).collect()
+}
+
+/// Few names; or all, some from anywhere, or those about the borders of a set's words.
+fn any_names(rng: &mut Rng) -> Vec<u16> {
+    let end = NAMES as u16;
+    match rng.weighted(&[40, 10, 25, 25]) {
+        0 => few_names(rng),
+        1 => (0..end).collect(),
+        2 => (0..rng.between(3, 20))
+            .map(|_| rng.below(NAMES) as u16)
+            .collect(),
+        _ => (0..end)
+            .filter(|name| matches!(name % 64, 0 | 63))
+            .collect(),
     }
 }
 

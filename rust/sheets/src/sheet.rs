@@ -4,8 +4,28 @@ use std::fmt::Write;
 
 /// The limits of a sheet, as the specification lists them.
 pub mod limits {
+    /// What the two programs differ in: how many names a sheet may have, and how many words of work
+    /// question 1 asks for.
+    #[derive(Clone, Copy, Debug, PartialEq, Eq)]
+    pub struct Limits {
+        pub names: usize,
+        pub work: usize,
+    }
+
+    /// Every exported call has these.
+    pub const LIBRARY: Limits = Limits {
+        names: 511,
+        work: 24_576,
+    };
+    /// The printing program keeps these.
+    pub const PRINTING: Limits = Limits {
+        names: 127,
+        work: 8_192,
+    };
+
+    /// How many entries of the tables question 1 asks for.
+    pub const TABLES: usize = 8_192;
     pub const BYTES: usize = 32_768;
-    pub const NAMES: usize = 127;
     pub const NAME_BYTES: usize = 32;
     pub const BUILTINS: usize = 64;
     pub const ARITY: u16 = 255;

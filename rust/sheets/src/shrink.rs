@@ -6,6 +6,7 @@ mod walk;
 use crate::check::check;
 use crate::layout::Numbering;
 use crate::rng::Rng;
+use crate::sheet::limits::LIBRARY;
 use crate::sheet::{Form, Kind, Sheet};
 use crate::tree::Snippet;
 use edits::Edit;
@@ -13,7 +14,8 @@ use edits::Edit;
 /// How often [`shrink`] calls the predicate at most.
 pub const MOST_CALLS: usize = 20_000;
 
-/// A smaller valid sheet on which `still_fails` holds.
+/// A smaller valid sheet on which `still_fails` holds. Valid is what the library takes; the printing
+/// program takes no other.
 ///
 /// The sheet is taken apart into its trees, and whatever can go goes, greedily, until no single
 /// step helps. Rows come out in reading order, unless the failure needs another order; where no
@@ -22,7 +24,7 @@ pub const MOST_CALLS: usize = 20_000;
 /// # Panics
 /// Where the sheet is not valid.
 pub fn shrink(sheet: &Sheet, still_fails: impl FnMut(&Sheet) -> bool) -> Sheet {
-    if let Err(fault) = check(sheet) {
+    if let Err(fault) = check(sheet, LIBRARY) {
         panic!("only a valid sheet can be shrunk: {fault}");
     }
     let mut trial = Trial {
@@ -62,7 +64,7 @@ struct Trial<F> {
 
 impl<F: FnMut(&Sheet) -> bool> Trial<F> {
     fn fails(&mut self, sheet: &Sheet) -> bool {
-        if self.calls_left == 0 || check(sheet).is_err() {
+        if self.calls_left == 0 || check(sheet, LIBRARY).is_err() {
             return false;
         }
         self.calls_left -= 1;

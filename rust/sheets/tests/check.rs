@@ -4,6 +4,7 @@ mod small_trees;
 
 use sheets::check::{check, check_text, Fault};
 use sheets::layout::Numbering;
+use sheets::limits::PRINTING;
 use sheets::rng::Rng;
 use sheets::sheet::{BuiltinRow, ExprRow, Form, Kind, StatementRow, HEADINGS};
 use sheets::tree::{Literal, Node, Query, Snippet, Statement};
@@ -34,15 +35,20 @@ fn line_of(sheet: &Sheet, at: At) -> usize {
 /// The sheet passes, and after the change it is refused by question 6 at one row.
 #[track_caller]
 fn refused(sheet: &Sheet, change: impl FnOnce(&mut Sheet), at: At) {
-    assert_eq!(check(sheet), Ok(()), "before the change");
+    assert_eq!(check(sheet, PRINTING), Ok(()), "before the change");
     let mut changed = sheet.clone();
     change(&mut changed);
     let fault = Fault {
         number: 6,
         line: line_of(&changed, at),
     };
-    assert_eq!(check(&changed), Err(fault), "{at:?}\n{}", changed.text());
-    let from_text = check_text(changed.text().as_bytes());
+    assert_eq!(
+        check(&changed, PRINTING),
+        Err(fault),
+        "{at:?}\n{}",
+        changed.text()
+    );
+    let from_text = check_text(changed.text().as_bytes(), PRINTING);
     assert_eq!(from_text, Err(fault), "{at:?} from the text");
 }
 
@@ -57,8 +63,8 @@ fn every(domain: sheets::tree::Expr, body: Vec<Statement>) -> Statement {
 
 #[test]
 fn the_worked_example_passes_and_reads_back() {
-    let sheet = check_text(WORKED_EXAMPLE.as_bytes()).expect("a valid sheet");
-    assert_eq!(check(&sheet), Ok(()));
+    let sheet = check_text(WORKED_EXAMPLE.as_bytes(), PRINTING).expect("a valid sheet");
+    assert_eq!(check(&sheet, PRINTING), Ok(()));
     assert_eq!(sheet.text(), WORKED_EXAMPLE);
 }
 
@@ -70,8 +76,8 @@ fn sheets_of_trees_pass_and_read_back() {
         let shuffled = Numbering::Shuffled(Rng::new(seed));
         for sheet in [snippet.sheet(), snippet.numbered(shuffled)] {
             let text = sheet.text();
-            assert_eq!(check(&sheet), Ok(()), "{text}");
-            let read = check_text(text.as_bytes());
+            assert_eq!(check(&sheet, PRINTING), Ok(()), "{text}");
+            let read = check_text(text.as_bytes(), PRINTING);
             assert_eq!(read.as_ref(), Ok(&sheet));
             assert_eq!(read.map(|s| s.text()), Ok(text));
             assert_eq!(Snippet::of_sheet(&sheet).query, snippet.query);
@@ -335,7 +341,7 @@ fn the_first_row_that_is_too_deep() {
     let nest = |first: sheets::tree::Expr| {
         (0..7).fold(first, |inner, _| compr(number(), vec![plain(inner)]))
     };
-    assert_eq!(check(&of(vec![plain(nest(number()))])), Ok(()));
+    assert_eq!(check(&of(vec![plain(nest(number()))]), PRINTING), Ok(()));
     let two = array(vec![
         number(),
         compr(number(), vec![]),
@@ -344,7 +350,7 @@ fn the_first_row_that_is_too_deep() {
     let deep = of(vec![plain(nest(two))]);
     // Seven comprehensions, the array and its first item come before.
     let line = line_of(&deep, At::Expr(10));
-    assert_eq!(check(&deep), Err(Fault { number: 6, line }));
+    assert_eq!(check(&deep, PRINTING), Err(Fault { number: 6, line }));
 }
 
 #[test]
@@ -363,12 +369,12 @@ fn every_kind_and_form_is_asked_for_its_fields() {
                 | Kind::Set
                 | Kind::Object
         );
-        assert_eq!(check(&sheet).is_ok(), nothing_needed, "{kind:?}");
+        assert_eq!(check(&sheet, PRINTING).is_ok(), nothing_needed, "{kind:?}");
     }
     for &form in Form::ALL {
         let mut sheet = of(vec![plain(var("x"))]);
         sheet.statements[0].form = form as u16;
         let one_needed = matches!(form, Form::SomeVars | Form::Expr | Form::NotExpr);
-        assert_eq!(check(&sheet).is_ok(), one_needed, "{form:?}");
+        assert_eq!(check(&sheet, PRINTING).is_ok(), one_needed, "{form:?}");
     }
 }

@@ -4,6 +4,7 @@
 use sheets::answer::{Answer, Placed, QueryAnswer, Set};
 use sheets::check::check;
 use sheets::differences::DIFFERENCES;
+use sheets::limits::PRINTING;
 use std::fmt::Write;
 
 const PAGE: &str = include_str!("../../../docs/DIFFERENCES.md");
@@ -91,6 +92,6 @@ fn the_page_says_what_the_original_answers() {
 fn the_sheets_pass_questions_2_to_6() {
     for difference in DIFFERENCES {
         let sheet = difference.sheet();
-        assert_eq!(check(&sheet), Ok(()), "{}", difference.label());
+        assert_eq!(check(&sheet, PRINTING), Ok(()), "{}", difference.label());
     }
 }

@@ -4,6 +4,7 @@ mod small_trees;
 
 use sheets::check::check;
 use sheets::layout::Numbering;
+use sheets::limits::LIBRARY;
 use sheets::rng::Rng;
 use sheets::shrink::{shrink, MOST_CALLS};
 use sheets::tree::{Builtin, Expr, Query, Snippet};
@@ -64,7 +65,7 @@ fn large(count: usize, property: fn(&Sheet) -> bool) -> Vec<Snippet> {
                 .extend(trees.snippet().query.statements);
         }
         let sheet = snippet.sheet();
-        if sheet.exprs.len() > 60 && check(&sheet).is_ok() && property(&sheet) {
+        if sheet.exprs.len() > 60 && check(&sheet, LIBRARY).is_ok() && property(&sheet) {
             found.push(snippet);
         }
     }
@@ -76,11 +77,11 @@ fn shrunk(sheet: &Sheet, property: impl Fn(&Sheet) -> bool) -> Sheet {
     let mut calls = 0;
     let small = shrink(sheet, |candidate| {
         calls += 1;
-        assert_eq!(check(candidate), Ok(()));
+        assert_eq!(check(candidate, LIBRARY), Ok(()));
         property(candidate)
     });
     assert!(calls <= MOST_CALLS);
-    assert_eq!(check(&small), Ok(()));
+    assert_eq!(check(&small, LIBRARY), Ok(()));
     assert!(property(&small));
     small
 }
@@ -120,11 +121,11 @@ fn what_a_property_needs_stays() {
 #[test]
 fn names_may_be_needed_for_their_number() {
     let property = |sheet: &Sheet| {
-        let late = |name: u16| name >= 64;
+        let late = |name: u16| name >= 192;
         sheet.exprs.iter().any(|row| late(row.name))
     };
     let snippet = Snippet {
-        spare_names: (0..120).map(|i| format!("n{i:03}")).collect(),
+        spare_names: (0..400).map(|i| format!("n{i:03}")).collect(),
         builtins: vec![Builtin {
             arity: 1,
             path: vec!["n001".into(), "n002".into()],
@@ -134,7 +135,7 @@ fn names_may_be_needed_for_their_number() {
     let small = shrunk(&snippet.sheet(), property);
     assert_eq!(
         (small.names.len(), small.exprs.len()),
-        (64, 1),
+        (192, 1),
         "{}",
         small.text()
     );
@@ -172,5 +173,5 @@ fn the_number_of_calls_is_bounded() {
         candidate.exprs.len() == rows
     });
     assert!(calls <= MOST_CALLS, "{calls}");
-    assert_eq!(check(&small), Ok(()));
+    assert_eq!(check(&small, LIBRARY), Ok(()));
 }

@@ -2,6 +2,7 @@
 //! left out.
 
 use sheets::check::check;
+use sheets::limits::PRINTING;
 use sheets::sheet::{ExprRow, StatementRow};
 use sheets::small::{snippets, Kinds, Listing};
 use sheets::tree::Snippet;
@@ -32,7 +33,7 @@ fn they_are_valid_and_no_two_alike() {
     let mut texts = BTreeSet::new();
     let (mut kinds, mut forms) = (BTreeSet::new(), BTreeSet::new());
     for sheet in sheets(&family) {
-        assert_eq!(check(&sheet), Ok(()), "{}", sheet.text());
+        assert_eq!(check(&sheet, PRINTING), Ok(()), "{}", sheet.text());
         kinds.extend(sheet.exprs.iter().map(|row| row.kind));
         forms.extend(sheet.statements.iter().map(|row| row.form));
         texts.insert(sheet.text());
@@ -70,7 +71,7 @@ fn valid(rows: impl Iterator<Item = (Vec<ExprRow>, StatementRow)>) -> BTreeSet<S
         (sheet.exprs, sheet.statements) = (exprs, vec![statement]);
         for queries in [vec![1], vec![1, 0], vec![1, 0, 0]] {
             sheet.queries = queries;
-            if check(&sheet).is_ok() {
+            if check(&sheet, PRINTING).is_ok() {
                 texts.insert(Snippet::of_sheet(&sheet).sheet().text());
             }
         }

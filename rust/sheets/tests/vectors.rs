@@ -1,6 +1,7 @@
 //! The fixed list of sheets and answers, replayed against the text formats.
 
 use sheets::answer::{Answer, Placed};
+use sheets::limits::{LIBRARY, PRINTING};
 use sheets::vectors::{self, Vector};
 use sheets::{check, examples, Sheet};
 
@@ -12,7 +13,7 @@ fn list() -> Vec<Vector> {
 
 #[test]
 fn the_list_is_small_and_whole() {
-    assert!(LIST.len() <= 1_000_000, "{} bytes", LIST.len());
+    assert!(LIST.len() <= 1_300_000, "{} bytes", LIST.len());
     assert!(list().len() >= 300, "{} sheets", list().len());
     let title = LIST
         .lines()
@@ -36,8 +37,24 @@ fn sheets_are_valid_and_read_back() {
     for vector in list() {
         let sheet = Sheet::read(&vector.sheet).unwrap_or_else(|e| panic!("{}: {e}", vector.label));
         assert_eq!(sheet.text(), vector.sheet, "{}", vector.label);
-        assert_eq!(check::check(&sheet), Ok(()), "{}", vector.label);
+        assert_eq!(check::check(&sheet, LIBRARY), Ok(()), "{}", vector.label);
     }
+}
+
+#[test]
+fn some_have_more_names_than_the_printing_program_takes() {
+    let names = |vector: &Vector| Sheet::read(&vector.sheet).expect("a sheet").names.len();
+    let counts: Vec<usize> = list().iter().map(names).collect();
+    let few = counts.iter().filter(|&&count| count <= PRINTING.names);
+    assert!(few.count() >= 1_000);
+    for words in 3..=8 {
+        let of_words = |count: &&usize| **count / 64 + 1 == words;
+        assert!(
+            counts.iter().filter(of_words).count() >= 30,
+            "{words} words"
+        );
+    }
+    assert!(counts.contains(&LIBRARY.names));
 }
 
 #[test]

@@ -18,7 +18,7 @@ same-length c = search needs
 
 returns : tie.Need-returns
 returns c =
-    put-all _ _ _ _ _ _ _ _ _ _ (c .before .before .before .before .before .before .before .before .before .before .put-queries .ensures) (c .before .before .before .before .before .before .put-places .ensures) (c .before .before .put-sets .ensures)
+    put-all _ _ _ _ _ _ _ _ _ _ _ (c .before .before .before .before .before .before .before .before .before .before .put-queries .ensures) (c .before .before .before .before .before .before .put-places .ensures) (c .before .before .put-sets .ensures)
 
 pub put-answer-spec : {M : Type 1} → statement M
 put-answer-spec =

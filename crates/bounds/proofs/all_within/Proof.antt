@@ -1,74 +1,84 @@
 -- The loop's invariant: whether the definitions from row k on pass decides.
-use mathlib.Core.Path.{_≡_, sym, _∙_}
-use Prim.Native.Nat.{_≤_, _-_}
+use mathlib.Core.Path.{_≡_, refl, sym, ap, _∙_}
+use Prim.Native.Nat.{ℕ, _≤_, _-_, _/_}
+use native.Mathlib.Nat.{div-le-self}
 use native.Mathlib.Omega.{arith}
+use lib.ListN.{length}
 use borrow.Author.Needs.{needs}
+use Rattle.widths.specs.Widths.{limits, names, row}
+use Rattle.widths.specs.Laws.{row-two}
+use Rattle.rows.specs.Rows.{rowCount}
 use Rattle.bounds.specs.RowTests.{withinFrom, within-all, within-none, row-within, statement-out, name-out}
 use Rattle.bounds.proofs.all_within.Statement.{statement}
 use Rattle.bounds.proofs.all_within.Tie as tie
 
 abbrev Inv-loop : tie.InvT-loop
-Inv-loop rows n count k₀ k = withinFrom rows n k ≡ withinFrom rows n 0
+Inv-loop width rows n count most k₀ k =
+    (count ≡ rowCount (row width) rows) × (most ≡ names width) × (withinFrom (limits width) rows n k ≡ withinFrom (limits width) rows n 0)
 
 abbrev μ-loop : tie.MeasureT-loop
-μ-loop rows n count k₀ k = count - k
+μ-loop width rows n count most k₀ k = count - k
+
+row-requires : tie.Need-row-requires Inv-loop μ-loop
+row-requires c κs = search needs
+
+div-count : tie.Need-div-count Inv-loop μ-loop
+div-count c = omega (arith, c .row .ensures, row-two (c .before .before .args .width))
+
+names-requires : tie.Need-names-requires Inv-loop μ-loop
+names-requires c κs = search needs
 
 loop-holds : tie.Need-loop-holds Inv-loop μ-loop
-loop-holds c = search needs
+loop-holds c =
+    let count = c .before in
+    (ap (λ (v : ℕ). length (count .before .before .args .rows .now) / v) (count .row .ensures), c .names .ensures, refl)
 
-mul-if1 : tie.Need-mul-if1 Inv-loop μ-loop
-mul-if1 c = search needs
-
-mul-if1-2 : tie.Need-mul-if1-2 Inv-loop μ-loop
-mul-if1-2 c = search needs
-
-shared-slice-read-if1 : tie.Need-shared-slice-read-if1 Inv-loop μ-loop
-shared-slice-read-if1 c = search needs
+statement-at-requires : tie.Need-statement-at-requires Inv-loop μ-loop
+statement-at-requires c κs = omega (arith, c .before .loop .inv .0)
 
 returns : tie.Need-returns Inv-loop μ-loop
 returns c =
-    let start = c .before .before .before .before .args in
-    let loop = c .before .before .before .loop in
-    let rows = start .rows .now in
-    sym (statement-out rows (start .n) (loop .k) (omega arith) (omega arith)) ∙ loop .inv ∙ within-all rows (start .n)
+    let says = c .before in
+    let loop = says .before .before .loop in
+    let start = says .before .before .before .before .before .before .args in
+    let w = limits (start .width) in
+    sym (statement-out w (start .rows .now) (start .n) (loop .k) (omega (arith, loop .inv .0)) (omega (arith, says .statement-at .ensures))) ∙ loop .inv .2
+    ∙ within-all w (start .rows .now) (start .n)
 
-mul-if2 : tie.Need-mul-if2 Inv-loop μ-loop
-mul-if2 c = search needs
-
-add-if2 : tie.Need-add-if2 Inv-loop μ-loop
-add-if2 c = search needs
-
-mul-if2-2 : tie.Need-mul-if2-2 Inv-loop μ-loop
-mul-if2-2 c = search needs
-
-shared-slice-read-if2 : tie.Need-shared-slice-read-if2 Inv-loop μ-loop
-shared-slice-read-if2 c = search needs
+name-at-requires : tie.Need-name-at-requires Inv-loop μ-loop
+name-at-requires c κs = omega (arith, c .before .before .before .loop .inv .0)
 
 returns-2 : tie.Need-returns-2 Inv-loop μ-loop
 returns-2 c =
-    let start = c .before .before .before .before .before .before .args in
-    let loop = c .before .before .before .before .before .loop in
-    let rows = start .rows .now in
-    sym (name-out rows (start .n) (loop .k) (omega arith) (omega arith) (omega arith)) ∙ loop .inv ∙ within-all rows (start .n)
+    let says = c .before .before .before in
+    let loop = says .before .before .loop in
+    let start = says .before .before .before .before .before .before .args in
+    let w = limits (start .width) in
+    sym (name-out w (start .rows .now) (start .n) (loop .k) (omega (arith, loop .inv .0)) (omega (arith, says .statement-at .ensures)) (omega (arith, c .before .name-at .ensures, loop .inv .1)))
+    ∙ loop .inv .2 ∙ within-all w (start .rows .now) (start .n)
 
 add-k : tie.Need-add-k Inv-loop μ-loop
-add-k c = search needs
+add-k c =
+    let loop = c .before .before .before .before .before .loop in
+    let start = c .before .before .before .before .before .before .before .before .before in
+    record { fits = omega (arith, loop .inv .0, div-le-self (length (start .args .rows .now)) (row (start .args .width)), start .good .1 .0) }
 
 loop-less : tie.Need-loop-less Inv-loop μ-loop
 loop-less c = search needs
 
 loop-again : tie.Need-loop-again Inv-loop μ-loop
 loop-again c =
-    let start = c .before .before .before .before .before .before .args in
-    let loop = c .before .before .before .before .before .loop in
-    sym (row-within (start .rows .now) (start .n) (loop .k) (omega arith) (omega arith) (omega arith)) ∙ loop .inv
+    let says = c .before .before .before in
+    let loop = says .before .before .loop in
+    let start = says .before .before .before .before .before .before .args in
+    (loop .inv .0, loop .inv .1, sym (row-within (limits (start .width)) (start .rows .now) (start .n) (loop .k) (omega (arith, loop .inv .0)) (omega (arith, says .statement-at .ensures)) (omega (arith, c .before .name-at .ensures, loop .inv .1))) ∙ loop .inv .2)
 
 returns-3 : tie.Need-returns-3 Inv-loop μ-loop
 returns-3 c =
-    let start = c .before .before .args in
     let loop = c .before .loop in
-    let rows = start .rows .now in
-    sym (within-none rows (start .n) (loop .k) (omega arith)) ∙ loop .inv ∙ within-all rows (start .n)
+    let start = c .before .before .before .before .before .args in
+    let w = limits (start .width) in
+    sym (within-none w (start .rows .now) (start .n) (loop .k) (omega (arith, loop .inv .0))) ∙ loop .inv .2 ∙ within-all w (start .rows .now) (start .n)
 
 pub all-within-spec : {M : Type 1} → statement M
 all-within-spec =
@@ -76,15 +86,13 @@ all-within-spec =
     (tie.spec
     Inv-loop
     μ-loop
+    row-requires
+    div-count
+    names-requires
     loop-holds
-    mul-if1
-    mul-if1-2
-    shared-slice-read-if1
+    statement-at-requires
     returns
-    mul-if2
-    add-if2
-    mul-if2-2
-    shared-slice-read-if2
+    name-at-requires
     returns-2
     add-k
     loop-less

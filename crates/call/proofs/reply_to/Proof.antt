@@ -5,10 +5,14 @@ use native.Mathlib.Omega.{arith}
 use lib.ListN.{length}
 use lib.Seq.{length-take-le}
 use borrow.Author.Needs.{needs}
+use Rattle.widths.specs.declared.Width.{Width}
 use Rattle.sheet.specs.Verdict.{number}
-use Rattle.call.specs.Whole.{line-low, refuses, tables-enough, work-enough, lent-accepted, answers}
+use Rattle.call.specs.Whole.{line-low, refuses, tables-enough, work-enough, lent-accepted, lent-names, answers}
 use Rattle.call.proofs.reply_to.Statement.{statement}
 use Rattle.call.proofs.reply_to.Tie as tie
+
+abbrev width : tie.After-take → Width
+width k = k .before .before .before .before .before .before .before .args .width
 
 -- What is known once the sheet is read.
 abbrev taken : tie.Else1 → tie.After-take
@@ -18,7 +22,7 @@ read : (k : tie.Else1) → number (taken k .take .result) ≡ 0
 read k = sym (k .before .number-of .ensures) ∙ k .if1 .left
 
 room : (k : tie.Else1) → 8192 ≤ length (taken k .take .last .1 .0)
-room k = tables-enough _ _ _ _ _ (taken k .take .ensures) (read k)
+room k = tables-enough (width (taken k)) _ _ _ _ _ (taken k .take .ensures) (read k)
 
 take-requires : tie.Need-take-requires
 take-requires c κs = search needs
@@ -27,7 +31,9 @@ number-of-requires : tie.Need-number-of-requires
 number-of-requires c κs = search needs
 
 of-outcome-requires : tie.Need-of-outcome-requires
-of-outcome-requires c κs = line-low _ _ _ _ _ (c .before .before .before .before .before .before .take .ensures)
+of-outcome-requires c κs =
+    let took = c .before .before .before .before .before .before in
+    line-low (width took) _ _ _ _ _ (took .take .ensures)
 
 same-length : tie.Need-same-length
 same-length c = search needs
@@ -37,7 +43,8 @@ same-length-2 c = search needs
 
 returns : tie.Need-returns
 returns c =
-    refuses _ _ _ _ _ (c .before .before .before .before .before .before .before .take .ensures) _ (λ z. c .before .if1 .taken (c .before .before .number-of .ensures ∙ z)) _ (c .of-outcome .ensures) _ (c .before .before .before .before .before .before .before .before .before .before .before .before .before .before .pre)
+    let took = c .before .before .before .before .before .before .before in
+    refuses (width took) _ _ _ _ _ (took .take .ensures) _ (λ z. c .before .if1 .taken (c .before .before .number-of .ensures ∙ z)) _ (c .of-outcome .ensures) _ (c .before .before .before .before .before .before .before .before .before .before .before .before .before .before .pre)
 
 slice-reshare-prefix-answer-sheet : tie.Need-slice-reshare-prefix-answer-sheet
 slice-reshare-prefix-answer-sheet c = room c
@@ -48,9 +55,11 @@ slice-aggregate-answer-sheet c = sym (length-take-le 8192 (taken (c .before) .ta
 answer-sheet-requires : tie.Need-answer-sheet-requires
 answer-sheet-requires c κs =
     let k = c .before .before .before in
+    let w = width (taken k) in
     let took = taken k .take in (
-      lent-accepted _ _ _ _ _ (took .ensures) (read k),
-      omega (arith, work-enough _ _ _ _ _ (took .ensures) (read k), took .kept .1 .1 .0),
+      lent-accepted w _ _ _ _ _ (took .ensures) (read k),
+      lent-names w _ _ _ _ _ (took .ensures) (read k),
+      omega (arith, work-enough w _ _ _ _ _ (took .ensures) (read k), took .kept .1 .1 .0),
       c .before .before .before .before .before .before .before .before .before .before .before .before .before .before .before .before .pre,
     )
 
@@ -66,7 +75,7 @@ same-length-5 c = search needs
 returns-2 : tie.Need-returns-2
 returns-2 c =
     let k = c .before .before .before .before .before .before .before .before in
-    answers _ _ _ _ _ (taken k .take .ensures) (read k) _ _ _ (c .before .before .before .before .answer-sheet .ensures)
+    answers (width (taken k)) _ _ _ _ _ (taken k .take .ensures) (read k) _ _ _ (c .before .before .before .before .answer-sheet .ensures)
 
 pub reply-to-spec : {M : Type 1} → statement M
 reply-to-spec =

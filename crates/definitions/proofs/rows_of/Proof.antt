@@ -14,7 +14,7 @@ use Rattle.definitions.proofs.rows_of.Lts as lts
 use Rattle.definitions.proofs.put_row.Reads as put-row-reads
 
 abbrev Inv-loop : tie.InvT-loop
-Inv-loop len all words₀ i₀ words i = (i ≤ len) × (length words ≡ 2560) × (take (4 * i) words ≡ rowsOfRecords (take i all))
+Inv-loop len all words₀ i₀ words i = (i ≤ len) × (length words ≡ 6400) × (take (10 * i) words ≡ rowsOfRecords (take i all))
 
 abbrev μ-loop : tie.MeasureT-loop
 μ-loop len all words₀ i₀ words i = len - i
@@ -42,10 +42,10 @@ loop-again c =
     let l = c .before .before .before .before in
     let a = l .before .args in
     let e = c .put-row .ensures in
-    let room : 4 * l .loop .i + 3 < length (l .loop .words) = search needs in (
+    let room : 10 * l .loop .i + 9 < length (l .loop .words) = search needs in (
       search needs,
       ap length e ∙ put-length (l .loop .words) (l .loop .i) (getD (a .t1) (l .loop .i) noRecord) ∙ l .loop .inv .1,
-      ap (take (4 * (l .loop .i + 1))) e ∙ rows-next (a .t1) (l .loop .words) (l .loop .i) (search needs) room (l .loop .inv .2),
+      ap (take (10 * (l .loop .i + 1))) e ∙ rows-next (a .t1) (l .loop .words) (l .loop .i) (search needs) room (l .loop .inv .2),
     )
 
 returns : tie.Need-returns Inv-loop μ-loop
@@ -53,7 +53,7 @@ returns c =
     let l = c .before in
     let a = l .before .args in
     let e : l .loop .i ≡ a .len = omega (arith, l .loop .inv .0, c .loop-test .left) in
-    subst (λ (k : ℕ). take (4 * k) (l .loop .words) ≡ rowsOfRecords (take k (a .t1))) e (l .loop .inv .2)
+    subst (λ (k : ℕ). take (10 * k) (l .loop .words) ≡ rowsOfRecords (take k (a .t1))) e (l .loop .inv .2)
 
 pub rows-of-spec : {M : Type 1} → statement M
 rows-of-spec =

@@ -7,6 +7,7 @@ use lib.ListN.{length, take}
 use lib.Seq.{length-take-le}
 use Rattle.schedule.specs.Call.{Scheduled}
 use Rattle.schedule.specs.declared.Outcome.the-variants.{Refused}
+use Rattle.basics.specs.Limits.{library}
 use Rattle.definitions.specs.Rows.{rowsOfRecords}
 use Rattle.definitions.specs.Question.{too-many}
 use borrow.Author.Needs.{needs}
@@ -29,7 +30,7 @@ returns : tie.Need-returns
 returns c = λ records l s.
     let t = c .before .before .before .before .before .before .before .before in
     let a = t .before .before .before .args in
-    subst₂ (Scheduled (rowsOfRecords records) (a .statements) _ _ Refused)
+    subst₂ (Scheduled library (rowsOfRecords records) (a .statements) _ _ Refused)
     (sym (c .before .before .before .before .before .before .clear .ensures)) (sym (c .before .before .clear2 .ensures))
     (too-many records (a .statements) _ _ (omega (arith, l, t .if1 .taken)))
 
@@ -59,11 +60,11 @@ returns-2 c = λ records l s.
     let w = c .before .before .before .before .before .before .before .before in
     let a = w .before .before .before .before .args in
     let few : a .len ≤ 640 = search needs in
-    let rows : take (4 * a .len) (w .rows-of .result) ≡ rowsOfRecords records =
+    let rows : take (10 * a .len) (w .rows-of .result) ≡ rowsOfRecords records =
     w .rows-of .ensures ∙ ap (λ (k : ℕ). rowsOfRecords (take k (a .all))) (sym l) ∙ ap rowsOfRecords (s (omega (arith, few, l))) in
     let d = c .before .before .before .before .schedule in
-    subst (λ (ws : List ℕ). Scheduled ws (a .statements) (length (a .order .now)) (length (a .reached .now)) (d .result) (d .last .1 .1 .0)
-    (d .last .1 .1 .1 .0))
+    subst (λ (ws : List ℕ). Scheduled library ws (a .statements) (length (a .order .now)) (length (a .reached .now)) (d .result) (d .last .1 .1 .1 .0)
+    (d .last .1 .1 .1 .1 .0))
     rows (d .ensures)
 
 pub schedule-copy-spec : {M : Type 1} → statement M

@@ -4,6 +4,7 @@ use Prim.Native.Nat.{ℕ, _≤_}
 use native.Mathlib.Omega.{arith}
 use lib.ListN.{length}
 use borrow.Author.Needs.{needs}
+use Rattle.widths.specs.declared.Width.the-variants.{Eight}
 use Rattle.schedule.specs.Call.{refusal}
 use Rattle.sheet.specs.declared.Outcome.{Outcome}
 use Rattle.sheet.specs.Verdict.{faultLine, leftTables}
@@ -27,7 +28,7 @@ pack-requires c κs =
     let start = k .before .before .before .before .before .before .args in
     let low : faultLine (k .read .result) ≤ 65535 =
     subst (λ (r : Outcome). faultLine r ≤ 65535) (sym (k .read .ensures .came-to))
-    (line-fits (start .sheet .now) (length (start .tables .now)) (length (start .work .now))) in
+    (line-fits Eight (start .sheet .now) (length (start .tables .now)) (length (start .work .now))) in
     (omega (arith, c .before .number-of .ensures, number-fits (k .read .result)), omega (arith, c .line-of .ensures), omega arith)
 
 same-length : tie.Need-same-length

@@ -6,6 +6,7 @@ use lib.ListN.{length}
 use borrow.Author.Needs.{needs}
 use Rattle.turns.specs.Orders.{placedOrder}
 use Rattle.rows.specs.Rows.{definitions}
+use Rattle.widths.specs.Widths.{row}
 use Rattle.place.specs.StateLaws.{begins}
 use Rattle.place.specs.Rounding.{masked-indexed}
 use Rattle.place.specs.Placing.{Placing, placing-first, placing-full, placing-last, placing-next, placing-less}
@@ -13,22 +14,26 @@ use Rattle.place.proofs.place_all.Statement.{statement}
 use Rattle.place.proofs.place_all.Tie as tie
 
 abbrev Inv-loop : tie.InvT-loop
-Inv-loop rows links masks defined n order₀ reached₀ at₀ order reached at =
+Inv-loop width rows links masks defined n order₀ reached₀ at₀ order reached at =
     (length order ≡ length order₀) × (length reached ≡ length reached₀)
-    × Placing (definitions rows) n (placedOrder (definitions rows) n 128) at order reached
+    × Placing (definitions (row width) rows) n (placedOrder (definitions (row width) rows) n 512) at order reached
 
 abbrev μ-loop : tie.MeasureT-loop
-μ-loop rows links masks defined n order₀ reached₀ at₀ order reached at = n - at .count
+μ-loop width rows links masks defined n order₀ reached₀ at₀ order reached at = n - at .count
 
 empty-requires : tie.Need-empty-requires Inv-loop μ-loop
 empty-requires c κs = search needs
 
+empty-requires-2 : tie.Need-empty-requires-2 Inv-loop μ-loop
+empty-requires-2 c κs = search needs
+
 take-turn-requires : tie.Need-take-turn-requires Inv-loop μ-loop
 take-turn-requires c κs =
-    let none = c .before .before .empty in
-    let pre = c .before .before .before .before .before .before .pre in
+    let known = c .before .before .empty2 in
+    let none = c .before .before .before .empty in
+    let pre = c .before .before .before .before .before .before .before .pre in
     let blank = pre .1 .1 in
-    ((omega arith, masked-indexed (pre .0) (pre .1 .0)), begins _ (none .result) (none .ensures) (blank .0) (blank .1 .0) (blank .1 .1))
+    ((omega arith, masked-indexed (pre .0) (pre .1 .0)), begins _ (known .result) (none .result) (known .ensures) (none .ensures) (blank .0) (blank .1 .0) (blank .1 .1))
 
 loop-holds : tie.Need-loop-holds Inv-loop μ-loop
 loop-holds c = (refl, refl, placing-first (c .before .before .before .before .take-turn .ensures))
@@ -36,7 +41,7 @@ loop-holds c = (refl, refl, placing-first (c .before .before .before .before .ta
 take-round-requires : tie.Need-take-round-requires Inv-loop μ-loop
 take-round-requires c κs =
     let loop = c .before .before .before .before in
-    let pre = loop .before .before .before .before .before .before .before .before .before .before .before .before .pre in
+    let pre = loop .before .before .before .before .before .before .before .before .before .before .before .before .before .pre in
     (pre .0, (pre .1 .0, loop .loop .inv .2 .holds))
 
 loop-less : tie.Need-loop-less Inv-loop μ-loop
@@ -49,8 +54,8 @@ loop-again : tie.Need-loop-again Inv-loop μ-loop
 loop-again c =
     let round = c .before .before .before .before .before in
     let loop = round .before .before .before .before .before .loop in (
-      round .take-round .kept .1 .1 .1 .1 .1 .1 .0 ∙ loop .inv .0,
-      round .take-round .kept .1 .1 .1 .1 .1 .1 .1 .0 ∙ loop .inv .1,
+      round .take-round .kept .1 .1 .1 .1 .1 .1 .1 .0 ∙ loop .inv .0,
+      round .take-round .kept .1 .1 .1 .1 .1 .1 .1 .1 .0 ∙ loop .inv .1,
       placing-next (loop .inv .2) (round .take-round .ensures) (c .if2 .left),
     )
 
@@ -82,6 +87,7 @@ place-all-spec =
     Inv-loop
     μ-loop
     empty-requires
+    empty-requires-2
     take-turn-requires
     loop-holds
     take-round-requires

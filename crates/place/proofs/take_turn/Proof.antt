@@ -6,52 +6,35 @@ use lib.ListN.{length}
 use borrow.Author.Needs.{needs}
 use Rattle.turns.specs.Orders.{turnOrder}
 use Rattle.rows.specs.Rows.{definitions}
+use Rattle.widths.specs.Widths.{row}
 use Rattle.place.specs.State.{orderOf}
 use Rattle.place.specs.Turning.{Turning, turning-first, turning-next, turning-done}
 use Rattle.place.proofs.take_turn.Statement.{statement}
 use Rattle.place.proofs.take_turn.Tie as tie
 
 abbrev Inv-loop : tie.InvT-loop
-Inv-loop rows links masks n name order₀ reached₀ own at₀ i₀ order reached at i =
+Inv-loop width rows links masks n name order₀ reached₀ own at₀ i₀ order reached at i =
     (length order ≡ length order₀) × (length reached ≡ length reached₀)
-    × Turning (definitions rows) n name (turnOrder (definitions rows) n name (orderOf at₀ order₀)) at order reached i
+    × Turning (definitions (row width) rows) n name (turnOrder (definitions (row width) rows) n name (orderOf at₀ order₀)) at order reached i
 
 abbrev μ-loop : tie.MeasureT-loop
-μ-loop rows links masks n name order₀ reached₀ own at₀ i₀ order reached at i = 128 - i
+μ-loop width rows links masks n name order₀ reached₀ own at₀ i₀ order reached at i = 128 - i
 
-mul-t12 : tie.Need-mul-t12 Inv-loop μ-loop
-mul-t12 c = search needs
-
-mul-t13 : tie.Need-mul-t13 Inv-loop μ-loop
-mul-t13 c = search needs
-
-element-copy-out-t16 : tie.Need-element-copy-out-t16 Inv-loop μ-loop
-element-copy-out-t16 c = search needs
-
-mul-t17 : tie.Need-mul-t17 Inv-loop μ-loop
-mul-t17 c = search needs
-
-add-t18 : tie.Need-add-t18 Inv-loop μ-loop
-add-t18 c = search needs
-
-mul-t19 : tie.Need-mul-t19 Inv-loop μ-loop
-mul-t19 c = search needs
-
-element-copy-out-t22 : tie.Need-element-copy-out-t22 Inv-loop μ-loop
-element-copy-out-t22 c = search needs
+statements-of-requires : tie.Need-statements-of-requires Inv-loop μ-loop
+statements-of-requires c κs = let start = c .before .before .before in (start .pre .0 .1 .long, start .pre .0 .0)
 
 next-try-requires : tie.Need-next-try-requires Inv-loop μ-loop
 next-try-requires c κs = search needs
 
 loop-holds : tie.Need-loop-holds Inv-loop μ-loop
 loop-holds c =
-    let pre = c .before .before .before .before .before .before .pre in
-    (refl, refl, turning-first (pre .0 .1) (pre .0 .0) (pre .1) (c .next-try .ensures))
+    let pre = c .before .before .before .before .before .pre in
+    (refl, refl, turning-first (pre .0 .1) (pre .0 .0) (pre .1) (rw (c .before .statements-of .ensures) at (c .next-try .ensures)))
 
 attempt-requires : tie.Need-attempt-requires Inv-loop μ-loop
 attempt-requires c κs =
     let turn = c .before .before .before .loop .inv .2 in
-    let pre = c .before .before .before .before .before .before .before .before .before .before .pre in
+    let pre = c .before .before .before .before .before .before .before .before .before .pre in
     (pre .0 .1 .sound, (turn .waits (c .before .before .loop-test .taken), turn .holds))
 
 add-next-try : tie.Need-add-next-try Inv-loop μ-loop
@@ -67,11 +50,11 @@ loop-again : tie.Need-loop-again Inv-loop μ-loop
 loop-again c =
     let tried = c .before .before .before .before .before in
     let loop = tried .before .before .before .before .loop in
-    let pre = tried .before .before .before .before .before .before .before .before .before .before .before .pre in
+    let pre = tried .before .before .before .before .before .before .before .before .before .before .pre in
     let l = tried .before .before .before .loop-test .taken in (
-      tried .attempt .kept .1 .1 .1 .1 .1 .0 ∙ loop .inv .0,
-      tried .attempt .kept .1 .1 .1 .1 .1 .1 .0 ∙ loop .inv .1,
-      turning-next (pre .0 .1) (pre .0 .0) (loop .inv .2) l (tried .attempt .ensures) (c .next-try2 .ensures),
+      tried .attempt .kept .1 .1 .1 .1 .1 .1 .0 ∙ loop .inv .0,
+      tried .attempt .kept .1 .1 .1 .1 .1 .1 .1 .0 ∙ loop .inv .1,
+      turning-next (pre .0 .1) (pre .0 .0) (loop .inv .2) l (tried .attempt .ensures) (rw (tried .before .before .before .before .before .before .statements-of .ensures) at (c .next-try2 .ensures)),
     )
 
 same-length : tie.Need-same-length Inv-loop μ-loop
@@ -82,7 +65,7 @@ same-length-2 c = search needs
 
 returns : tie.Need-returns Inv-loop μ-loop
 returns c =
-    let pre = c .before .before .before .before .before .before .before .before .pre in
+    let pre = c .before .before .before .before .before .before .before .pre in
     turning-done (c .before .loop .inv .2) (omega (arith, pre .0 .1 .sound .few))
 
 pub take-turn-spec : {M : Type 1} → statement M
@@ -91,13 +74,7 @@ take-turn-spec =
     (tie.spec
     Inv-loop
     μ-loop
-    mul-t12
-    mul-t13
-    element-copy-out-t16
-    mul-t17
-    add-t18
-    mul-t19
-    element-copy-out-t22
+    statements-of-requires
     next-try-requires
     loop-holds
     attempt-requires

@@ -6,57 +6,51 @@ use borrow.Author.Needs.{needs}
 use borrow.Author.Tests.{not-true, not-false}
 use Rattle.walks.specs.Count.{missing}
 use Rattle.names.specs.Sets.{member}
+use Rattle.widths.specs.Widths.{row}
 use Rattle.resolve.specs.Trying.{Trying, trying-first, trying-next, trying-less, trying-resolved, trying-fails}
 use Rattle.resolve.proofs.try_statement.Statement.{statement}
 use Rattle.resolve.proofs.try_statement.Tie as tie
 
 abbrev Inv-loop : tie.InvT-loop
-Inv-loop rows links statement known seen₀ seen = Trying rows statement (known .words) (seen .words)
+Inv-loop width rows links statement known seen₀ seen = (length seen ≡ 8) × Trying (row width) rows statement (known .words) seen
 
 abbrev μ-loop : tie.MeasureT-loop
-μ-loop rows links statement known seen₀ seen = missing 128 (member (seen .words))
+μ-loop width rows links statement known seen₀ seen = missing 512 (member seen)
 
 loop-holds : tie.Need-loop-holds Inv-loop μ-loop
-loop-holds c = trying-first _ _ _
+loop-holds c = (search needs, trying-first _ _ _ _)
 
 pass-requires : tie.Need-pass-requires Inv-loop μ-loop
-pass-requires c κs = search needs
+pass-requires c κs =
+    let loop = c .before in
+    let start = loop .before .before .before in
+    (start .pre .0, (start .pre .1, loop .loop .inv .0))
 
 returns : tie.Need-returns Inv-loop μ-loop
 returns c =
-    let loop = c .before .before .before .before in
-    trying-resolved _ _ _ (loop .loop .inv) (c .before .before .before .pass .ensures) (not-true _ (c .if1 .taken))
-
-is-subset-requires : tie.Need-is-subset-requires Inv-loop μ-loop
-is-subset-requires c κs = search needs
+    let pass = c .before .before in
+    trying-resolved _ _ _ _ (pass .before .before .loop .inv .1) (pass .pass .ensures .1) (not-true _ (c .if1 .taken))
 
 returns-2 : tie.Need-returns-2 Inv-loop μ-loop
 returns-2 c =
-    let pass = c .before .before .before .before .before in
-    trying-fails _ _ _ (pass .before .loop .inv) (pass .pass .ensures) (not-false _ (c .before .before .if1 .left))
-    (sym (c .before .is-subset .ensures) ∙ c .if2 .taken) _
+    let test = c .before .before in
+    let pass = test .before .before in
+    trying-fails _ _ _ _ (pass .before .before .loop .inv .1) (pass .pass .ensures .1) (not-false _ (test .if1 .left))
+    (not-false _ (sym (pass .pass .ensures .2 .fresh) ∙ not-true _ (c .if2 .taken))) _
 
 loop-less : tie.Need-loop-less Inv-loop μ-loop
 loop-less c =
-    let pass = c .before .before .before .before .before in
-    let l : length (pass .pass .result .seen .words) ≡ 2 = search needs in
-    trying-less _ _ _ (pass .before .loop .inv) (pass .pass .ensures) (omega arith) (sym (c .before .is-subset .ensures) ∙ c .if2 .left)
+    let test = c .before .before in
+    let pass = test .before .before in
+    trying-less _ _ _ _ (pass .before .before .loop .inv .1) (pass .pass .ensures .1) (omega (arith, pass .pass .ensures .0))
+    (not-true _ (sym (pass .pass .ensures .2 .fresh) ∙ not-false _ (c .if2 .left)))
 
 loop-again : tie.Need-loop-again Inv-loop μ-loop
 loop-again c =
-    let pass = c .before .before .before .before .before in
-    trying-next _ _ _ (pass .before .loop .inv) (pass .pass .ensures)
+    let pass = c .before .before .before .before in
+    (pass .pass .ensures .0, trying-next _ _ _ _ (pass .before .before .loop .inv .1) (pass .pass .ensures .1))
 
 pub try-statement-spec : {M : Type 1} → statement M
 try-statement-spec =
     tie.close
-    (tie.spec
-    Inv-loop
-    μ-loop
-    loop-holds
-    pass-requires
-    returns
-    is-subset-requires
-    returns-2
-    loop-less
-    loop-again)
+    (tie.spec Inv-loop μ-loop loop-holds pass-requires returns returns-2 loop-less loop-again)

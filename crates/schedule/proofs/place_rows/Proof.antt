@@ -1,11 +1,21 @@
 -- The list is in bounds, and both indexes start from zeros.
-use Prim.Native.Nat.{ℕ}
+use mathlib.Core.List.{List}
+use Prim.Native.Nat.{ℕ, _<_}
+use native.Mathlib.Omega.{arith}
 use lib.ListN.{length-replicate}
 use borrow.Author.Needs.{needs}
+use Rattle.widths.specs.declared.Width.{Width}
+use Rattle.widths.specs.Widths.{limits, row}
+use Rattle.widths.specs.Laws.{few-names}
+use Rattle.rows.specs.Rows.{rowCount, varAt}
 use Rattle.rows.specs.Zeros.{zero-at}
-use Rattle.bounds.specs.Answers.{statements-few}
+use Rattle.bounds.specs.Answers.{Accepted, statements-few}
 use Rattle.schedule.proofs.place_rows.Statement.{statement}
 use Rattle.schedule.proofs.place_rows.Tie as tie
+
+-- Every name has a bit.
+names-low : (v : Width) {ws : List ℕ} {n room marks : ℕ} → Accepted (limits v) ws n room marks → (k : ℕ) → k < rowCount (row v) ws → varAt (row v) ws k < 512
+names-low v a k h = omega (arith, a .named k h, few-names v)
 
 link-requires : tie.Need-link-requires
 link-requires c κs =
@@ -14,16 +24,18 @@ link-requires c κs =
 
 mask-requires : tie.Need-mask-requires
 mask-requires c κs =
-    let a = c .before .before .before .before .before .before .pre .0 in
-    (statements-few a, (a .named, (length-replicate {A = ℕ} 256 0, zero-at 256)))
+    let w = c .before .before .before .before .before .before in
+    let a = w .pre .0 in
+    (statements-few a, (names-low (w .args .width) a, (length-replicate {A = ℕ} 1024 0, zero-at 1024)))
 
 place-all-requires : tie.Need-place-all-requires
 place-all-requires c κs =
     let masked = c .before .before .before .before in
     let linked = masked .before .before in
-    let pre = linked .before .before .before .before .before .pre in
+    let start = linked .before .before .before .before .before in
+    let pre = start .pre in
     let a = pre .0 in
-    (record { few = a .few; stated = a .stated; named = a .named; linked = linked .link .ensures }, (masked .mask .ensures, ((a .ordered, a .marked), (pre .1 .0, pre .1 .1))))
+    (record { few = a .few; stated = a .stated; named = names-low (start .args .width) a; linked = linked .link .ensures }, (masked .mask .ensures, ((a .ordered, a .marked), (pre .1 .0, pre .1 .1))))
 
 same-length : tie.Need-same-length
 same-length c = search needs

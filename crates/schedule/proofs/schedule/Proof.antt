@@ -6,6 +6,7 @@ use borrow.Author.Needs.{needs}
 use borrow.Author.Tests.{not-true, not-false}
 use Rattle.bounds.specs.Question.{accepts}
 use Rattle.bounds.specs.Answers.{accepted}
+use Rattle.widths.specs.Widths.{limits}
 use Rattle.schedule.specs.Leaves.{cleared-zero, refused, all-placed, not-placed}
 use Rattle.schedule.proofs.schedule.Statement.{statement}
 use Rattle.schedule.proofs.schedule.Tie as tie
@@ -13,11 +14,11 @@ use Rattle.schedule.proofs.schedule.Tie as tie
 -- What `admits` answered, of the lengths at entry.
 says : (k : tie.After-admits)
     → let start = k .before .before .before .before .before .before .before .before .before .before .before .before .args in
-    k .admits .result ≡ accepts (start .rows .now) (start .n) (length (start .order .now)) (length (start .reached .now))
+    k .admits .result ≡ accepts (limits (start .width)) (start .rows .now) (start .n) (length (start .order .now)) (length (start .reached .now))
 says k =
     let start = k .before .before .before .before .before .before .before .before .before .before .before .before .args in
     k .admits .ensures
-    ∙ ap₂ (accepts (start .rows .now) (start .n)) (k .before .before .before .before .before .before .before .clear .kept .0) (k .before .before .before .clear2 .kept .0)
+    ∙ ap₂ (accepts (limits (start .width)) (start .rows .now) (start .n)) (k .before .before .before .before .before .before .before .clear .kept .0) (k .before .before .before .clear2 .kept .0)
 
 clear-requires : tie.Need-clear-requires
 clear-requires c κs = search needs
@@ -37,13 +38,13 @@ same-length-2 c = search needs
 returns : tie.Need-returns
 returns c =
     let k = c .before in
-    rw (k .before .before .before .before .before .before .before .clear .ensures, k .before .before .before .clear2 .ensures) (refused _ _ _ _ (sym (says k) ∙ not-true _ (c .if1 .taken)))
+    rw (k .before .before .before .before .before .before .before .clear .ensures, k .before .before .before .clear2 .ensures) (refused _ _ _ _ _ (sym (says k) ∙ not-true _ (c .if1 .taken)))
 
 place-rows-requires : tie.Need-place-rows-requires
 place-rows-requires c κs =
     let k = c .before .before .before in
     let start = k .before .before .before .before .before .before .before .before .before .before .before .before .args in (
-      accepted _ _ _ _ (sym (k .admits .ensures) ∙ not-false _ (c .before .before .if1 .left)),
+      accepted _ _ _ _ _ (sym (k .admits .ensures) ∙ not-false _ (c .before .before .if1 .left)),
       (
         cleared-zero _ (length (start .order .now)) (k .before .before .before .before .before .before .before .clear .ensures),
         cleared-zero _ (length (start .reached .now)) (k .before .before .before .clear2 .ensures),
@@ -60,14 +61,14 @@ returns-2 : tie.Need-returns-2
 returns-2 c =
     let p = c .before .before .before .before .before in
     let k = p .before .before .before .before in
-    all-placed _ _ _ _ (sym (says k) ∙ not-false _ (p .before .before .before .if1 .left)) (p .place-rows .ensures)
-    (p .place-rows .kept .1 .1 .0 ∙ k .before .before .before .before .before .before .before .clear .kept .0) (p .place-rows .kept .1 .1 .1 .0 ∙ k .before .before .before .clear2 .kept .0) (c .if2 .taken)
+    all-placed _ _ _ _ _ (sym (says k) ∙ not-false _ (p .before .before .before .if1 .left)) (p .place-rows .ensures)
+    (p .place-rows .kept .1 .1 .1 .0 ∙ k .before .before .before .before .before .before .before .clear .kept .0) (p .place-rows .kept .1 .1 .1 .1 .0 ∙ k .before .before .before .clear2 .kept .0) (c .if2 .taken)
 
 count-up-requires : tie.Need-count-up-requires
 count-up-requires c κs =
     let p = c .before .before .before .before .before .before in
     let k = p .before .before .before .before in
-    let a = accepted _ _ _ _ (sym (k .admits .ensures) ∙ not-false _ (p .before .before .before .if1 .left)) in
+    let a = accepted _ _ _ _ _ (sym (k .admits .ensures) ∙ not-false _ (p .before .before .before .if1 .left)) in
     (omega (arith, a .few), p .place-rows .ensures .holds .written .room)
 
 same-length-5 : tie.Need-same-length-5
@@ -81,8 +82,8 @@ returns-3 c =
     let p = c .before .before .before .before .before .before .before .before .before in
     let k = p .before .before .before .before in
     rw (c .before .before .count-up .ensures)
-    (not-placed _ _ _ _ (sym (says k) ∙ not-false _ (p .before .before .before .if1 .left)) (p .place-rows .ensures)
-    (p .place-rows .kept .1 .1 .0 ∙ k .before .before .before .before .before .before .before .clear .kept .0) (p .place-rows .kept .1 .1 .1 .0 ∙ k .before .before .before .clear2 .kept .0) (c .before .before .before .before .if2 .left))
+    (not-placed _ _ _ _ _ (sym (says k) ∙ not-false _ (p .before .before .before .if1 .left)) (p .place-rows .ensures)
+    (p .place-rows .kept .1 .1 .1 .0 ∙ k .before .before .before .before .before .before .before .clear .kept .0) (p .place-rows .kept .1 .1 .1 .1 .0 ∙ k .before .before .before .clear2 .kept .0) (c .before .before .before .before .if2 .left))
 
 pub schedule-spec : {M : Type 1} → statement M
 schedule-spec =

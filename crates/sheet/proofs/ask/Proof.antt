@@ -2,6 +2,7 @@
 use mathlib.Core.Path.{_≡_, sym, _∙_}
 use native.Mathlib.Omega.{arith}
 use borrow.Author.Needs.{needs}
+use Rattle.widths.specs.Widths.{limits}
 use Rattle.text.specs.Questions.{formFault, namesFault, countsFault}
 use Rattle.records.specs.Rows.{inTables}
 use Rattle.naming.specs.Lines.{firstLine}
@@ -27,9 +28,9 @@ module _ (k : tie.After-store-head) where
   named : namesFault (start .args .s .now) ≡ 0
   named = sym (k .before .before .before .before .before .before .names-fault .ensures) ∙ k .before .before .before .before .before .if3 .left
 
-  counted : countsFault (start .args .s .now) ≡ 0
+  counted : countsFault (limits (start .args .width)) (start .args .s .now) ≡ 0
   counted =
-      sym (k .before .before .before .before .counts-fault .ensures ∙ counts-fault-is _ _ _ _ (start .pre .0) (read .read-sheet .ensures) good)
+      sym (k .before .before .before .before .counts-fault .ensures ∙ counts-fault-is _ _ _ _ (start .pre .0) (read .read-sheet .ensures) good _)
       ∙ k .before .before .before .if4 .left
 
   table-is : k .store-head .last .0 ≡ readTables (start .args .s .now)
@@ -38,10 +39,10 @@ module _ (k : tie.After-store-head) where
 
   fields-are : firstLine (countsIn (read .read-sheet .result)) (inTables (k .store-head .last .0)) ≡ fieldsFault (start .args .s .now)
   fields-are =
-      fields-fault-is _ _ _ _ (start .pre .0) (read .read-sheet .ensures) good _ (k .before .special-names .ensures) _ (k .store-head .ensures) formed counted
+      fields-fault-is _ _ _ _ (start .pre .0) (read .read-sheet .ensures) good _ (k .before .special-names .ensures) _ (k .store-head .ensures) (start .args .width) formed counted
 
 returns : tie.Need-returns
-returns c = too-long _ _ (c .if1 .taken)
+returns c = too-long _ _ _ (c .if1 .taken)
 
 read-sheet-requires : tie.Need-read-sheet-requires
 read-sheet-requires c κs = blank-room _ (c .before .before .before .before .before .pre .0)
@@ -52,7 +53,7 @@ same-length c = search needs
 returns-2 : tie.Need-returns-2
 returns-2 c =
     let r = c .before .before .before in
-    bad-form _ _ (r .before .before .if1 .left) _ (r .read-sheet .ensures .fault) (c .if2 .taken)
+    bad-form _ _ _ (r .before .before .if1 .left) _ (r .read-sheet .ensures .fault) (c .if2 .taken)
 
 names-fault-requires : tie.Need-names-fault-requires
 names-fault-requires c κs = search needs
@@ -64,7 +65,7 @@ returns-3 : tie.Need-returns-3
 returns-3 c =
     let n = c .before in
     let r = n .before .before .before .before in
-    bad-name _ _ (r .before .before .if1 .left) (sym (r .read-sheet .ensures .fault) ∙ n .before .if2 .left) _ (n .names-fault .ensures) (c .if3 .taken)
+    bad-name _ _ _ (r .before .before .if1 .left) (sym (r .read-sheet .ensures .fault) ∙ n .before .if2 .left) _ (n .names-fault .ensures) (c .if3 .taken)
 
 counts-fault-requires : tie.Need-counts-fault-requires
 counts-fault-requires c κs = search needs
@@ -76,9 +77,9 @@ returns-4 : tie.Need-returns-4
 returns-4 c =
     let n = c .before .before .before in
     let r = n .before .before .before .before in
-    bad-count _ _ (r .before .before .if1 .left) (sym (r .read-sheet .ensures .fault) ∙ n .before .if2 .left)
+    bad-count _ _ _ (r .before .before .if1 .left) (sym (r .read-sheet .ensures .fault) ∙ n .before .if2 .left)
     (sym (n .names-fault .ensures) ∙ c .before .before .if3 .left) _
-    (c .before .counts-fault .ensures ∙ counts-fault-is _ _ _ _ (r .before .before .before .before .before .before .pre .0) (r .read-sheet .ensures) (n .before .if2 .left)) (c .if4 .taken)
+    (c .before .counts-fault .ensures ∙ counts-fault-is _ _ _ _ (r .before .before .before .before .before .before .pre .0) (r .read-sheet .ensures) (n .before .if2 .left) _) (c .if4 .taken)
 
 special-names-requires : tie.Need-special-names-requires
 special-names-requires c κs = search needs
@@ -87,9 +88,10 @@ store-head-requires : tie.Need-store-head-requires
 store-head-requires c κs =
     let n = c .before .before .before .before .before in
     let r = n .before .before .before .before in
-    let room = blank-room _ (r .before .before .before .before .before .before .pre .0) in
-    let w = within _ (sym (c .before .before .before .counts-fault .ensures) ∙ c .before .before .if4 .left) in
-    let few = few-names _ _ _ _ (r .before .before .before .before .before .before .pre .0) (r .read-sheet .ensures) (n .before .if2 .left) (w .few-names) in
+    let start = r .before .before .before .before .before .before in
+    let room = blank-room _ (start .pre .0) in
+    let w = within (start .args .width) _ (sym (c .before .before .before .counts-fault .ensures) ∙ c .before .before .if4 .left) in
+    let few = few-names _ _ _ _ (start .pre .0) (r .read-sheet .ensures) (n .before .if2 .left) (w .few-names) in
     (omega (arith, r .read-sheet .kept .1 .0), w, small _ few _ (c .special-names .ensures))
 
 first-line-requires : tie.Need-first-line-requires
@@ -98,7 +100,7 @@ first-line-requires c κs =
     let room = blank-room _ (start k .pre .0) in (
       omega (arith, k .store-head .kept .0, read k .read-sheet .kept .1 .0),
       start k .pre .1,
-      within _ (sym (k .before .before .before .before .counts-fault .ensures) ∙ k .before .before .before .if4 .left),
+      within (start k .args .width) _ (sym (k .before .before .before .before .counts-fault .ensures) ∙ k .before .before .before .if4 .left),
     )
 
 same-length-4 : tie.Need-same-length-4
@@ -110,7 +112,7 @@ same-length-5 c = search needs
 returns-5 : tie.Need-returns-5
 returns-5 c =
     let k = c .before .before .before .before .before .before .before .before in
-    bad-field _ _ (k .before .before .before .before .before .before .before .before .before .before .before .before .if1 .left) (formed k) (named k) (counted k) _ (c .before .before .before .first-line .ensures ∙ fields-are k) (c .if5 .taken)
+    bad-field _ _ _ (k .before .before .before .before .before .before .before .before .before .before .before .before .if1 .left) (formed k) (named k) (counted k) _ (c .before .before .before .first-line .ensures ∙ fields-are k) (c .if5 .taken)
 
 same-length-6 : tie.Need-same-length-6
 same-length-6 c = search needs
@@ -121,7 +123,7 @@ same-length-7 c = search needs
 returns-6 : tie.Need-returns-6
 returns-6 c =
     let k = c .before .before .before .before .before .before .before .before in
-    all-read _ _ (k .before .before .before .before .before .before .before .before .before .before .before .before .if1 .left) (formed k) (named k) (counted k)
+    all-read _ _ _ (k .before .before .before .before .before .before .before .before .before .before .before .before .if1 .left) (formed k) (named k) (counted k)
     (sym (c .before .before .before .first-line .ensures ∙ fields-are k) ∙ c .if5 .left) (table-is k)
 
 pub ask-spec : {M : Type 1} → statement M

@@ -29,7 +29,7 @@ same-length-2 c = search needs
 returns : tie.Need-returns
 returns c =
     let took = c .before .before .before .before .before .before .before .before .before .before .before .before .before .before .take in
-    leaves-zeros _ _ _ _ _ (took .ensures) _ (c .before .before .before .before .before .before .before .before .clear-words .ensures ∙ ap (λ (n : ℕ). replicate n 0) (took .kept .1 .1 .0))
+    leaves-zeros _ _ _ _ _ _ (took .ensures) _ (c .before .before .before .before .before .before .before .before .clear-words .ensures ∙ ap (λ (n : ℕ). replicate n 0) (took .kept .1 .1 .0))
     (sym (c .before .before .before .before .before .is-read .ensures) ∙ not-true _ (c .before .before .before .before .if1 .taken))
     _ (c .before .before .clear .ensures ∙ ap (λ (n : ℕ). replicate n 0) (took .kept .1 .0))
 
@@ -42,7 +42,7 @@ same-length-4 c = search needs
 returns-2 : tie.Need-returns-2
 returns-2 c =
     let took = c .before .before .before .before .before .before .before .before .before .before .take in
-    leaves-rows _ _ _ _ _ (took .ensures) _ (c .before .before .before .before .clear-words .ensures ∙ ap (λ (n : ℕ). replicate n 0) (took .kept .1 .1 .0))
+    leaves-rows _ _ _ _ _ _ (took .ensures) _ (c .before .before .before .before .clear-words .ensures ∙ ap (λ (n : ℕ). replicate n 0) (took .kept .1 .1 .0))
     (sym (c .before .is-read .ensures) ∙ not-false _ (c .if1 .left))
 
 pub read-spec : {M : Type 1} → statement M

@@ -9,6 +9,8 @@ use lib.ListN.{length}
 use borrow.Author.Needs.{needs}
 use borrow.Author.Tests.{not-true, not-false, leb-true}
 use Rattle.basics.specs.Truth.{and-left, and-right}
+use Rattle.widths.specs.Widths.{work}
+use Rattle.widths.specs.Laws.{enough-work}
 use Rattle.sheet.specs.Leaving.{lent-blank, rest-zeros, no-room, takes}
 use Rattle.sheet.proofs.take.Statement.{statement}
 use Rattle.sheet.proofs.take.Tie as tie
@@ -16,11 +18,11 @@ use Rattle.sheet.proofs.take.Tie as tie
 -- What `has_room` answered, of the lengths at entry.
 answered : (k : tie.After-has-room)
     → let start = k .before .before .before .before .before .before .before .before .args in
-    k .has-room .result ≡ (leb 8192 (length (start .tables .now)) && leb 8192 (length (start .work .now)))
+    k .has-room .result ≡ (leb 8192 (length (start .tables .now)) && leb (work (start .width)) (length (start .work .now)))
 answered k =
     let start = k .before .before .before .before .before .before .before .before .args in
     k .has-room .ensures
-    ∙ ap (λ (n : ℕ). leb 8192 n && leb 8192 (length (start .work .now))) (k .before .before .before .clear .kept .0)
+    ∙ ap (λ (n : ℕ). leb 8192 n && leb (work (start .width)) (length (start .work .now))) (k .before .before .before .clear .kept .0)
 
 module _ (k : tie.After-has-room) (room : (k .has-room .result) ≡ true) where
   abbrev start : tie.Start
@@ -30,7 +32,9 @@ module _ (k : tie.After-has-room) (room : (k .has-room .result) ≡ true) where
   tables-room = leb-true 8192 _ (and-left _ _ (sym (answered k) ∙ room))
 
   work-room : 8192 ≤ length (start .args .work .now)
-  work-room = leb-true 8192 _ (and-right (leb 8192 (length (start .args .tables .now))) _ (sym (answered k) ∙ room))
+  work-room =
+      let enough = leb-true (work (start .args .width)) _ (and-right (leb 8192 (length (start .args .tables .now))) _ (sym (answered k) ∙ room)) in
+      omega (arith, enough, enough-work (start .args .width))
 
 clear-requires : tie.Need-clear-requires
 clear-requires c κs = search needs
@@ -43,7 +47,7 @@ same-length c = search needs
 
 returns : tie.Need-returns
 returns c =
-    no-room _ _ _ _ (sym (answered (c .before)) ∙ not-true _ (c .if1 .taken))
+    no-room _ _ _ _ _ (sym (answered (c .before)) ∙ not-true _ (c .if1 .taken))
 
 sub-ask : tie.Need-sub-ask
 sub-ask c = search needs
@@ -73,7 +77,7 @@ returns-2 c =
     let ask = c .before .before .before .before in
     let k = ask .before .before .before .before in
     let room = not-false _ (ask .before .before .before .if1 .left) in
-    takes _ _ _ _ (sym (answered k) ∙ room) _ _ (ask .ask .ensures)
+    takes _ _ _ _ _ (sym (answered k) ∙ room) _ _ (ask .ask .ensures)
     (ap (λ (l : List ℕ). ask .ask .last .1 .0 ++ l) (rest-zeros _ _ (k .before .before .before .clear .ensures) (tables-room k room)))
 
 pub take-spec : {M : Type 1} → statement M

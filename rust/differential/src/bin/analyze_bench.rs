@@ -6,16 +6,17 @@
 //! after the other, so that no branch is foreseen from the call before. Only sheets with an answer
 //! count. The proved call zeroes its buffers, reads, checks and writes within its time; two more
 //! columns say what of that is spared the original: *reading*, the reader's own call on the sheet, and
-//! *zeroing*, as much zeroing as the whole call does.
+//! *zeroing*, as much zeroing as the whole call does. *Narrow* is the printing program's call on the
+//! same sheets, with its ratios to the original; sheets with 128 names or more have none.
 //!
-//! Then the growth of both where the original's work multiplies: chains of brackets, and
+//! Then the growth of all where the original's work multiplies: chains of brackets, and
 //! comprehensions under `with` of an array assignment, nested.
 
 use differential::analyses::parts::ANSWER;
-use differential::comparing::ENOUGH;
 use differential::timing::{best, geometric_mean};
 use oracle::{Built, NotAtHand, Outcome};
 use sheets::answer::Answer;
+use sheets::limits::{LIBRARY, PRINTING, TABLES};
 use sheets::tree::{Expr, Literal, Node, Query, Snippet, Statement};
 use sheets::{check, edges, generate, Sheet};
 use std::hint::black_box;
@@ -34,17 +35,22 @@ fn main() -> ExitCode {
 
 fn bench() -> Result<(), NotAtHand> {
     println!(
-        "class                      sheets    bytes     proved    original  ratio  in turn  reading  zeroing"
+        "class                      sheets    bytes     proved    original  ratio  in turn  reading  zeroing    narrow  ratio  in turn"
     );
     let typical = |sheet: &Sheet| (3..=12).contains(&sheet.statements.len());
     let large = |sheet: &Sheet| sheet.exprs.len() >= 300;
     let long = |sheet: &Sheet| sheet.text().len() > 1_024;
-    report("up to 1 KB", &generated(1_000, |sheet| !long(sheet))?);
-    report("above 1 KB", &generated(1_000, long)?);
-    report("3 to 12 statements", &generated(1_000, typical)?);
-    report("300 expressions or more", &generated(200, large)?);
+    let few = |count, wanted: &dyn Fn(&Sheet) -> bool| generated(count, generate::few, wanted);
+    report("up to 1 KB", &few(1_000, &|sheet| !long(sheet))?);
+    report("above 1 KB", &few(1_000, &long)?);
+    report("3 to 12 statements", &few(1_000, &typical)?);
+    report("300 expressions or more", &few(200, &large)?);
     report("a count at its limit", &at_limits()?);
-    println!("\ngrowth                        bytes     proved    original  ratio");
+    let many = generated(1_000, generate::many, &|_| true)?;
+    report("128 to 511 names", &many);
+    println!(
+        "\ngrowth                        bytes     proved    original  ratio    narrow  ratio"
+    );
     for length in 1..=18 {
         growth(&format!("{length} brackets"), &brackets(length))?;
     }
@@ -54,39 +60,52 @@ fn bench() -> Result<(), NotAtHand> {
     Ok(())
 }
 
-/// A sheet for both.
+/// A sheet for all.
 struct Timed {
     text: Vec<u8>,
+    /// Does the narrow call take it?
+    narrow: bool,
     built: Built,
+}
+
+impl Timed {
+    fn new(sheet: &Sheet) -> Result<Timed, NotAtHand> {
+        Ok(Timed {
+            text: sheet.text().into_bytes(),
+            narrow: sheet.names.len() <= PRINTING.names,
+            built: Built::new(sheet)?,
+        })
+    }
 }
 
 /// None where the original gives the sheet up or refuses it.
 fn timed(sheet: &Sheet) -> Result<Option<Timed>, NotAtHand> {
     match oracle::analyze(sheet)?.outcome {
-        Outcome::Answered(Answer::Queries(_)) => Ok(Some(Timed {
-            text: sheet.text().into_bytes(),
-            built: Built::new(sheet)?,
-        })),
+        Outcome::Answered(Answer::Queries(_)) => Timed::new(sheet).map(Some),
         _ => Ok(None),
     }
 }
 
-fn generated(count: usize, wanted: impl Fn(&Sheet) -> bool) -> Result<Vec<Timed>, NotAtHand> {
+fn generated(
+    count: usize,
+    sheet: fn(u64) -> Sheet,
+    wanted: &dyn Fn(&Sheet) -> bool,
+) -> Result<Vec<Timed>, NotAtHand> {
     let mut all = Vec::new();
-    let mut sheets = (1..).map(generate::sheet).filter(wanted);
+    let mut sheets = (1..).map(sheet).filter(wanted);
     while all.len() < count {
         all.extend(sheets.next().map_or(Ok(None), |sheet| timed(&sheet))?);
     }
     Ok(all)
 }
 
-/// The edges with an answer that have 500 lines or more.
+/// The edges with an answer that have 500 lines or more, and no more names than either width takes.
 fn at_limits() -> Result<Vec<Timed>, NotAtHand> {
     let lines = |text: &[u8]| text.iter().filter(|&&byte| byte == b'\n').count();
     let mut all = Vec::new();
-    for edge in edges::edges() {
+    for edge in edges::edges(PRINTING) {
         if edge.expected.is_ok() && lines(&edge.text) >= 500 {
-            let sheet = check::check_text(&edge.text).expect("an edge that passes");
+            let sheet = check::check_text(&edge.text, PRINTING).expect("an edge that passes");
             all.extend(timed(&sheet)?);
         }
     }
@@ -130,18 +149,20 @@ fn under_with(depth: usize) -> Sheet {
     one_query(vec![nested])
 }
 
-/// The buffers of the proved call.
+/// The buffers of the proved calls.
 struct Buffers {
     tables: Vec<u16>,
     work: Vec<u64>,
+    narrow_work: Vec<u64>,
     answer: Vec<u8>,
 }
 
 impl Buffers {
     fn new() -> Buffers {
         Buffers {
-            tables: vec![0; ENOUGH],
-            work: vec![0; ENOUGH],
+            tables: vec![0; TABLES],
+            work: vec![0; LIBRARY.work],
+            narrow_work: vec![0; PRINTING.work],
             answer: vec![0; ANSWER],
         }
     }
@@ -151,9 +172,22 @@ impl Buffers {
             tables,
             work,
             answer,
+            ..
         } = self;
         let text = black_box(&sheet.text);
         let _ = black_box(nokchbem::analyze(text, tables, work, answer));
+        black_box(&self.answer);
+    }
+
+    fn narrow(&mut self, sheet: &Timed) {
+        let Buffers {
+            tables,
+            narrow_work,
+            answer,
+            ..
+        } = self;
+        let text = black_box(&sheet.text);
+        let _ = black_box(narrow::analyze(text, tables, narrow_work, answer));
         black_box(&self.answer);
     }
 
@@ -176,34 +210,48 @@ fn original(sheet: &Timed) {
     black_box(sheet.built.analyze());
 }
 
-/// Nanoseconds a call of each.
-fn times(buffers: &mut Buffers, sheet: &Timed) -> (f64, f64) {
-    sheet.built.supply_builtins();
-    (
-        best(&mut || buffers.proved(sheet)),
-        best(&mut || original(sheet)),
-    )
+/// Nanoseconds of each: a call, or the calls on all sheets in turn. The narrow call's mean nothing
+/// where it refuses the sheet.
+struct Times {
+    proved: f64,
+    narrow: f64,
+    original: f64,
 }
 
-fn in_turn(buffers: &mut Buffers, sheets: &[Timed]) -> f64 {
-    let (mut least_proved, mut least_original) = (f64::MAX, f64::MAX);
-    for _ in 0..20 {
-        let (mut sum_proved, mut sum_original) = (0.0, 0.0);
-        for sheet in sheets {
-            let started = Instant::now();
-            buffers.proved(sheet);
-            sum_proved += started.elapsed().as_nanos() as f64;
-        }
-        for sheet in sheets {
-            sheet.built.supply_builtins();
-            let started = Instant::now();
-            original(sheet);
-            sum_original += started.elapsed().as_nanos() as f64;
-        }
-        least_proved = sum_proved.min(least_proved);
-        least_original = sum_original.min(least_original);
+fn times(buffers: &mut Buffers, sheet: &Timed) -> Times {
+    sheet.built.supply_builtins();
+    Times {
+        proved: best(&mut || buffers.proved(sheet)),
+        narrow: best(&mut || buffers.narrow(sheet)),
+        original: best(&mut || original(sheet)),
     }
-    least_proved / least_original
+}
+
+/// The least of several rounds over all sheets, in each of which the three take turns.
+fn in_turn(buffers: &mut Buffers, sheets: &[Timed]) -> Times {
+    let sum = |prepare: fn(&Timed), call: &mut dyn FnMut(&Timed)| {
+        let mut sum = 0.0;
+        for sheet in sheets {
+            prepare(sheet);
+            let started = Instant::now();
+            call(sheet);
+            sum += started.elapsed().as_nanos() as f64;
+        }
+        sum
+    };
+    let nothing = |_: &Timed| ();
+    let builtins = |sheet: &Timed| sheet.built.supply_builtins();
+    let mut least = Times {
+        proved: f64::MAX,
+        narrow: f64::MAX,
+        original: f64::MAX,
+    };
+    for _ in 0..20 {
+        least.proved = sum(nothing, &mut |sheet| buffers.proved(sheet)).min(least.proved);
+        least.narrow = sum(nothing, &mut |sheet| buffers.narrow(sheet)).min(least.narrow);
+        least.original = sum(builtins, &mut original).min(least.original);
+    }
+    least
 }
 
 fn report(label: &str, sheets: &[Timed]) {
@@ -215,29 +263,42 @@ fn report(label: &str, sheets: &[Timed]) {
         .map(|sheet| best(&mut || buffers.reading(sheet)))
         .collect();
     let zeroing = best(&mut || buffers.zeroing());
-    println!(
+    let in_turn = in_turn(&mut buffers, sheets);
+    let mean = |value: &dyn Fn(&Times) -> f64| geometric_mean(times.iter().map(value));
+    print!(
         "{label:26} {:6} {:8} {:8.0}ns {:9.0}ns {:6.3} {:8.3} {:6.0}ns {zeroing:6.0}ns",
         sheets.len(),
         bytes / sheets.len(),
-        geometric_mean(times.iter().map(|t| t.0)),
-        geometric_mean(times.iter().map(|t| t.1)),
-        geometric_mean(times.iter().map(|t| t.0 / t.1)),
-        in_turn(&mut buffers, sheets),
+        mean(&|t| t.proved),
+        mean(&|t| t.original),
+        mean(&|t| t.proved / t.original),
+        in_turn.proved / in_turn.original,
         geometric_mean(readings.iter().copied())
     );
+    if sheets.iter().all(|sheet| sheet.narrow) {
+        print!(
+            " {:7.0}ns {:6.3} {:8.3}",
+            mean(&|t| t.narrow),
+            mean(&|t| t.narrow / t.original),
+            in_turn.narrow / in_turn.original
+        );
+    }
+    println!();
 }
 
-/// Both on one sheet, whatever the original takes.
+/// All on one sheet, whatever the original takes.
 fn growth(label: &str, sheet: &Sheet) -> Result<(), NotAtHand> {
-    let sheet = Timed {
-        text: sheet.text().into_bytes(),
-        built: Built::new(sheet)?,
-    };
-    let (proved, original) = times(&mut Buffers::new(), &sheet);
+    let sheet = Timed::new(sheet)?;
+    let Times {
+        proved,
+        narrow,
+        original,
+    } = times(&mut Buffers::new(), &sheet);
     println!(
-        "{label:26} {:8} {proved:8.0}ns {original:9.0}ns {:6.3}",
+        "{label:26} {:8} {proved:8.0}ns {original:9.0}ns {:6.3} {narrow:7.0}ns {:6.3}",
         sheet.text.len(),
-        proved / original
+        proved / original,
+        narrow / original
     );
     Ok(())
 }

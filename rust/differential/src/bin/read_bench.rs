@@ -5,9 +5,11 @@
 //! the geometric mean of the sheets' ratios. *In turn* is the ratio of the times for all sheets one
 //! after the other, so that no branch is foreseen from the call before. The proved call zeroes its
 //! buffers and puts every question within its time.
+//!
+//! Sheets have at most 127 names where nothing else is said.
 
-use differential::comparing::ENOUGH;
 use differential::timing::{best, geometric_mean};
+use sheets::limits::{LIBRARY, PRINTING, TABLES};
 use sheets::sheet::{ExprRow, StatementRow};
 use sheets::{check, edges, generate, Kind, Sheet};
 use std::hint::black_box;
@@ -17,26 +19,37 @@ fn main() {
     println!(
         "class                    sheets    bytes   values     proved      plain  ratio  in turn"
     );
-    let generated = || (1..).map(generate::sheet);
     let typical = |sheet: &Sheet| (3..=12).contains(&sheet.statements.len());
     let large = |sheet: &Sheet| sheet.exprs.len() >= 300;
     let text = |sheet: Sheet| sheet.text().into_bytes();
     let some = |count, wanted: &dyn Fn(&Sheet) -> bool| {
-        let sheets = generated().filter(wanted).take(count);
+        let sheets = (1..).map(generate::few).filter(wanted).take(count);
         sheets.map(text).collect::<Vec<_>>()
     };
+    let many = (1..=1_000).map(generate::many).map(text);
     report("3 to 12 statements", &some(1_000, &typical));
     report("300 expressions or more", &some(200, &large));
     report("a count at its limit", &at_limits());
     report("every count at its limit", &[text(longest())]);
+    report("128 to 511 names", &many.collect::<Vec<_>>());
+    report("32,768 bytes, 511 names", &[longest_of_all()]);
     report("refused, chains shared", &[text(shared_chain())]);
 }
 
 /// The edges that pass with 512 expressions or nearly so many.
 fn at_limits() -> Vec<Vec<u8>> {
-    let passing = edges::edges().into_iter().filter(|e| e.expected.is_ok());
+    let edges = edges::edges(PRINTING).into_iter();
+    let passing = edges.filter(|edge| edge.expected.is_ok());
     let full = passing.filter(|edge| lines(&edge.text) >= 511);
     full.map(|edge| edge.text).collect()
+}
+
+/// The longest sheet that the library takes.
+fn longest_of_all() -> Vec<u8> {
+    let edges = edges::edges(LIBRARY).into_iter();
+    let passing = edges.filter(|edge| edge.expected.is_ok());
+    let texts = passing.map(|edge| edge.text);
+    texts.max_by_key(Vec::len).expect("an edge that passes")
 }
 
 fn lines(text: &[u8]) -> usize {
@@ -45,7 +58,7 @@ fn lines(text: &[u8]) -> usize {
 
 /// Every count at its limit, long names and long positions.
 fn longest() -> Sheet {
-    let full = edges::edges()
+    let full = edges::edges(PRINTING)
         .into_iter()
         .max_by_key(|edge| match edge.expected {
             Ok(()) => lines(&edge.text),
@@ -59,7 +72,7 @@ fn longest() -> Sheet {
     for row in &mut sheet.exprs {
         (row.line, row.col) = (u16::MAX, u16::MAX);
     }
-    check::check(&sheet).expect("a sheet that passes");
+    check::check(&sheet, PRINTING).expect("a sheet that passes");
     sheet
 }
 
@@ -143,9 +156,9 @@ fn in_turn(buffers: &mut Buffers, sheets: &[Vec<u8>]) -> f64 {
 
 fn report(label: &str, sheets: &[Vec<u8>]) {
     let mut buffers = Buffers {
-        tables: vec![0; ENOUGH],
-        work: vec![0; ENOUGH],
-        values: Vec::with_capacity(ENOUGH),
+        tables: vec![0; TABLES],
+        work: vec![0; LIBRARY.work],
+        values: Vec::with_capacity(TABLES),
     };
     let (mut bytes, mut values) = (0, 0);
     let mut times = Vec::new();

@@ -25,5 +25,6 @@ fn compare(report: &mut Report, count: u64, seed: u64) -> Result<(), Difference>
     report.part("two fields", || parts::two_fields(&largest, 24))?;
     report.part("numbers", || parts::numbers(100_000))?;
     report.part("generated, damaged", || parts::generated(seed, count))?;
-    report.part("up to 3 bytes", || parts::short_strings(3))
+    report.part("up to 3 bytes", || parts::short_strings(3))?;
+    Ok(())
 }

@@ -4,12 +4,15 @@
 //! Each list is timed by itself, over many calls, the better of several runs counting; a class has
 //! the geometric mean of the lists' ratios. The proved call zeroes its buffers and asks its
 //! question each time; the original gets its list ready made.
+//!
+//! Lists have names up to 127 in the first three classes, and up to 511 in the others.
 
 use differential::timing::{best, geometric_mean};
 use oracle::{NotAtHand, Outcome, Prepared};
 use sheets::answer::Answer;
 use sheets::lists::List;
 use sheets::rng::Rng;
+use sheets::{generate, Sheet};
 use std::hint::black_box;
 use std::process::ExitCode;
 use std::time::Instant;
@@ -31,25 +34,32 @@ fn main() -> ExitCode {
 }
 
 fn classes() -> Result<Vec<(&'static str, Vec<List>)>, NotAtHand> {
-    let mut rng = Rng::new(3);
-    let large = (0..300).map(|_| large(&mut rng)).collect();
-    let worst = [64, 96, 128]
-        .into_iter()
-        .flat_map(|n| [1, 5].map(|repeats| List::longest_rounds(n, repeats)))
-        .collect();
+    let large = |list: fn(&mut Rng) -> List| {
+        let mut rng = Rng::new(3);
+        (0..300).map(|_| large(list, &mut rng)).collect()
+    };
+    let worst = |apart| {
+        let sizes = [64, 96, 128].into_iter();
+        sizes
+            .flat_map(|n| [1, 5].map(|repeats| List::longest_rounds(n, repeats, apart)))
+            .collect()
+    };
     Ok(vec![
-        ("3 to 12 statements", typical()?),
-        ("60 to 128 statements", large),
-        ("longest rounds", worst),
+        ("3 to 12 statements", typical(generate::few)?),
+        ("60 to 128 statements", large(List::random_few)),
+        ("longest rounds", worst(1)),
+        ("3 to 12, many names", typical(generate::many)?),
+        ("60 to 128, many names", large(List::random)),
+        ("rounds of many names", worst(4)),
     ])
 }
 
 /// What queries of accepted generated sheets hand to the scheduler.
-fn typical() -> Result<Vec<List>, NotAtHand> {
+fn typical(sheet: fn(u64) -> Sheet) -> Result<Vec<List>, NotAtHand> {
     oracle::on_deep_stack(|| {
         let mut lists = Vec::new();
         for seed in 1.. {
-            let run = oracle::analyze(&sheets::generate::sheet(seed))?;
+            let run = oracle::analyze(&sheet(seed))?;
             if !matches!(run.outcome, Outcome::Answered(Answer::Queries(_))) {
                 continue;
             }
@@ -72,9 +82,9 @@ fn typical() -> Result<Vec<List>, NotAtHand> {
 
 /// Chains and crossings of definitions, as in a long rule body: each statement uses a few names,
 /// mostly of statements before it in some order.
-fn large(rng: &mut Rng) -> List {
+fn large(random: fn(&mut Rng) -> List, rng: &mut Rng) -> List {
     loop {
-        let list = List::random(rng);
+        let list = random(rng);
         if list.statements >= 60 {
             return list;
         }

@@ -36,16 +36,17 @@ pub struct Report {
 }
 
 impl Report {
+    /// Runs a part and prints what came out.
     pub fn part(
         &mut self,
         label: &str,
         run: impl FnOnce() -> Result<Tally, Difference>,
-    ) -> Result<(), Difference> {
+    ) -> Result<Tally, Difference> {
         let started = Instant::now();
         let tally = run()?;
         self.all += tally;
         let seconds = started.elapsed().as_secs_f64();
         println!("{label:28}{tally}; {seconds:.1} s");
-        Ok(())
+        Ok(tally)
     }
 }

@@ -1,4 +1,4 @@
-//! The edges of the specification, whatever call is compared.
+//! The edges of the specification, whatever call is compared, with its limits.
 
 use super::{spread, Call, Difference, Tally};
 use sheets::rng::Rng;
@@ -6,7 +6,7 @@ use sheets::{damage, edges};
 
 /// Every edge, and each that passes with so many different faults; with answers of so many bytes.
 pub fn compare_edges<C: Call>(answer: usize, faults: u64) -> Result<Tally, Difference> {
-    let edges = edges::edges();
+    let edges = edges::edges(C::LIMITS);
     spread::<C>(answer, edges.len() as u64, |comparer, number| {
         let edge = &edges[number as usize];
         comparer.compare(&edge.text)?;

@@ -1,6 +1,7 @@
 //! Makes a sheet on which the two sides differ smaller.
 
 use super::{Call, Difference, Lent};
+use sheets::limits::LIBRARY;
 use sheets::{check, shrink};
 
 /// How many sheets are tried at most.
@@ -16,7 +17,7 @@ pub fn smaller<C: Call>(first: Difference) -> Difference {
             calls_left: MOST_CALLS,
         };
         // Rows of a valid sheet go by trees: a row alone can rarely be left out.
-        if let Ok(sheet) = check::check_text(&search.least.sheet) {
+        if let Ok(sheet) = check::check_text(&search.least.sheet, LIBRARY) {
             shrink::shrink(&sheet, |smaller| search.differs(smaller.text().as_bytes()));
         }
         search.without_lines();

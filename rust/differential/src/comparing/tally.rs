@@ -1,5 +1,6 @@
 //! How many sheets came out in which way.
 
+use sheets::limits::PRINTING;
 use std::fmt;
 use std::ops::{AddAssign, Index};
 
@@ -35,6 +36,8 @@ impl Outcome {
 #[derive(Clone, Copy, Debug, Default, PartialEq, Eq)]
 pub struct Tally {
     counts: [usize; MOST + 4],
+    /// Sheets with more names than the printing program takes, as far as they were looked at.
+    pub many_names: usize,
 }
 
 impl Tally {
@@ -54,6 +57,13 @@ impl Tally {
     pub fn count(&mut self, outcome: Outcome) {
         self.counts[outcome.index()] += 1;
     }
+
+    /// Looks at the names of a sheet: the lines of its first section.
+    pub fn count_names(&mut self, sheet: &[u8]) {
+        let lines = sheet.split(|&byte| byte == b'\n').skip(1);
+        let names = lines.take_while(|line| !line.is_empty()).count();
+        self.many_names += usize::from(names > PRINTING.names);
+    }
 }
 
 /// By the number of a refusal; 0 is a sheet that passes.
@@ -70,26 +80,27 @@ impl AddAssign for Tally {
         for (count, more) in self.counts.iter_mut().zip(other.counts) {
             *count += more;
         }
+        self.many_names += other.many_names;
     }
 }
 
 impl fmt::Display for Tally {
     fn fmt(&self, f: &mut fmt::Formatter<'_>) -> fmt::Result {
         write!(f, "{:9} equal;", self.equal())?;
-        let part = |f: &mut fmt::Formatter<'_>, label: &str, outcome| {
-            let count = self.of(outcome);
+        let part = |f: &mut fmt::Formatter<'_>, label: &str, count: usize| {
             let share = 100.0 * count as f64 / self.all().max(1) as f64;
             match count {
                 0 => Ok(()),
                 _ => write!(f, " {label} {count} ({share:.1}%)"),
             }
         };
-        part(f, "passed", Outcome::Passed)?;
-        part(f, "unplaced", Outcome::Unplaced)?;
-        for number in 1..=MOST as u16 {
-            part(f, &format!("{number}:"), Outcome::Refused(number))?;
+        part(f, "passed", self.of(Outcome::Passed))?;
+        part(f, "unplaced", self.of(Outcome::Unplaced))?;
+        for number in 1..=MOST {
+            part(f, &format!("{number}:"), self[number])?;
         }
-        part(f, "too long", Outcome::TooLong)?;
-        part(f, "without the original", Outcome::Alone)
+        part(f, "too long", self.of(Outcome::TooLong))?;
+        part(f, "without the original", self.of(Outcome::Alone))?;
+        part(f, "over 127 names:", self.many_names)
     }
 }

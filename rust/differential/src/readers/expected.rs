@@ -1,9 +1,10 @@
 //! What the proved reader has to answer and to leave in the tables, from what the plain reader
 //! says.
 
-use crate::comparing::{refusal, Call, Due, Lengths, Outcome};
+use crate::comparing::{Call, Due, Lengths, Outcome};
 use nokchbem::Refusal;
 use reader::Rows;
+use sheets::limits::{Limits, LIBRARY};
 
 /// Where row 0 of the built-ins, expressions, statements and queries would stand, and how wide a
 /// row is.
@@ -16,6 +17,9 @@ const END: usize = 5_308;
 pub struct ReadCall;
 
 impl Call for ReadCall {
+    const LIMITS: Limits = LIBRARY;
+    const READER_NAMES: usize = reader::LIBRARY;
+
     fn call(
         sheet: &[u8],
         tables: &mut [u16],
@@ -26,7 +30,7 @@ impl Call for ReadCall {
     }
 
     fn due(sheet: &[u8], lengths: Lengths) -> Due {
-        match rows(sheet, lengths) {
+        match Self::rows(sheet, lengths) {
             Err(refusal) => Due::refused(refusal),
             Ok(rows) => Due {
                 tables: tables(&rows),
@@ -38,14 +42,6 @@ impl Call for ReadCall {
     fn well_formed(answer: &[u8]) -> bool {
         answer.is_empty()
     }
-}
-
-/// Question 1 comes first; the others are the plain reader's.
-pub fn rows(sheet: &[u8], lengths: Lengths) -> Result<Rows, Refusal> {
-    if !lengths.enough() {
-        return Err(refusal(1, 0));
-    }
-    reader::read(sheet).map_err(|fault| refusal(fault.number, fault.line))
 }
 
 /// The head and the rows.

@@ -1,7 +1,8 @@
 //! The sheets on which the readers are compared, a part a function.
 
 use super::ReadCall;
-use crate::comparing::{self, smaller, Comparer, Difference, Lengths, Lent, Tally, ENOUGH};
+use crate::comparing::{self, smaller, Comparer, Difference, Lengths, Lent, Tally};
+use sheets::limits::{LIBRARY, PRINTING, TABLES};
 use sheets::rng::Rng;
 use sheets::{damage, examples, generate};
 
@@ -31,14 +32,17 @@ fn spread(
     comparing::spread(0, count, case)
 }
 
-/// Question 1: buffers of every length about the one asked for, with sheets of every sort.
+/// Question 1: buffers of every length about the one asked for, and about what the printing program
+/// asks for, with sheets of every sort.
 pub fn lengths() -> Result<Tally, Difference> {
     let mut sheets = small_sheets().to_vec();
     sheets.extend([Vec::new(), b"name\n".to_vec(), vec![b'\n'; 40_000]]);
-    let lengths = [0, 1, 8, ENOUGH - 1, ENOUGH, ENOUGH + 1, 3 * ENOUGH];
+    let about = |length: usize| [length - 1, length, length + 1];
+    let tables = [&[0, 1, 8][..], &about(TABLES), &[3 * TABLES]].concat();
+    let work = [&[0, 1, 8][..], &about(PRINTING.work), &about(LIBRARY.work)].concat();
     let mut tally = Tally::default();
-    for tables in lengths {
-        for work in lengths {
+    for &tables in &tables {
+        for &work in &work {
             let mut lent = Lent::<ReadCall>::new(Lengths {
                 tables,
                 work,

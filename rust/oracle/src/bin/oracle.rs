@@ -1,9 +1,10 @@
 //! `oracle [SHEET]`: prints the original's answer to a sheet, read from the file or from standard
 //! input. A sheet that the original could not be asked about gets the refusal 2 to 6 of the tests'
-//! own check.
+//! own check, with the library's limits.
 
 use sheets::answer::Answer;
 use sheets::check::check_text;
+use sheets::limits::LIBRARY;
 use std::io::Read;
 use std::process::ExitCode;
 
@@ -33,7 +34,7 @@ fn answer() -> Result<String, String> {
     if arguments.next().is_some() {
         return Err("usage: oracle [SHEET]".to_string());
     }
-    let sheet = match check_text(&text) {
+    let sheet = match check_text(&text, LIBRARY) {
         Ok(sheet) => sheet,
         Err(fault) => {
             let refusal = Answer::Refusal {

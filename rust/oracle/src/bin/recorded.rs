@@ -4,7 +4,7 @@
 
 use oracle::{analyze, Outcome, Run};
 use sheets::answer::Answer;
-use sheets::{check::check_text, vectors};
+use sheets::{check::check_text, limits::LIBRARY, vectors};
 use std::collections::{BTreeMap, BTreeSet};
 use std::process::ExitCode;
 
@@ -28,7 +28,7 @@ fn print(file: &str) -> Result<(), String> {
     let text = std::fs::read_to_string(file).map_err(|e| format!("{file}: {e}"))?;
     for vector in vectors::read(&text) {
         println!("# sheet {}", vector.label);
-        let sheet = check_text(vector.sheet.as_bytes()).expect("a sheet that is read");
+        let sheet = check_text(vector.sheet.as_bytes(), LIBRARY).expect("a sheet that is read");
         let run = analyze(&sheet).map_err(|e| e.to_string())?;
         for row in rows(&run) {
             let values: Vec<String> = row.iter().map(u16::to_string).collect();

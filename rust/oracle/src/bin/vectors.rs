@@ -1,7 +1,8 @@
 //! `vectors FILE`: writes the fixed list of sheets with the original's answers.
 //!
 //! First the worked example and the trial queries, then the smallest generated sheets that
-//! together show each feature with each outcome a few times, then some large ones.
+//! together show each feature with each outcome a few times, then some large ones. These have at
+//! most 127 names; sheets with 128 to 511 names follow.
 //!
 //! `vectors FILE COUNT [SEED]`: writes COUNT generated sheets instead, as they come from SEED (1) on,
 //! those apart that are too long for the original.
@@ -11,12 +12,17 @@ use sheets::answer::{Answer, Placed};
 use sheets::vectors::Vector;
 use sheets::{census, examples, generate, vectors, Sheet};
 use std::collections::BTreeMap;
+use std::ops::RangeInclusive;
 use std::process::ExitCode;
 
 const SEEDS: u64 = 40_000;
 const SMALL: usize = 2_200;
 /// How many sheets are to show a feature with an outcome.
 const TIMES: usize = 2;
+/// Of sheets with many names: the bytes besides the names, and how many sheets for each number of
+/// words that the names take.
+const MIDDLING: RangeInclusive<usize> = 600..=1_000;
+const EACH: usize = 33;
 const TITLE: &str = "Sheets with the original's answers. Made by \
     `cargo run --release -p oracle --bin vectors -- vectors/sheets.txt` in rust/.";
 
@@ -55,17 +61,51 @@ fn list() -> Result<Vec<Vector>, NotAtHand> {
     let mut small = Vec::new();
     let mut large = Vec::new();
     for seed in 1..=SEEDS {
-        let sheet = generate::sheet(seed);
+        let sheet = generate::few(seed);
+        let label = format!("seed {seed}");
         match sheet.text().len() {
-            0..=SMALL => small.push((seed, sheet)),
-            9_000.. if large.len() < 6 => large.push((seed, sheet)),
+            0..=SMALL => small.push((label, sheet)),
+            9_000.. if large.len() < 6 => large.push((label, sheet)),
             _ => {}
         }
     }
     small.sort_by_cached_key(|(_, sheet)| sheet.text().len());
+    list.extend(showing(&small, TIMES)?);
+    for (label, sheet) in large {
+        list.extend(vector(label, &sheet)?);
+    }
+    list.extend(many_names()?);
+    Ok(list)
+}
+
+/// Sheets with many names, as many for each number of words that the names take.
+fn many_names() -> Result<Vec<Vector>, NotAtHand> {
+    let mut sheets: Vec<(String, Sheet)> = (1..=SEEDS)
+        .map(|seed| (format!("many names, seed {seed}"), generate::many(seed)))
+        .filter(|(_, sheet)| MIDDLING.contains(&besides_names(sheet)))
+        .collect();
+    sheets.sort_by_cached_key(|(_, sheet)| besides_names(sheet));
+    let mut list = Vec::new();
+    for words in 3..=8 {
+        let of_words = |(_, sheet): &(String, Sheet)| sheet.names.len() / 64 + 1 == words;
+        let some: Vec<_> = sheets.iter().filter(|s| of_words(s)).cloned().collect();
+        list.extend(showing(&some, 1)?.into_iter().take(EACH));
+    }
+    Ok(list)
+}
+
+/// The bytes of a sheet without its names: however many these are, the rest may be small.
+fn besides_names(sheet: &Sheet) -> usize {
+    let names: usize = sheet.names.iter().map(|name| name.len() + 1).sum();
+    sheet.text().len() - names
+}
+
+/// The first of the sheets that together show each feature with each outcome so many times.
+fn showing(sheets: &[(String, Sheet)], times: usize) -> Result<Vec<Vector>, NotAtHand> {
+    let mut list = Vec::new();
     let mut seen: BTreeMap<(String, String), usize> = BTreeMap::new();
-    for (seed, sheet) in &small {
-        let Some(vector) = vector(format!("seed {seed}"), sheet)? else {
+    for (label, sheet) in sheets {
+        let Some(vector) = vector(label.clone(), sheet)? else {
             continue;
         };
         let outcome = outcome(&vector.answer);
@@ -73,7 +113,7 @@ fn list() -> Result<Vec<Vector>, NotAtHand> {
         let features = census::features_of(sheet);
         for feature in &features {
             let key = (feature.clone(), outcome.clone());
-            wanted |= seen.get(&key).copied().unwrap_or(0) < TIMES;
+            wanted |= seen.get(&key).copied().unwrap_or(0) < times;
         }
         if wanted {
             for feature in features {
@@ -81,9 +121,6 @@ fn list() -> Result<Vec<Vector>, NotAtHand> {
             }
             list.push(vector);
         }
-    }
-    for (seed, sheet) in &large {
-        list.extend(vector(format!("seed {seed}"), sheet)?);
     }
     Ok(list)
 }

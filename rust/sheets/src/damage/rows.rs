@@ -1,6 +1,6 @@
 //! Faults of whole rows, of sections and of names.
 
-use super::page::{Page, EXPRS, NAMES, QUERIES};
+use super::page::{Page, BUILTINS, EXPRS, NAMES, QUERIES, STATEMENTS};
 use crate::rng::Rng;
 use crate::sheet::limits;
 
@@ -32,14 +32,6 @@ pub(super) const WAYS: &[(&str, usize, Harm)] = &[
     ("a name twice", 1, name_twice),
     ("two names exchanged", 1, exchange_names),
     ("a name that is no ASCII", 1, foreign_name),
-];
-
-const MOST: [usize; 5] = [
-    limits::NAMES,
-    limits::BUILTINS,
-    limits::EXPRESSIONS,
-    limits::STATEMENTS,
-    limits::QUERIES,
 ];
 
 /// A section with rows, and one of its rows.
@@ -132,12 +124,25 @@ fn overfill(page: &mut Page, rng: &mut Rng) {
     fill_to(page, over, rng);
 }
 
+/// The most rows of a section; of the names, by one program's limits or by the other's.
+fn most(page: &Page, section: usize, rng: &mut Rng) -> usize {
+    let [few, many] = [limits::PRINTING, limits::LIBRARY].map(|limits| limits.names);
+    match section {
+        NAMES if page.count(NAMES) < few && rng.percent(50) => few,
+        NAMES => many,
+        BUILTINS => limits::BUILTINS,
+        EXPRS => limits::EXPRESSIONS,
+        STATEMENTS => limits::STATEMENTS,
+        _ => limits::QUERIES,
+    }
+}
+
 /// Copies of the last row, or further names, up to the section's limit and `over` more.
 fn fill_to(page: &mut Page, over: usize, rng: &mut Rng) {
     let Some(section) = page.section(rng) else {
         return;
     };
-    let wanted = 1 + MOST[section] + over;
+    let wanted = 1 + most(page, section, rng) + over;
     for extra in page.sections[section].len()..wanted {
         let line = match section {
             NAMES => format!("zz{extra:03}"),

@@ -5,11 +5,10 @@ use super::{Edge, Headings};
 use crate::sheet::{BuiltinRow, Sheet};
 use crate::tree::{Expr, Literal, Node, Query, Statement};
 
-pub(super) fn add(edges: &mut Vec<Edge>) {
+pub(super) fn add(edges: &mut Vec<Edge>, most_names: usize) {
     type Make = fn(usize) -> Sheet;
     type Heading = fn(&Headings) -> usize;
-    let counts: [(&str, usize, Make, Heading); 5] = [
-        ("names", limits::NAMES, with_names, |at| at.name),
+    let counts: [(&str, usize, Make, Heading); 4] = [
         ("built-ins", limits::BUILTINS, with_builtins, |at| at.arity),
         ("expressions", limits::EXPRESSIONS, with_exprs, |at| at.kind),
         ("statements", limits::STATEMENTS, with_statements, |at| {
@@ -30,15 +29,26 @@ pub(super) fn add(edges: &mut Vec<Edge>) {
             });
         }
     }
+    name_counts(edges, most_names);
     name_bytes(edges);
     arities(edges);
     nesting(edges);
-    all_at_once(edges);
+    all_at_once(edges, most_names);
 }
 
 /// One below, at and one above.
 fn about(limit: usize) -> [usize; 3] {
     [limit - 1, limit, limit + 1]
+}
+
+/// Whichever of the two limits is asked, both are edges.
+fn name_counts(edges: &mut Vec<Edge>, most_names: usize) {
+    for limit in limits::NAMES {
+        for count in limit - 1..=limit + 2 {
+            let label = format!("{count} names");
+            edges.push(Edge::by_names(label, &with_names(count), most_names));
+        }
+    }
 }
 
 fn with_names(count: usize) -> Sheet {
@@ -110,9 +120,17 @@ fn arities(edges: &mut Vec<Edge>) {
 }
 
 /// Everything at its limit in one sheet, and then two limits broken together.
-fn all_at_once(edges: &mut Vec<Edge>) {
-    let full = full_sheet();
-    edges.push(Edge::passes("every count at its limit", full.text()));
+fn all_at_once(edges: &mut Vec<Edge>, most_names: usize) {
+    for names in limits::NAMES {
+        let label = format!("every count at its limit, with {names} names");
+        edges.push(Edge::by_names(label, &full_sheet(names), most_names));
+    }
+    let full = full_sheet(most_names);
+
+    let mut over = full_sheet(most_names + 1);
+    over.builtins.push(over.builtins[0]);
+    let label = "a name too many and 65 built-ins";
+    edges.push(Edge::by_names(label, &over, most_names));
 
     let mut over = full.clone();
     over.builtins.push(over.builtins[0]);
@@ -129,7 +147,8 @@ fn all_at_once(edges: &mut Vec<Edge>) {
     edges.push(Edge::refused(label, over.text(), 5, line));
 }
 
-fn full_sheet() -> Sheet {
+/// Every count at its limit, and so many names.
+pub(super) fn full_sheet(count: usize) -> Sheet {
     let mut rows = nested(&[in_body], limits::NESTING);
     let nested_queries = limits::QUERIES - limits::NESTING;
     rows.extend((0..nested_queries).map(|_| plain(array_compr(number(), vec![]))));
@@ -141,7 +160,7 @@ fn full_sheet() -> Sheet {
     rows.push(plain(array(vec![number(); items])));
     let builtins = with_builtins(limits::BUILTINS).builtins;
     Sheet {
-        names: names(limits::NAMES),
+        names: names(count),
         builtins,
         ..sheet(rows)
     }

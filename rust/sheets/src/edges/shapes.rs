@@ -6,12 +6,12 @@ use crate::rng::Rng;
 use crate::sheet::{Kind, Sheet};
 use crate::tree::{Expr, Literal, Node, Query, Snippet, Statement};
 
-pub(super) fn add(edges: &mut Vec<Edge>) {
+pub(super) fn add(edges: &mut Vec<Edge>, most_names: usize) {
     smallest(edges);
     deepest(edges);
     longest(edges);
     objects(edges);
-    shuffled(edges);
+    shuffled(edges, most_names);
 }
 
 fn smallest(edges: &mut Vec<Edge>) {
@@ -183,10 +183,10 @@ fn objects(edges: &mut Vec<Edge>) {
 }
 
 /// Rows may stand in any order in which the naming row comes first.
-fn shuffled(edges: &mut Vec<Edge>) {
+fn shuffled(edges: &mut Vec<Edge>, most_names: usize) {
     let items = |count| vec![number(); count];
     let snippet = Snippet {
-        spare_names: names(limits::NAMES),
+        spare_names: names(most_names),
         query: Query {
             statements: (0..16)
                 .map(|i| Statement {

@@ -4,13 +4,13 @@ use super::{headings, limits, names, number, plain, sheet, var, Edge};
 use crate::sheet::{BuiltinRow, ExprRow, Sheet, StatementRow, HEADINGS};
 use crate::tree::{Node, Statement};
 
-pub(super) fn add(edges: &mut Vec<Edge>) {
-    lengths(edges);
+pub(super) fn add(edges: &mut Vec<Edge>, most_names: usize) {
+    lengths(edges, most_names);
     ends(edges);
     headings_and_sections(edges);
     values(edges);
     name_lines(edges);
-    order_of_questions(edges);
+    order_of_questions(edges, most_names);
 }
 
 /// A valid sheet with a row in every section and a modifier.
@@ -29,31 +29,31 @@ fn base() -> Sheet {
 }
 
 /// How a sheet is brought to a number of bytes, and the refusal it then has by document 01.
-type Pad = fn(usize) -> (Vec<u8>, u16, usize);
+type Pad = fn(usize, usize) -> (Vec<u8>, u16, usize);
 
-/// No sheet that passes question 6 is this long, so below the limit a later question refuses.
-fn lengths(edges: &mut Vec<Edge>) {
+/// Below the limit a later question refuses; `long` has sheets that then pass.
+fn lengths(edges: &mut Vec<Edge>, most_names: usize) {
     let ways: [(&str, Pad); 5] = [
-        ("behind the end", |bytes| {
+        ("behind the end", |bytes, _| {
             let mut text = base().text().into_bytes();
             let line = text.iter().filter(|&&b| b == b'\n').count() + 1;
             text.resize(bytes, b'0');
             (text, 3, line)
         }),
-        ("empty lines behind the end", |bytes| {
+        ("empty lines behind the end", |bytes, _| {
             let mut text = base().text().into_bytes();
             let line = text.iter().filter(|&&b| b == b'\n').count() + 1;
             text.resize(bytes, b'\n');
             (text, 3, line)
         }),
-        ("a long name", |bytes| {
+        ("a long name", |bytes, _| {
             let mut sheet = base();
             let rest = bytes - sheet.text().len() - 1;
             sheet.names.push("z".repeat(rest));
             let line = headings(&sheet).name + sheet.names.len();
             (sheet.text().into_bytes(), 4, line)
         }),
-        ("many queries", |bytes| {
+        ("many queries", |bytes, _| {
             let mut sheet = base();
             let rest = bytes - sheet.text().len();
             // A query takes two bytes, and three where its number has two digits.
@@ -68,7 +68,7 @@ fn lengths(edges: &mut Vec<Edge>) {
     ];
     for (label, pad) in ways {
         for bytes in [limits::BYTES - 1, limits::BYTES, limits::BYTES + 1] {
-            let (text, number, line) = pad(bytes);
+            let (text, number, line) = pad(bytes, most_names);
             assert_eq!(text.len(), bytes, "{label}");
             let label = format!("{bytes} bytes through {label}");
             edges.push(if bytes <= limits::BYTES {
@@ -82,10 +82,10 @@ fn lengths(edges: &mut Vec<Edge>) {
 
 /// Every count at its limit and the fields as long as they have to be. The fields are shortened
 /// from the last row on, so the first expression's kind stays wrong.
-fn large_values(bytes: usize) -> (Vec<u8>, u16, usize) {
+fn large_values(bytes: usize, most_names: usize) -> (Vec<u8>, u16, usize) {
     let mut rows = vec![[u16::MAX; 8]; limits::EXPRESSIONS];
     let mut padded = Sheet {
-        names: names(limits::NAMES)
+        names: names(most_names)
             .iter()
             .map(|name| format!("{name:_<32}"))
             .collect(),
@@ -330,7 +330,7 @@ fn name_lines(edges: &mut Vec<Edge>) {
 }
 
 /// An earlier question anywhere in the sheet comes before a later one.
-fn order_of_questions(edges: &mut Vec<Edge>) {
+fn order_of_questions(edges: &mut Vec<Edge>, most_names: usize) {
     let mut sheet = base();
     let last = headings(&sheet).statement + 1;
     sheet.names.swap(0, 1);
@@ -338,10 +338,11 @@ fn order_of_questions(edges: &mut Vec<Edge>) {
     edges.push(Edge::refused("3 below 4", malformed, 3, last));
 
     sheet = base();
-    sheet.names = names(limits::NAMES + 1);
-    sheet.names[limits::NAMES] = "0".to_string();
-    let line = headings(&sheet).name + limits::NAMES + 1;
-    edges.push(Edge::refused("a bad 128th name", sheet.text(), 4, line));
+    sheet.names = names(most_names + 1);
+    sheet.names[most_names] = "0".to_string();
+    let line = headings(&sheet).name + most_names + 1;
+    let label = "a name too many that is none";
+    edges.push(Edge::refused(label, sheet.text(), 4, line));
 
     sheet = base();
     sheet.builtins[0].arity = 256;

@@ -3,39 +3,73 @@
 //! A snippet is written the way an author would: each query has a few names of its own, uses
 //! them and those of the queries around it, and at its end binds what it used and nothing bound.
 //! Some sheets get one planted fault, so that each error of the walk is met often.
+//!
+//! About half of the sheets have more names than the printing program takes. Most of these names
+//! nothing uses: they move the others to rows all over the words of a set.
 
 mod exprs;
 mod faults;
+mod spare;
 mod statements;
 
 use crate::layout::Numbering;
 use crate::positions::Style;
 use crate::rng::Rng;
-use crate::sheet::{limits, Sheet};
+use crate::sheet::limits::{self, Limits};
+use crate::sheet::Sheet;
 use crate::tree::{Builtin, Query, Snippet};
 use faults::Fault;
 use std::collections::BTreeSet;
 
-/// The sheet of a seed.
+/// The sheet of a seed: with few names or with many.
 pub fn sheet(seed: u64) -> Sheet {
-    let mut rng = Rng::new(seed);
+    // Two thirds of a comparison's sheets go to the library. At least a third of all is then
+    // theirs and has many names.
+    const MANY: usize = 52;
+    if Rng::new(seed ^ (1 << 63)).percent(MANY) {
+        many(seed)
+    } else {
+        few(seed)
+    }
+}
+
+/// A sheet with at most 127 names.
+pub fn few(seed: u64) -> Sheet {
+    first_within(limits::PRINTING, &mut Rng::new(seed), |rng| {
+        let taste = Taste::choose(rng);
+        snippet(taste, rng)
+    })
+}
+
+/// A sheet with 128 to 511 names.
+pub fn many(seed: u64) -> Sheet {
+    first_within(limits::LIBRARY, &mut Rng::new(seed), |rng| {
+        let taste = Taste::choose(rng).crowded(rng);
+        let mut snippet = snippet(taste, rng);
+        spare::fill(&mut snippet, rng);
+        snippet
+    })
+}
+
+/// The first sheet that is within the limits.
+fn first_within(limits: Limits, rng: &mut Rng, snippet: impl Fn(&mut Rng) -> Snippet) -> Sheet {
     loop {
-        let snippet = snippet(&mut rng);
+        let snippet = snippet(rng);
         let numbering = if rng.percent(50) {
             Numbering::Reading
         } else {
             Numbering::Shuffled(rng.clone())
         };
         let sheet = snippet.numbered(numbering);
-        if within_limits(&sheet) {
+        if within(limits, &sheet) {
             return sheet;
         }
     }
 }
 
 /// Budgets are kept while writing but for what closes a query; that is rarely too much.
-fn within_limits(sheet: &Sheet) -> bool {
-    sheet.names.len() <= limits::NAMES
+fn within(limits: Limits, sheet: &Sheet) -> bool {
+    sheet.names.len() <= limits.names
         && sheet.exprs.len() <= limits::EXPRESSIONS
         && sheet.statements.len() <= limits::STATEMENTS
         && sheet.queries.len() <= limits::QUERIES
@@ -43,11 +77,12 @@ fn within_limits(sheet: &Sheet) -> bool {
 }
 
 /// The trees of a sheet with their positions.
-pub fn snippet(rng: &mut Rng) -> Snippet {
-    let taste = Taste::choose(rng);
+fn snippet(taste: Taste, rng: &mut Rng) -> Snippet {
     let builtins = builtins(rng);
+    let mut variables = sample(rng, VARIABLES, 4, 12);
+    variables.extend((0..taste.crowd).map(|_| crowd_name(rng)));
     let mut writer = Writer {
-        variables: sample(rng, VARIABLES, 4, 12),
+        variables,
         builtins,
         taste,
         scopes: Vec::new(),
@@ -116,6 +151,12 @@ fn sample(rng: &mut Rng, from: &[&str], low: usize, high: usize) -> Vec<String> 
     (0..count).map(|_| rng.pick(from).to_string()).collect()
 }
 
+/// A variable beside those that have names of their own.
+fn crowd_name(rng: &mut Rng) -> String {
+    let letter = |rng: &mut Rng| char::from(b'a' + rng.below(26) as u8);
+    format!("{}_{}", letter(rng), letter(rng))
+}
+
 /// Some built-ins; no path twice.
 fn builtins(rng: &mut Rng) -> Vec<Builtin> {
     let mut builtins: Vec<Builtin> = Vec::new();
@@ -145,6 +186,10 @@ struct Taste {
     brackets: usize,
     /// Go down to the deepest nesting wherever possible.
     deep: bool,
+    /// Variables beside the usual ones.
+    crowd: usize,
+    /// The most names that a query has of its own.
+    own: usize,
 }
 
 impl Taste {
@@ -171,6 +216,20 @@ impl Taste {
             comprehensions: *rng.pick(&[0, 2, 5, 12]),
             brackets: *rng.pick(&[1, 2, 2, 3, 3, 3, 6, 9]),
             deep: rng.percent(4),
+            crowd: 0,
+            own: 5,
+        }
+    }
+
+    /// The same, often with more variables.
+    fn crowded(self, rng: &mut Rng) -> Taste {
+        if rng.percent(60) {
+            return self;
+        }
+        Taste {
+            crowd: rng.between(20, 200),
+            own: rng.between(5, 40),
+            ..self
         }
     }
 }
@@ -205,7 +264,7 @@ impl Writer {
         statements: usize,
     ) -> (Query, Vec<crate::tree::Expr>) {
         self.level += 1;
-        let own = (0..self.rng.between(2, 5))
+        let own = (0..self.rng.between(2, self.taste.own))
             .map(|_| self.rng.pick(&self.variables).clone())
             .collect();
         self.scopes.push(Scope {

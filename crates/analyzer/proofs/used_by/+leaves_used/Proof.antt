@@ -45,7 +45,7 @@ known m = (
 returns : (m : ℕ) → lts.Need-returns (known m) (here m) leaves-used.Post
 returns m c =
     let start = c .before .before .before in
-    leaves-used-none _ (start .args .p .scope) (start .args .work .now) (start .pre .1 .0) _ (c .if1 .taken) (start .args .mods) _
+    leaves-used-none _ (start .args .p .width) (start .args .p .scope) (start .args .work .now) (start .pre .1 .0) _ (c .if1 .taken) (start .args .mods) _
 
 row-at-requires : (m : ℕ) → lts.Need-row-at-requires (known m) (here m) leaves-used.Post
 row-at-requires m c κs =
@@ -102,7 +102,7 @@ returns-2 m c =
     let n = c .before .before .before .before in
     let r = n .before .before in
     let start = r .before .before .before .before in
-    leaves-used-turn _ (start .args .p .scope) (start .args .work .now) (start .pre .1 .0) _ (r .before .if1 .left) (start .pre .1 .1) _ (row-is m r) _ (n .before .pattern-of .ensures) _
+    leaves-used-turn _ (start .args .p .width) (start .args .p .scope) (start .args .work .now) (start .pre .1 .0) _ (r .before .if1 .left) (start .pre .1 .1) _ (row-is m r) _ (n .before .pattern-of .ensures) _
     (n .non-var .ensures) (start .args .mods) _ _ _ _ (c .before .before .before .other-used .ensures) (c .before .before .leaves-used .ensures) (c .leaves-used2 .ensures)
 
 pub +leaves-used-spec : {M : Type 1} → statement M

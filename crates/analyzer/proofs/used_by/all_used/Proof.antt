@@ -4,23 +4,19 @@ use Rattle.analyzer.specs.UsedBy.{all-used}
 use Rattle.analyzer.proofs.used_by.all_used.Statement.{statement}
 use Rattle.analyzer.proofs.used_by.all_used.Tie as tie
 
--- src/used_by.rt:33:9
 union-requires : tie.Need-union-requires
 union-requires c κs = search needs
 
--- src/used_by.rt:34:9
 comprs-used-requires : tie.Need-comprs-used-requires
 comprs-used-requires c κs = search needs
 
--- src/used_by.rt:35:5
 comprs-used-requires-2 : tie.Need-comprs-used-requires-2
 comprs-used-requires-2 c κs = search needs
 
--- src/used_by.rt:19:1
 returns : tie.Need-returns
 returns c =
     let a = c .before .before .before .before .before .before .args in
-    all-used _ _ _ _ (a .rest) (a .context) (a .work .now) _ _ _ (c .before .before .union .ensures) (c .before .comprs-used .ensures) (c .comprs-used2 .ensures)
+    all-used _ _ _ _ _ (a .rest) (a .context) (a .work .now) _ _ _ (c .before .before .union .ensures) (c .before .comprs-used .ensures) (c .comprs-used2 .ensures)
 
 pub all-used-spec : {M : Type 1} → statement M
 all-used-spec =

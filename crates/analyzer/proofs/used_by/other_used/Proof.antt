@@ -7,7 +7,7 @@ use Rattle.analyzer.proofs.used_by.other_used.Tie as tie
 returns : tie.Need-returns
 returns c =
     let args = c .before .before .before .args in
-    other-none (args .tables .now) (args .scope) (args .work .now) _ (c .if1 .taken) (args .mods) _
+    other-none (args .tables .now) (args .width) (args .scope) (args .work .now) _ (c .if1 .taken) (args .mods) _
 
 empty-requires : tie.Need-empty-requires
 empty-requires c κs = search needs
@@ -25,7 +25,7 @@ returns-2 : tie.Need-returns-2
 returns-2 c =
     let none = c .before .before .before in
     let args = none .before .before .before .before .args in
-    other-one (args .tables .now) (args .scope) (args .work .now) _ (none .before .if1 .left) (args .mods) _ _ _ _ _ (none .empty .ensures)
+    other-one (args .tables .now) (args .width) (args .scope) (args .work .now) _ (none .before .if1 .left) (args .mods) _ _ _ _ _ (none .empty .ensures)
     (c .before .before .used-names .ensures) (c .before .comprs-used .ensures) (c .comprs-used2 .ensures)
 
 pub other-used-spec : {M : Type 1} → statement M

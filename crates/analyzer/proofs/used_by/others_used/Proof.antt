@@ -17,7 +17,7 @@ returns : tie.Need-returns
 returns c =
     let none = c .before .before in
     let args = none .before .before .before .args in
-    others-used (args .tables .now) (args .p .scope) (args .work .now) (args .key) (args .value) (args .context) _ _ _ (none .empty .ensures) (c .before .leaves-used .ensures)
+    others-used (args .tables .now) (args .p .width) (args .p .scope) (args .work .now) (args .key) (args .value) (args .context) _ _ _ (none .empty .ensures) (c .before .leaves-used .ensures)
     (c .leaves-used2 .ensures)
 
 pub others-used-spec : {M : Type 1} → statement M

@@ -1,8 +1,12 @@
 -- The loop's invariant: the lines of the places below k are written.
 use borrow.Author.Needs.{needs}
-use mathlib.Core.Path.{sym, ap, _∙_}
-use Prim.Native.Nat.{_-_, _≤_}
+use mathlib.Core.Path.{_≡_, sym, ap, _∙_}
+use mathlib.Core.List.{[], _∷_}
+use Prim.Native.Nat.{ℕ, _+_, _-_, _/_, _%_, _≤_}
 use native.Mathlib.Omega.{arith}
+use lib.ListN.{getD}
+use Rattle.blocks.specs.Layout.{places, placeAt}
+use Rattle.writer.specs.Decimal.{rowLine}
 use Rattle.writer.specs.Writes.{Puts, put-none}
 use Rattle.answer.specs.Sound.{Bounds}
 use Rattle.answer.specs.Ranges.{texts}
@@ -12,76 +16,55 @@ use Rattle.answer.proofs.places.put_query_places.Statement.{statement}
 use Rattle.answer.proofs.places.put_query_places.Tie as tie
 
 abbrev Inv-loop : tie.InvT-loop
-Inv-loop answers q answer₀ at block count first place₀ k₀ answer place k =
-    (k ≤ count) × Puts answer₀ place₀ (texts (placeLine answers q) 0 k) answer place
+Inv-loop answers q answer₀ at width count base place₀ k₀ answer place k =
+    (k ≤ count) × Puts answer₀ place₀ (texts (placeLine width answers q) 0 k) answer place
 
 abbrev μ-loop : tie.MeasureT-loop
-μ-loop answers q answer₀ at block count first place₀ k₀ answer place k = count - k
+μ-loop answers q answer₀ at width count base place₀ k₀ answer place k = count - k
 
-bounds : (c : tie.Else1 Inv-loop μ-loop) → Bounds (c .before .before .before .before .args .answers .now) (c .before .before .before .before .args .q)
+bounds : (c : tie.Else1 Inv-loop μ-loop) → (let start = c .before .before .before .before in Bounds (start .args .width) (start .args .answers .now) (start .args .q))
 bounds c =
     let start = c .before .before .before .before in
-    start .pre .3 (start .args .q) (start .pre .1) (start .pre .2) (omega (arith, c .if1 .left))
+    start .pre .3 (start .args .q) (start .pre .1) (start .pre .2) (omega (arith, c .if1 .left, c .before .word-at .ensures))
 
-sub-block : tie.Need-sub-block Inv-loop μ-loop
-sub-block c = search needs
-
-mul-block : tie.Need-mul-block Inv-loop μ-loop
-mul-block c = search needs
-
-add-if1 : tie.Need-add-if1 Inv-loop μ-loop
-add-if1 c = search needs
-
-mul-if1 : tie.Need-mul-if1 Inv-loop μ-loop
-mul-if1 c = search needs
-
-shared-slice-read-if1 : tie.Need-shared-slice-read-if1 Inv-loop μ-loop
-shared-slice-read-if1 c = search needs
+word-at-requires : tie.Need-word-at-requires Inv-loop μ-loop
+word-at-requires c κs = search needs
 
 returns : tie.Need-returns Inv-loop μ-loop
-returns c = puts-as _ _ _ _ _ _ (sym (places-never _ _ (c .if1 .taken))) (put-none _ _)
+returns c = puts-as _ _ _ _ _ _ (sym (places-never _ _ _ (sym (c .before .word-at .ensures) ∙ c .if1 .taken))) (put-none _ _)
 
-add-count : tie.Need-add-count Inv-loop μ-loop
-add-count c = search needs
+word-at-requires-2 : tie.Need-word-at-requires-2 Inv-loop μ-loop
+word-at-requires-2 c κs = search needs
 
-mul-count : tie.Need-mul-count Inv-loop μ-loop
-mul-count c = search needs
-
-shared-slice-read-count : tie.Need-shared-slice-read-count Inv-loop μ-loop
-shared-slice-read-count c = search needs
-
-add-first : tie.Need-add-first Inv-loop μ-loop
-add-first c = search needs
-
-mul-first : tie.Need-mul-first Inv-loop μ-loop
-mul-first c = search needs
-
-shared-slice-read-first : tie.Need-shared-slice-read-first Inv-loop μ-loop
-shared-slice-read-first c = search needs
-
-add-first-2 : tie.Need-add-first-2 Inv-loop μ-loop
-add-first-2 c = omega (arith, bounds (c .before .before) .room)
+word-at-requires-3 : tie.Need-word-at-requires-3 Inv-loop μ-loop
+word-at-requires-3 c κs = search needs
 
 loop-holds : tie.Need-loop-holds Inv-loop μ-loop
 loop-holds c = (omega arith, run-first _ _ _ _)
 
-add-held : tie.Need-add-held Inv-loop μ-loop
-add-held c = omega (arith, bounds (c .before .before .before .before) .room)
+-- The place that is read is the query's place k.
+held : (c : tie.After-statement-at Inv-loop μ-loop)
+    → (let start = c .before .before .before .before .before .before .before .before .before in c .statement-at .result ≡ placeAt (start .args .width) (start .args .answers .now) (start .args .q) (c .before .before .loop .k))
+held c =
+    let start = c .before .before .before .before .before .before .before .before .before in
+    c .statement-at .ensures
+    ∙ ap (λ (n : ℕ). getD (start .args .answers .now) (places (start .args .width) + n + c .before .before .loop .k) 0) (c .before .before .before .word-at3 .ensures)
 
-mul-held : tie.Need-mul-held Inv-loop μ-loop
-mul-held c = omega (arith, bounds (c .before .before .before .before) .room)
-
-shared-slice-read-held : tie.Need-shared-slice-read-held Inv-loop μ-loop
-shared-slice-read-held c = omega (arith, bounds (c .before .before .before .before .before) .room)
+statement-at-requires : tie.Need-statement-at-requires Inv-loop μ-loop
+statement-at-requires c κs =
+    let start = c .before .before .before .before .before .before .before .before in
+    (start .pre .0, omega (arith, bounds (c .before .before .before .before) .room, c .before .before .word-at3 .ensures, c .before .before .before .word-at2 .ensures, c .loop-test .taken))
 
 put-four-requires : tie.Need-put-four-requires Inv-loop μ-loop
 put-four-requires c κs =
     let known = bounds (c .before .before .before .before .before .before) in
-    let held = known .place (c .before .before .before .loop .k) (c .before .before .loop-test .taken) in
-    (omega arith, omega (arith, known .room, c .before .before .loop-test .taken), omega (arith, held), omega arith)
+    let taken = c .before .before .loop-test .taken in
+    let count = c .before .before .before .before .before .word-at2 .ensures in
+    let low = known .place (c .before .before .before .loop .k) (omega (arith, count, taken)) in
+    (omega arith, omega (arith, known .room, count, taken), omega (arith, low, held (c .before)), omega arith)
 
 add-k : tie.Need-add-k Inv-loop μ-loop
-add-k c = omega (arith, bounds (c .before .before .before .before .before .before .before .before .before) .room, c .before .before .before .before .before .loop-test .taken)
+add-k c = omega (arith, bounds (c .before .before .before .before .before .before .before .before .before) .room, c .before .before .before .before .before .before .before .before .word-at2 .ensures, c .before .before .before .before .before .loop-test .taken)
 
 loop-less : tie.Need-loop-less Inv-loop μ-loop
 loop-less c = search needs
@@ -90,7 +73,11 @@ loop-again : tie.Need-loop-again Inv-loop μ-loop
 unfolding placeLine
 loop-again c =
     let loop = c .before .before .before .before .before .before .loop in
-    (omega arith, run-next _ _ _ _ (loop .k) (omega arith) _ _ _ _ (loop .inv .1) (c .before .before .put-four .ensures))
+    let q = c .before .before .before .before .before .before .before .before .before .before .before .before .before .args .q in (
+      omega arith,
+      run-next _ _ _ _ (loop .k) (omega arith) _ _ _ _ (loop .inv .1)
+          (puts-as _ _ _ _ _ _ (ap (λ (n : ℕ). rowLine (q ∷ loop .k ∷ (n / 2) ∷ (n % 2) ∷ [])) (held (c .before .before .before .before))) (c .before .before .put-four .ensures)),
+    )
 
 same-length : tie.Need-same-length Inv-loop μ-loop
 same-length c = c .before .loop .inv .1 .0
@@ -98,7 +85,10 @@ same-length c = c .before .loop .inv .1 .0
 returns-2 : tie.Need-returns-2 Inv-loop μ-loop
 returns-2 c =
     let loop = c .before .loop in
-    puts-as _ _ _ _ _ _ (ap (texts _ 0) (omega (arith, loop .inv .0, c .loop-test .left)) ∙ sym (places-once _ _ (c .before .before .before .before .if1 .left))) (loop .inv .1)
+    let once = c .before .before .before .before in
+    puts-as _ _ _ _ _ _
+    (ap (texts _ 0) (omega (arith, loop .inv .0, c .loop-test .left, c .before .before .before .word-at2 .ensures)) ∙ sym (places-once _ _ _ (λ e. once .if1 .left (once .before .word-at .ensures ∙ e))))
+    (loop .inv .1)
 
 pub put-query-places-spec : {M : Type 1} → statement M
 put-query-places-spec =
@@ -106,23 +96,12 @@ put-query-places-spec =
     (tie.spec
     Inv-loop
     μ-loop
-    sub-block
-    mul-block
-    add-if1
-    mul-if1
-    shared-slice-read-if1
+    word-at-requires
     returns
-    add-count
-    mul-count
-    shared-slice-read-count
-    add-first
-    mul-first
-    shared-slice-read-first
-    add-first-2
+    word-at-requires-2
+    word-at-requires-3
     loop-holds
-    add-held
-    mul-held
-    shared-slice-read-held
+    statement-at-requires
     put-four-requires
     add-k
     loop-less

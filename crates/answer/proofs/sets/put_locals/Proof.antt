@@ -1,53 +1,44 @@
 -- The loop's invariant: the lines of the locals below x are written.
 use borrow.Author.Needs.{needs}
-use Prim.Native.Nat.{_-_}
+use mathlib.Core.Path.{ap, _∙_}
+use mathlib.Core.List.{[], _∷_}
+use Prim.Native.Nat.{ℕ, _-_, _/_, _%_}
 use native.Mathlib.Omega.{arith}
+use Rattle.writer.specs.Decimal.{rowLine}
 use Rattle.answer.specs.Lines.{puts-as}
-use Rattle.answer.specs.Listed.{Listed, listed-first, listed-next, listed-all, is-local, local-here, local-none}
+use Rattle.answer.specs.Listed.{Listed, listed-first, listed-next, listed-all, is-local, local-low, local-here, local-none}
 use Rattle.answer.specs.Texts.{localLine}
 use Rattle.answer.proofs.sets.put_locals.Statement.{statement}
 use Rattle.answer.proofs.sets.put_locals.Tie as tie
 
 abbrev Inv-loop : tie.InvT-loop
-Inv-loop answers q answer₀ at names spans place₀ x₀ answer place x = Listed (localLine answers q) (names .words) answer₀ place₀ x answer place
+Inv-loop answers q answer₀ at width names place₀ x₀ answer place x = Listed (localLine width answers q) (names .words) answer₀ place₀ x answer place
 
 abbrev μ-loop : tie.MeasureT-loop
-μ-loop answers q answer₀ at names spans place₀ x₀ answer place x = 128 - x
+μ-loop answers q answer₀ at width names place₀ x₀ answer place x = 512 - x
 
 set-at-requires : tie.Need-set-at-requires Inv-loop μ-loop
 set-at-requires c κs = search needs
-
-sub-spans : tie.Need-sub-spans Inv-loop μ-loop
-sub-spans c = search needs
-
-mul-spans : tie.Need-mul-spans Inv-loop μ-loop
-mul-spans c = search needs
 
 next-requires : tie.Need-next-requires Inv-loop μ-loop
 next-requires c κs = search needs
 
 loop-holds : tie.Need-loop-holds Inv-loop μ-loop
-loop-holds c = listed-first _ _ (local-none _ _ _ (c .before .set-at .ensures)) _ _ _ (c .next .ensures)
+loop-holds c = listed-first _ _ (local-none _ _ _ _ (c .before .set-at .ensures)) _ _ _ (c .next .ensures)
 
-add-span : tie.Need-add-span Inv-loop μ-loop
-add-span c = search needs
-
-add-span-2 : tie.Need-add-span-2 Inv-loop μ-loop
-add-span-2 c = search needs
-
-mul-span : tie.Need-mul-span Inv-loop μ-loop
-mul-span c = search needs
-
-shared-slice-read-span : tie.Need-shared-slice-read-span Inv-loop μ-loop
-shared-slice-read-span c = search needs
+span-at-requires : tie.Need-span-at-requires Inv-loop μ-loop
+span-at-requires c κs =
+    let loop = c .before .loop in
+    let start = c .before .before .before .before .before .before in
+    (start .pre .0, start .pre .1, start .pre .2, local-low (start .args .width) (start .args .answers .now) (start .args .q) _ (c .before .before .before .set-at .ensures) (loop .x) (loop .inv .here (c .loop-test .taken)))
 
 put-five-requires : tie.Need-put-five-requires Inv-loop μ-loop
 put-five-requires c κs =
     let loop = c .before .before .before .loop in
     let start = c .before .before .before .before .before .before .before .before in
-    let local = is-local (start .args .answers .now) (start .args .q) _ (c .before .before .before .before .before .set-at .ensures) (loop .x) (loop .inv .here (c .before .before .loop-test .taken)) in
+    let local = is-local (start .args .width) (start .args .answers .now) (start .args .q) _ (c .before .before .before .before .before .set-at .ensures) (loop .x) (loop .inv .here (c .before .before .loop-test .taken)) in
     let span = start .pre .3 .span (loop .x) local in
-    (omega (arith, start .pre .2), omega arith, omega (arith, c .before .before .loop-test .taken), omega (arith, span), omega arith)
+    (omega (arith, start .pre .2), omega arith, omega (arith, c .before .before .loop-test .taken), omega (arith, span, c .before .span-at .ensures), omega arith)
 
 add-next : tie.Need-add-next Inv-loop μ-loop
 add-next c = search needs
@@ -62,9 +53,10 @@ loop-again : tie.Need-loop-again Inv-loop μ-loop
 loop-again c =
     let loop = c .before .before .before .before .before .before .before .loop in
     let is = c .before .before .before .before .before .before .before .before .before .set-at .ensures in
+    let q = c .before .before .before .before .before .before .before .before .before .before .before .before .args .q in
     let low = c .before .before .before .before .before .before .loop-test .taken in
-    listed-next _ _ (local-none _ _ _ is) _ _ (loop .x) _ _ (loop .inv) low _ _
-    (puts-as _ _ _ _ _ _ (local-here _ _ _ is (loop .x) (loop .inv .here low)) (c .before .before .before .put-five .ensures))
+    listed-next _ _ (local-none _ _ _ _ is) _ _ (loop .x) _ _ (loop .inv) low _ _
+    (puts-as _ _ _ _ _ _ (ap (λ (n : ℕ). rowLine (q ∷ 1 ∷ loop .x ∷ (n / 65536) ∷ (n % 65536) ∷ [])) (c .before .before .before .before .before .span-at .ensures) ∙ local-here _ _ _ _ is (loop .x) (loop .inv .here low)) (c .before .before .before .put-five .ensures))
     _ (c .next2 .ensures)
 
 same-length : tie.Need-same-length Inv-loop μ-loop
@@ -80,14 +72,9 @@ put-locals-spec =
     Inv-loop
     μ-loop
     set-at-requires
-    sub-spans
-    mul-spans
     next-requires
     loop-holds
-    add-span
-    add-span-2
-    mul-span
-    shared-slice-read-span
+    span-at-requires
     put-five-requires
     add-next
     next-requires-2

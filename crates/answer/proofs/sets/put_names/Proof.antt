@@ -1,7 +1,10 @@
--- The loop's invariant: the lines of the names below x are written.
+-- The loop's invariant: the lines of the names below x are written, whatever the width by which they were read: it is spent on the call.
 use borrow.Author.Needs.{needs}
 use Prim.Native.Nat.{_-_}
 use native.Mathlib.Omega.{arith}
+use Rattle.widths.specs.declared.Width.{Width}
+use Rattle.widths.specs.Widths.{Same}
+use Rattle.blocks.specs.Layout.{setAt}
 use Rattle.answer.specs.Lines.{puts-as}
 use Rattle.answer.specs.Listed.{Listed, listed-first, listed-next, listed-all, name-here, name-none}
 use Rattle.answer.specs.Texts.{nameLine}
@@ -9,10 +12,14 @@ use Rattle.answer.proofs.sets.put_names.Statement.{statement}
 use Rattle.answer.proofs.sets.put_names.Tie as tie
 
 abbrev Inv-loop : tie.InvT-loop
-Inv-loop answers q set answer₀ at names place₀ x₀ answer place x = Listed (nameLine answers q set) (names .words) answer₀ place₀ x answer place
+Inv-loop answers q set answer₀ at names place₀ x₀ answer place x =
+    (v : Width) → Same (setAt v answers q (set - 1)) (names .words) → Listed (nameLine v answers q set) (names .words) answer₀ place₀ x answer place
 
 abbrev μ-loop : tie.MeasureT-loop
-μ-loop answers q set answer₀ at names place₀ x₀ answer place x = 128 - x
+μ-loop answers q set answer₀ at names place₀ x₀ answer place x = 512 - x
+
+sub-set-at : tie.Need-sub-set-at Inv-loop μ-loop
+sub-set-at c = search needs
 
 set-at-requires : tie.Need-set-at-requires Inv-loop μ-loop
 set-at-requires c κs = search needs
@@ -21,7 +28,7 @@ next-requires : tie.Need-next-requires Inv-loop μ-loop
 next-requires c κs = search needs
 
 loop-holds : tie.Need-loop-holds Inv-loop μ-loop
-loop-holds c = listed-first _ _ (name-none _ _ _ _ (c .before .set-at .ensures)) _ _ _ (c .next .ensures)
+loop-holds c v is = listed-first _ _ (name-none v _ _ _ _ is) _ _ _ (c .next .ensures)
 
 put-five-requires : tie.Need-put-five-requires Inv-loop μ-loop
 put-five-requires c κs =
@@ -38,19 +45,19 @@ loop-less : tie.Need-loop-less Inv-loop μ-loop
 loop-less c = omega (arith, c .next2 .ensures .low, c .before .before .before .before .before .loop-test .taken)
 
 loop-again : tie.Need-loop-again Inv-loop μ-loop
-loop-again c =
+loop-again c v is =
     let loop = c .before .before .before .before .before .before .loop in
-    let is = c .before .before .before .before .before .before .before .before .set-at .ensures in
+    let listed = loop .inv v is in
     let low = c .before .before .before .before .before .loop-test .taken in
-    listed-next _ _ (name-none _ _ _ _ is) _ _ (loop .x) _ _ (loop .inv) low _ _
-    (puts-as _ _ _ _ _ _ (name-here _ _ _ _ is (loop .x) (loop .inv .here low)) (c .before .before .before .put-five .ensures))
+    listed-next _ _ (name-none v _ _ _ _ is) _ _ (loop .x) _ _ listed low _ _
+    (puts-as _ _ _ _ _ _ (name-here v _ _ _ _ is (loop .x) (listed .here low)) (c .before .before .before .put-five .ensures))
     _ (c .next2 .ensures)
 
 same-length : tie.Need-same-length Inv-loop μ-loop
-same-length c = c .before .loop .inv .wrote .0
+same-length c = c .before .loop .inv (c .before .before .before .before .before .before .args .width) (c .before .before .before .set-at .ensures) .wrote .0
 
 returns : tie.Need-returns Inv-loop μ-loop
-returns c = listed-all _ _ _ _ _ _ _ (c .before .loop .inv) (c .loop-test .left)
+returns c = listed-all _ _ _ _ _ _ _ (c .before .loop .inv (c .before .before .before .before .before .before .args .width) (c .before .before .before .set-at .ensures)) (c .loop-test .left)
 
 pub put-names-spec : {M : Type 1} → statement M
 put-names-spec =
@@ -58,6 +65,7 @@ put-names-spec =
     (tie.spec
     Inv-loop
     μ-loop
+    sub-set-at
     set-at-requires
     next-requires
     loop-holds

@@ -1,6 +1,6 @@
 -- By whether the query was analysed: its three sets, one behind the other.
 use borrow.Author.Needs.{needs}
-use mathlib.Core.Path.{sym}
+use mathlib.Core.Path.{sym, _∙_}
 use native.Mathlib.Omega.{arith}
 use Rattle.writer.specs.Writes.{put-none, puts-then}
 use Rattle.answer.specs.Lines.{puts-as}
@@ -8,28 +8,16 @@ use Rattle.answer.specs.Texts.{sets-never, sets-once}
 use Rattle.answer.proofs.sets.put_query_sets.Statement.{statement}
 use Rattle.answer.proofs.sets.put_query_sets.Tie as tie
 
-sub-block : tie.Need-sub-block
-sub-block c = search needs
-
-mul-block : tie.Need-mul-block
-mul-block c = search needs
-
-add-if1 : tie.Need-add-if1
-add-if1 c = search needs
-
-mul-if1 : tie.Need-mul-if1
-mul-if1 c = search needs
-
-shared-slice-read-if1 : tie.Need-shared-slice-read-if1
-shared-slice-read-if1 c = search needs
+word-at-requires : tie.Need-word-at-requires
+word-at-requires c κs = search needs
 
 returns : tie.Need-returns
-returns c = puts-as _ _ _ _ _ _ (sym (sets-never _ _ (c .if1 .taken))) (put-none _ _)
+returns c = puts-as _ _ _ _ _ _ (sym (sets-never _ _ _ (sym (c .before .word-at .ensures) ∙ c .if1 .taken))) (put-none _ _)
 
 put-locals-requires : tie.Need-put-locals-requires
 put-locals-requires c κs =
     let start = c .before .before .before .before .before in
-    let known = start .pre .3 (start .args .q) (start .pre .1) (start .pre .2) (omega (arith, c .before .if1 .left)) in
+    let known = start .pre .3 (start .args .q) (start .pre .1) (start .pre .2) (omega (arith, c .before .if1 .left, c .before .before .word-at .ensures)) in
     (start .pre .0, start .pre .1, start .pre .2, known)
 
 put-names-requires : tie.Need-put-names-requires
@@ -43,7 +31,7 @@ same-length c = search needs
 
 returns-2 : tie.Need-returns-2
 returns-2 c =
-    puts-as _ _ _ _ _ _ (sym (sets-once _ _ (c .before .before .before .before .before .before .before .before .before .before .before .before .if1 .left)))
+    puts-as _ _ _ _ _ _ (sym (sets-once _ _ _ (λ e. c .before .before .before .before .before .before .before .before .before .before .before .before .if1 .left (c .before .before .before .before .before .before .before .before .before .before .before .before .before .word-at .ensures ∙ e))))
     (puts-then _ _ _ _ _ _ _ _ (c .before .before .before .before .before .before .before .before .before .before .put-locals .ensures)
     (puts-then _ _ _ _ _ _ _ _ (c .before .before .before .before .before .before .put-names .ensures) (c .before .before .put-names2 .ensures)))
 
@@ -51,11 +39,7 @@ pub put-query-sets-spec : {M : Type 1} → statement M
 put-query-sets-spec =
     tie.close
     (tie.spec
-    sub-block
-    mul-block
-    add-if1
-    mul-if1
-    shared-slice-read-if1
+    word-at-requires
     returns
     put-locals-requires
     put-names-requires

@@ -3,7 +3,7 @@ use mathlib.Core.Path.{sym, _∙_}
 use native.Mathlib.Omega.{arith}
 use borrow.Author.Needs.{needs}
 use borrow.Author.Tests.{not-true, not-false}
-use Rattle.call.specs.Answering.{faulty, answers-sound, answering}
+use Rattle.call.specs.Answering.{answers-in, faulty, answers-sound, answering}
 use Rattle.call.proofs.answering.answer_sheet.Statement.{statement}
 use Rattle.call.proofs.answering.answer_sheet.Tie as tie
 
@@ -22,8 +22,8 @@ same-length c = search needs
 returns : tie.Need-returns
 returns c =
     let start = c .before .before .before .before .before .before .before .before .before .before in
-    faulty _ _ _ (c .before .before .before .before .before .analyze-sheet .ensures) (sym (c .before .before .is-sound .ensures) ∙ not-true _ (c .before .if1 .taken)) _ _
-    (c .of-fault .ensures) _ (start .pre .2)
+    faulty _ _ _ _ (c .before .before .before .before .before .analyze-sheet .ensures) (sym (c .before .before .is-sound .ensures) ∙ not-true _ (c .before .if1 .taken)) _ _
+    (c .of-fault .ensures) _ (start .pre .3)
 
 shared-slice-read-write-answer : tie.Need-shared-slice-read-write-answer
 shared-slice-read-write-answer c = search needs
@@ -35,10 +35,10 @@ write-answer-requires : tie.Need-write-answer-requires
 write-answer-requires c κs =
     let start = c .before .before .before .before .before .before .before .before .before .before .before .before in
     let fault = c .before .before .before .before .before .before .before in (
-      omega (arith, start .pre .1, fault .analyze-sheet .kept .1 .0),
+      omega (arith, start .pre .2, fault .analyze-sheet .kept .1 .0, answers-in (start .args .width)),
       start .pre .0 .within .few-queries,
-      answers-sound _ _ _ (fault .analyze-sheet .ensures) (sym (c .before .before .before .before .is-sound .ensures) ∙ not-false _ (c .before .before .before .if1 .left)),
-      start .pre .2,
+      answers-sound _ _ _ _ (fault .analyze-sheet .ensures) (sym (c .before .before .before .before .is-sound .ensures) ∙ not-false _ (c .before .before .before .if1 .left)),
+      start .pre .3,
     )
 
 same-length-2 : tie.Need-same-length-2
@@ -51,7 +51,7 @@ returns-2 : tie.Need-returns-2
 returns-2 c =
     let fault = c .before .before .before .before .before .before .before .before .before .before in
     let fine = sym (c .before .before .before .before .before .before .before .is-sound .ensures) ∙ not-false _ (c .before .before .before .before .before .before .if1 .left) in
-    answering _ _ _ (fault .analyze-sheet .ensures) fine _ _ _ (c .before .before .write-answer .ensures)
+    answering _ _ _ _ (fault .analyze-sheet .ensures) fine _ _ _ (c .before .before .write-answer .ensures)
 
 pub answer-sheet-spec : {M : Type 1} → statement M
 answer-sheet-spec =

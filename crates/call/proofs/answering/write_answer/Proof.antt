@@ -4,10 +4,14 @@ use Prim.Native.Nat.{_-_}
 use native.Mathlib.Omega.{arith}
 use lib.ListN.{length, length-drop}
 use borrow.Author.Needs.{needs}
+use Rattle.blocks.specs.Layout.{answers}
 use Rattle.answer.specs.Sound.{Sound}
 use Rattle.call.specs.Answering.{lent-answers, fits, fits-none}
 use Rattle.call.proofs.answering.write_answer.Statement.{statement}
 use Rattle.call.proofs.answering.write_answer.Tie as tie
+
+answers-of-requires : tie.Need-answers-of-requires
+answers-of-requires c κs = search needs
 
 sub-from : tie.Need-sub-from
 sub-from c = search needs
@@ -26,11 +30,14 @@ part-put-answer-end c = search needs
 
 put-answer-requires : tie.Need-put-answer-requires
 put-answer-requires c κs =
-    let start = c .before .before .before .before in
-    let w = start .args .work .now in (
-      omega (arith, start .pre .0, ap length (lent-answers w), length-drop (length w - 4736) w),
+    let count = c .before .before in
+    let start = count .before .before .before in
+    let v = start .args .width in
+    let w = start .args .work .now in
+    let lent = lent-answers v _ (count .answers-of .ensures) w in (
+      omega (arith, start .pre .0, ap length lent, length-drop (length w - answers v) w),
       start .pre .1,
-      subst Sound (sym (lent-answers w)) (start .pre .2),
+      subst (Sound v) (sym lent) (start .pre .2),
     )
 
 clear-bytes-requires : tie.Need-clear-bytes-requires
@@ -42,9 +49,10 @@ same-length c = search needs
 returns : tie.Need-returns
 returns c =
     let put = c .before .before .before .before .before .before .before in
-    let start = c .before .before .before .before .before .before .before .before .before .before .before .before in
+    let count = put .before .before .before in
+    let start = count .before .before .before in
     λ schedules stored.
-    fits-none (start .args .work .now) _ _ (start .pre .3) _ _ (put .put-answer .ensures) schedules stored (c .before .before .before .before .if1 .taken) _ (c .before .before .clear-bytes .ensures)
+    fits-none (start .args .width) _ (count .answers-of .ensures) (start .args .work .now) _ _ (start .pre .3) _ _ (put .put-answer .ensures) schedules stored (c .before .before .before .before .if1 .taken) _ (c .before .before .clear-bytes .ensures)
 
 same-length-2 : tie.Need-same-length-2
 same-length-2 c = search needs
@@ -52,13 +60,16 @@ same-length-2 c = search needs
 returns-2 : tie.Need-returns-2
 returns-2 c =
     let put = c .before .before .before in
-    let start = c .before .before .before .before .before .before .before .before in
-    λ schedules stored. fits (start .args .work .now) _ _ (start .pre .3) _ _ (put .put-answer .ensures) schedules stored (c .if1 .left)
+    let count = put .before .before .before in
+    let start = count .before .before .before in
+    λ schedules stored.
+    fits (start .args .width) _ (count .answers-of .ensures) (start .args .work .now) _ _ (start .pre .3) _ _ (put .put-answer .ensures) schedules stored (c .if1 .left)
 
 pub write-answer-spec : {M : Type 1} → statement M
 write-answer-spec =
     tie.close
     (tie.spec
+    answers-of-requires
     sub-from
     mul-put-answer
     sub-put-answer

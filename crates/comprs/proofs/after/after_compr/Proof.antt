@@ -1,7 +1,10 @@
 -- The four ways out.
 use borrow.Author.Needs.{needs}
-use mathlib.Core.Path.{sym, _∙_}
+use mathlib.Core.Path.{sym, ap, _∙_}
 use mathlib.Core.Logic.{inl, inr}
+use native.Mathlib.Omega.{arith}
+use Rattle.blocks.specs.Layout.{answers}
+use Rattle.frame.specs.declared.Progress.{Progress}
 use Rattle.comprs.specs.After.{not-asked, fails, rose}
 use Rattle.comprs.proofs.after.after_compr.Statement.{statement}
 use Rattle.comprs.proofs.after.after_compr.Tie as tie
@@ -22,7 +25,8 @@ rise-requires : tie.Need-rise-requires
 rise-requires c κs =
     let start = c .before .before .before .before .before .before .before .before .before .before in
     let in-range = start .pre .2 (sym (c .before .before .before .before .before .before .before .is-compr .ensures) ∙ c .before .before .before .before .before .before .if1 .taken) in
-    (start .pre .0, start .pre .1, in-range .0, in-range .1)
+    let same = ap (λ (q : Progress). answers (q .width)) (c .before .before .before .fail .ensures) in
+    (start .pre .0, omega (arith, start .pre .1, same), in-range .0, in-range .1)
 
 same-length : tie.Need-same-length
 same-length c = search needs

@@ -10,7 +10,7 @@ abbrev Inv-loop : tie.InvT-loop
 Inv-loop w names firsts₀ x₀ firsts x = Using w (names .words) firsts₀ firsts x
 
 abbrev μ-loop : tie.MeasureT-loop
-μ-loop w names firsts₀ x₀ firsts x = 128 - x
+μ-loop w names firsts₀ x₀ firsts x = 512 - x
 
 next-requires : tie.Need-next-requires Inv-loop μ-loop
 next-requires c κs = search needs

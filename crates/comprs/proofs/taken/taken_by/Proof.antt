@@ -13,25 +13,19 @@ empty-requires c κs = search needs
 returns : tie.Need-returns
 returns c =
     let start = c .before .before .before .before in
-    taken-none (start .args .work .now) _ (start .pre .1) (start .pre .2) _ (c .before .before .block-word .ensures) (c .before .if1 .taken) _ (c .empty .ensures)
+    taken-none (start .args .width) (start .args .work .now) _ (start .pre .1) (start .pre .2) _ (c .before .before .block-word .ensures) (c .before .if1 .taken) _ (c .empty .ensures)
 
 block-word-requires-2 : tie.Need-block-word-requires-2
 block-word-requires-2 c κs = search needs
 
-block-word-requires-3 : tie.Need-block-word-requires-3
-block-word-requires-3 c κs = search needs
-
-add-block-word : tie.Need-add-block-word
-add-block-word c = search needs
-
-block-word-requires-4 : tie.Need-block-word-requires-4
-block-word-requires-4 c κs = search needs
+block-inputs-requires : tie.Need-block-inputs-requires
+block-inputs-requires c κs = search needs
 
 returns-2 : tie.Need-returns-2
 returns-2 c =
-    let start = c .before .before .before .before .before .before in
-    taken-some (start .args .work .now) _ (start .pre .1) (start .pre .2) _ (c .before .before .before .before .block-word .ensures) (c .before .before .before .if1 .left) _ _ _ (c .before .before .block-word2 .ensures)
-    (c .before .block-word3 .ensures) (c .block-word4 .ensures)
+    let start = c .before .before .before .before .before in
+    taken-some (start .args .width) (start .args .work .now) _ (start .pre .1) (start .pre .2) _ (c .before .before .before .block-word .ensures) (c .before .before .if1 .left) _ (c .before .block-word2 .ensures)
+    _ (c .block-inputs .ensures)
 
 pub taken-by-spec : {M : Type 1} → statement M
 taken-by-spec =
@@ -41,7 +35,5 @@ taken-by-spec =
     empty-requires
     returns
     block-word-requires-2
-    block-word-requires-3
-    add-block-word
-    block-word-requires-4
+    block-inputs-requires
     returns-2)

@@ -44,7 +44,7 @@ known m = (
 returns : (m : ℕ) → lts.Need-returns (known m) (here m) comprs-used.Post
 returns m c =
     let start = c .before .before .before in
-    used-none _ (start .pre .1 .0) _ (start .args .work .now) _ (c .if1 .taken) (start .args .rest) _
+    used-none _ (start .pre .1 .0) (start .args .width) _ (start .args .work .now) _ (c .if1 .taken) (start .args .rest) _
 
 row-at-requires : (m : ℕ) → lts.Need-row-at-requires (known m) (here m) comprs-used.Post
 row-at-requires m c κs =
@@ -106,7 +106,7 @@ returns-2 m c =
     let n = c .before .before .before .before .before in
     let r = n .before .before in
     let start = r .before .before .before .before in
-    used-turn _ (start .pre .1 .0) _ (start .args .work .now) _ (r .before .if1 .left) (start .pre .1 .1) (start .args .rest) _ (row-is m r) _ (n .before .kids-of .ensures) _
+    used-turn _ (start .pre .1 .0) (start .args .width) _ (start .args .work .now) _ (r .before .if1 .left) (start .pre .1 .1) (start .args .rest) _ (row-is m r) _ (n .before .kids-of .ensures) _
     (n .next-of .ensures) _ _ _ _ _ _ (c .before .before .before .before .compr-step .ensures) (c .before .before .before .comprs-used .ensures) (c .before .before .comprs-used2 .ensures) (c .before .comprs-used3 .ensures)
     (c .comprs-used4 .ensures)
 

@@ -26,13 +26,13 @@ union-requires c κs = search needs
 returns : tie.Need-returns
 returns c =
     let args = c .before .before .before .before .before .before .before .before .args in
-    step-compr _ (args .work .now) (args .w) (args .names) _ (c .before .before .before .before .before .before .is-compr .ensures) (c .before .before .before .before .before .if1 .taken) _ (c .before .before .before .taken-by .ensures) _
+    step-compr (args .width) _ (args .work .now) (args .w) (args .names) _ (c .before .before .before .before .before .before .is-compr .ensures) (c .before .before .before .before .before .if1 .taken) _ (c .before .before .before .taken-by .ensures) _
     (c .before .own-inputs .ensures) _ (c .union .ensures)
 
 returns-2 : tie.Need-returns-2
 returns-2 c =
     let args = c .before .before .before .args in
-    step-other _ (args .work .now) (args .w) (args .names) _ (c .before .is-compr .ensures) (c .if1 .left)
+    step-other (args .width) _ (args .work .now) (args .w) (args .names) _ (c .before .is-compr .ensures) (c .if1 .left)
 
 pub compr-step-spec : {M : Type 1} → statement M
 compr-step-spec =

@@ -1,39 +1,50 @@
 -- The loop's invariant: the first q states are 0.
-use mathlib.Core.Path.{_≡_, refl, _∙_}
-use Prim.Native.Nat.{_-_, _≤_}
+use mathlib.Core.Path.{_≡_, refl, ap, _∙_}
+use Prim.Native.Nat.{ℕ, _+_, _-_, _*_, _≤_, _<_}
 use native.Mathlib.Omega.{arith}
 use lib.ListN.{length, length-set}
 use borrow.Author.Needs.{needs}
-use Rattle.conclude.specs.Bases.{FreshTo, fresh-none, fresh-next}
+use Rattle.blocks.specs.Layout.{block, answers}
+use Rattle.conclude.specs.Bases.{block-inside, FreshTo, fresh-none, fresh-next}
 use Rattle.conclude.proofs.bases.clear_states.Statement.{statement}
 use Rattle.conclude.proofs.bases.clear_states.Tie as tie
 
 abbrev Inv-loop : tie.InvT-loop
-Inv-loop work₀ first q₀ work q = (q ≤ 32) × (length work ≡ length work₀) × FreshTo work q
+Inv-loop work₀ width first q₀ work q = (q ≤ 32) × (length work ≡ length work₀) × FreshTo width work q
 
 abbrev μ-loop : tie.MeasureT-loop
-μ-loop work₀ first q₀ work q = 32 - q
+μ-loop work₀ width first q₀ work q = 32 - q
+
+answers-of-requires : tie.Need-answers-of-requires Inv-loop μ-loop
+answers-of-requires c κs = search needs
 
 sub-first : tie.Need-sub-first Inv-loop μ-loop
 sub-first c = search needs
 
 loop-holds : tie.Need-loop-holds Inv-loop μ-loop
-loop-holds c = (search needs, refl, fresh-none (c .args .work .now))
+loop-holds c = let start = c .before .before in (search needs, refl, fresh-none (start .args .width) (start .args .work .now))
 
-mul-work : tie.Need-mul-work Inv-loop μ-loop
-mul-work c = search needs
+add-place-of : tie.Need-add-place-of Inv-loop μ-loop
+add-place-of c = search needs
+
+place-of-requires : tie.Need-place-of-requires Inv-loop μ-loop
+place-of-requires c κs = (omega arith, omega arith, omega arith)
+
+-- Where the state stands: among the answers.
+inside : (c : tie.After-place-of Inv-loop μ-loop) → c .place-of .result < answers (c .before .before .before .before .before .args .width)
+inside c =
+    let v = c .before .before .before .before .before .args .width in
+    let q = c .before .before .loop .q in
+    omega (arith, c .place-of .ensures, block-inside v (q + 1 - 1) 0 (omega arith) (omega arith))
 
 add-work : tie.Need-add-work Inv-loop μ-loop
-add-work c = omega arith
+add-work c = omega (arith, inside c)
 
-add-work-2 : tie.Need-add-work-2 Inv-loop μ-loop
-add-work-2 c = omega arith
-
-mul-work-2 : tie.Need-mul-work-2 Inv-loop μ-loop
-mul-work-2 c = search needs
+mul-work : tie.Need-mul-work Inv-loop μ-loop
+mul-work c = omega (arith, inside c)
 
 slice-write-work : tie.Need-slice-write-work Inv-loop μ-loop
-slice-write-work c = omega (arith, c .before .loop .inv .1)
+slice-write-work c = omega (arith, inside c, c .before .before .loop .inv .1)
 
 add-q : tie.Need-add-q Inv-loop μ-loop
 add-q c = search needs
@@ -43,11 +54,16 @@ loop-less c = search needs
 
 loop-again : tie.Need-loop-again Inv-loop μ-loop
 loop-again c =
-    let loop = c .before .loop in
-    let inv = loop .inv in (
+    let start = c .before .before .before .before .before in
+    let ans = c .before .before .before .answers-of .ensures in
+    let loop = c .before .before .loop in
+    let inv = loop .inv in
+    let v = start .args .width in
+    let e : loop .q + 1 - 1 ≡ loop .q = omega arith in (
       omega arith,
       length-set (loop .work) _ 0 ∙ inv .1,
-      fresh-next (loop .work) (loop .q) (inv .2) (omega (arith, inv .1)) (omega arith) _ (omega (arith, inv .1)),
+      fresh-next v (loop .work) (loop .q) (inv .2) (omega (arith, inv .1, start .pre)) (omega arith) _
+          (omega (arith, inv .1, ans, c .place-of .ensures, ap (λ (n : ℕ). block v * n) e)),
     )
 
 same-length : tie.Need-same-length Inv-loop μ-loop
@@ -64,12 +80,13 @@ clear-states-spec =
     (tie.spec
     Inv-loop
     μ-loop
+    answers-of-requires
     sub-first
     loop-holds
-    mul-work
+    add-place-of
+    place-of-requires
     add-work
-    add-work-2
-    mul-work-2
+    mul-work
     slice-write-work
     add-q
     loop-less

@@ -1,28 +1,33 @@
 -- The loop's invariant: no query is analysed, the bases of the first q queries are written, and the next base is their sum.
-use mathlib.Core.Path.{_≡_, refl, sym, ap₂, _∙_}
-use Prim.Native.Nat.{_+_, _-_, _≤_}
+use mathlib.Core.Path.{_≡_, refl, sym, ap, ap₂, _∙_}
+use Prim.Native.Nat.{ℕ, _+_, _-_, _*_, _≤_, _<_}
 use native.Mathlib.Omega.{arith}
 use lib.ListN.{length, length-set}
 use borrow.Author.Needs.{needs}
+use Rattle.blocks.specs.Layout.{block, answers}
+use Rattle.blocks.specs.Laws.{block-few}
 use Rattle.sizes.specs.Sums.{sumTo}
 use Rattle.frame.specs.Table.{countAt}
 use Rattle.conclude.specs.Counts.{count-few}
-use Rattle.conclude.specs.Bases.{sum-none, sum-next, bases-few, BasedTo, based-none, based-next, no-schedule}
+use Rattle.conclude.specs.Bases.{sum-none, sum-next, bases-few, block-inside, BasedTo, based-none, based-next, no-schedule}
 use Rattle.conclude.proofs.bases.set_bases.Statement.{statement}
 use Rattle.conclude.proofs.bases.set_bases.Tie as tie
 
 abbrev Inv-loop : tie.InvT-loop
-Inv-loop tables work₀ first queries base₀ q₀ work base q =
-    (q ≤ queries) × (length work ≡ length work₀) × (base ≡ sumTo (countAt tables) q) × BasedTo tables work q
+Inv-loop tables work₀ width first queries base₀ q₀ work base q =
+    (q ≤ queries) × (length work ≡ length work₀) × (base ≡ sumTo (countAt tables) q) × BasedTo tables width work q
 
 abbrev μ-loop : tie.MeasureT-loop
-μ-loop tables work₀ first queries base₀ q₀ work base q = queries - q
+μ-loop tables work₀ width first queries base₀ q₀ work base q = queries - q
 
 clear-states-requires : tie.Need-clear-states-requires Inv-loop μ-loop
 clear-states-requires c κs = search needs
 
+answers-of-requires : tie.Need-answers-of-requires Inv-loop μ-loop
+answers-of-requires c κs = search needs
+
 sub-first : tie.Need-sub-first Inv-loop μ-loop
-sub-first c = omega (arith, c .before .before .clear-states .kept .0)
+sub-first c = omega (arith, c .answers-of .ensures, c .before .before .before .before .before .before .before .pre .2, c .before .before .before .clear-states .kept .0)
 
 shared-slice-read-queries : tie.Need-shared-slice-read-queries Inv-loop μ-loop
 shared-slice-read-queries c = search needs
@@ -32,48 +37,58 @@ cast-queries c = search needs
 
 loop-holds : tie.Need-loop-holds Inv-loop μ-loop
 loop-holds c =
-    let cleared = c .before .before .before .clear-states in
-    (omega arith, refl, sum-none _, based-none _ (cleared .last .0) (cleared .ensures))
+    let cleared = c .before .before .before .before .clear-states in
+    (omega arith, refl, sum-none _, based-none _ _ (cleared .last .0) (cleared .ensures))
 
-mul-work : tie.Need-mul-work Inv-loop μ-loop
-mul-work c = search needs
+add-place-of : tie.Need-add-place-of Inv-loop μ-loop
+add-place-of c = search needs
+
+place-of-requires : tie.Need-place-of-requires Inv-loop μ-loop
+place-of-requires c κs =
+    let start = c .before .before .before .before .before .before .before .before .before .before in
+    (omega arith, omega (arith, start .pre .0 .within .few-queries), omega (arith, block-few (start .args .width) .0))
+
+-- Where the base stands: among the answers.
+inside : (c : tie.After-place-of Inv-loop μ-loop) → c .place-of .result < answers (c .before .before .before .before .before .before .before .before .before .before .before .args .width)
+inside c =
+    let start = c .before .before .before .before .before .before .before .before .before .before .before in
+    let q = c .before .before .loop .q in
+    omega (arith, c .place-of .ensures, block-inside (start .args .width) (q + 1 - 1) 3 (omega (arith, start .pre .0 .within .few-queries)) (omega arith))
 
 add-work : tie.Need-add-work Inv-loop μ-loop
 add-work c =
-    let pre = c .before .before .before .before .before .before .before .before .before .pre in
-    omega (arith, pre .1, pre .0 .within .few-queries, c .before .before .before .before .before .clear-states .kept .0)
+    let start = c .before .before .before .before .before .before .before .before .before .before .before in
+    omega (arith, inside c, start .pre .2, c .before .before .before .before .answers-of .ensures, c .before .before .before .before .before .before .before .clear-states .kept .0)
 
-add-work-2 : tie.Need-add-work-2 Inv-loop μ-loop
-add-work-2 c =
-    let pre = c .before .before .before .before .before .before .before .before .before .pre in
-    omega (arith, pre .1, pre .0 .within .few-queries, c .before .before .before .before .before .clear-states .kept .0)
-
-mul-work-2 : tie.Need-mul-work-2 Inv-loop μ-loop
-mul-work-2 c = search needs
+mul-work : tie.Need-mul-work Inv-loop μ-loop
+mul-work c =
+    let start = c .before .before .before .before .before .before .before .before .before .before .before in
+    omega (arith, inside c, start .pre .2, c .before .before .before .before .answers-of .ensures, c .before .before .before .before .before .before .before .clear-states .kept .0)
 
 slice-write-work : tie.Need-slice-write-work Inv-loop μ-loop
 slice-write-work c =
-    let pre = c .before .before .before .before .before .before .before .before .before .pre in
-    omega (arith, pre .1, pre .0 .within .few-queries, c .before .loop .inv .1, c .before .before .before .before .before .clear-states .kept .0)
+    let start = c .before .before .before .before .before .before .before .before .before .before .before in
+    omega (arith, inside c, start .pre .2, c .before .before .loop .inv .1, c .before .before .before .before .answers-of .ensures, c .before .before .before .before .before .before .before .clear-states .kept .0)
 
 add-count-stmts : tie.Need-add-count-stmts Inv-loop μ-loop
 add-count-stmts c = search needs
 
 count-stmts-requires : tie.Need-count-stmts-requires Inv-loop μ-loop
 count-stmts-requires c κs =
-    let pre = c .before .before .before .before .before .before .before .before .before .pre in
+    let pre = c .before .before .before .before .before .before .before .before .before .before .before .pre in
     (pre .0, omega arith, omega arith)
 
 add-base : tie.Need-add-base Inv-loop μ-loop
 add-base c =
-    let start = c .before .before .before .before .before .before .before .before .before .before in
+    let start = c .before .before .before .before .before .before .before .before .before .before .before .before in
     let pre = start .pre in
-    let q = c .before .before .loop .q in
+    let loop = c .before .before .before .loop in
+    let q = loop .q in
     let t = start .args .tables .now in
     omega (
       arith,
       pre .0 .within .few-queries,
-      c .before .before .loop .inv .2,
+      loop .inv .2,
       bases-few t (pre .0) q,
       count-few t (pre .0) (q + 1),
       c .count-stmts .ensures,
@@ -87,25 +102,29 @@ loop-less c = search needs
 
 loop-again : tie.Need-loop-again Inv-loop μ-loop
 loop-again c =
-    let start = c .before .before .before .before .before .before .before .before .before .before in
+    let start = c .before .before .before .before .before .before .before .before .before .before .before .before in
     let pre = start .pre in
-    let long = c .before .before .before .before .before .before .clear-states .kept .0 in
-    let loop = c .before .before .loop in
-    let inv = loop .inv in (
+    let long = c .before .before .before .before .before .before .before .before .clear-states .kept .0 in
+    let ans = c .before .before .before .before .before .answers-of .ensures in
+    let loop = c .before .before .before .loop in
+    let inv = loop .inv in
+    let v = start .args .width in
+    let e : loop .q + 1 - 1 ≡ loop .q = omega arith in (
       omega arith,
       length-set (loop .work) _ (loop .base) ∙ inv .1,
       ap₂ _+_ (inv .2) (c .count-stmts .ensures) ∙ sym (sum-next _ (loop .q)),
-      based-next _ _ _ (inv .3) (omega (arith, pre .1, inv .1, long)) (omega (arith, pre .0 .within .few-queries)) _ (omega (arith, inv .1)) _ (inv .2),
+      based-next _ v _ _ (inv .3) (omega (arith, pre .2, inv .1, long)) (omega (arith, pre .0 .within .few-queries)) _
+          (omega (arith, inv .1, ans, c .before .place-of .ensures, ap (λ (n : ℕ). block v * n) e)) _ (inv .2),
     )
 
 same-length : tie.Need-same-length Inv-loop μ-loop
-same-length c = c .before .loop .inv .1 ∙ c .before .before .before .before .before .clear-states .kept .0
+same-length c = c .before .loop .inv .1 ∙ c .before .before .before .before .before .before .clear-states .kept .0
 
 returns : tie.Need-returns Inv-loop μ-loop
 returns c =
-    let pre = c .before .before .before .before .before .before .before .before .before .pre in
+    let pre = c .before .before .before .before .before .before .before .before .before .before .pre in
     let inv = c .before .loop .inv in
-    no-schedule _ _ _ (inv .3) (omega (arith, pre .1, inv .1, c .before .before .before .before .before .clear-states .kept .0)) (omega arith)
+    no-schedule _ _ _ _ (inv .3) (omega (arith, pre .2, inv .1, c .before .before .before .before .before .before .clear-states .kept .0)) (pre .0) (pre .1) (omega arith)
 
 pub set-bases-spec : {M : Type 1} → statement M
 set-bases-spec =
@@ -114,14 +133,15 @@ set-bases-spec =
     Inv-loop
     μ-loop
     clear-states-requires
+    answers-of-requires
     sub-first
     shared-slice-read-queries
     cast-queries
     loop-holds
-    mul-work
+    add-place-of
+    place-of-requires
     add-work
-    add-work-2
-    mul-work-2
+    mul-work
     slice-write-work
     add-count-stmts
     count-stmts-requires

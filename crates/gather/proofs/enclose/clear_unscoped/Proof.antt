@@ -12,7 +12,7 @@ abbrev Inv-loop : tie.InvT-loop
 Inv-loop unscoped inner₀ name₀ inner name = Changing (unscoped .words) cleared inner₀ inner name
 
 abbrev μ-loop : tie.MeasureT-loop
-μ-loop unscoped inner₀ name₀ inner name = 128 - name
+μ-loop unscoped inner₀ name₀ inner name = 512 - name
 
 next-requires : tie.Need-next-requires Inv-loop μ-loop
 next-requires c κs = search needs

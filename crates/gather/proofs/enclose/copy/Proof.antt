@@ -10,10 +10,10 @@ use Rattle.gather.proofs.enclose.copy.Tie as tie
 
 abbrev Inv-loop : tie.InvT-loop
 Inv-loop from to₀ name₀ to name =
-    (name ≤ 128) × (length to ≡ length to₀) × Copied from name to
+    (name ≤ 512) × (length to ≡ length to₀) × Copied from name to
 
 abbrev μ-loop : tie.MeasureT-loop
-μ-loop from to₀ name₀ to name = 128 - name
+μ-loop from to₀ name₀ to name = 512 - name
 
 loop-holds : tie.Need-loop-holds Inv-loop μ-loop
 loop-holds c = (search needs, refl, copied-none _ _)

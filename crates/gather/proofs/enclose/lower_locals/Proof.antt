@@ -11,7 +11,7 @@ abbrev Inv-loop : tie.InvT-loop
 Inv-loop locals spans inner₀ name₀ inner name = Changing (locals .words) (lowered spans) inner₀ inner name
 
 abbrev μ-loop : tie.MeasureT-loop
-μ-loop locals spans inner₀ name₀ inner name = 128 - name
+μ-loop locals spans inner₀ name₀ inner name = 512 - name
 
 next-requires : tie.Need-next-requires Inv-loop μ-loop
 next-requires c κs = search needs

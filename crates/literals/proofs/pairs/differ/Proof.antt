@@ -1,7 +1,7 @@
 -- The fault is put in where the lengths differ and there is none.
 use mathlib.Core.Path.{sym, _∙_}
 use borrow.Author.Needs.{needs}
-use Rattle.literals.specs.Choices.{chosen-by-both, passed-over-second}
+use Rattle.literals.specs.Choices.{chosen-by-both, passed-over-second, passed-over-first}
 use Rattle.literals.proofs.pairs.differ.Statement.{statement}
 use Rattle.literals.proofs.pairs.differ.Tie as tie
 
@@ -20,7 +20,7 @@ returns-2 : tie.Need-returns-2
 returns-2 c = passed-over-second _ _ _ _ (c .before .before .if1 .taken) (sym (c .before .is-sound .ensures) ∙ c .if2 .left)
 
 returns-3 : tie.Need-returns-3
-returns-3 c = search needs
+returns-3 c = passed-over-first _ _ _ _ (c .if1 .left)
 
 pub differ-spec : {M : Type 1} → statement M
 differ-spec = tie.close (tie.spec is-sound-requires fail-requires returns returns-2 returns-3)

@@ -1,6 +1,7 @@
 -- The number tells which of the laws the way out is.
 use lib.ListN.{length}
 use borrow.Author.Needs.{needs}
+use Rattle.basics.specs.Limits.{printing}
 use Rattle.print.specs.Printed.{prints-refusal, prints-answer}
 use Rattle.print.proofs.printing.put_printed.Statement.{statement}
 use Rattle.print.proofs.printing.put_printed.Tie as tie
@@ -33,7 +34,7 @@ returns : tie.Need-returns
 returns c =
     let start = c .before .before .before .before .before .before .before .before .before .before .before .before .before .before .before .before .before .before .before .before .before .before .before in
     let left = c .before .before .before .before .before .before .before .before .before .before .before .before .before .before .before .analyze in
-    prints-refusal (start .args .sheet .now) (length (start .args .tables .now)) (length (start .args .work .now)) (length (start .args .answer .now)) (left .result) _ _ _ (left .ensures)
+    prints-refusal printing (start .args .sheet .now) (length (start .args .tables .now)) (length (start .args .work .now)) (length (start .args .answer .now)) (left .result) _ _ _ (left .ensures)
     (c .before .before .before .before .before .before .before .if1 .taken) (start .pre) _ _ (c .before .before .put-refusal .ensures)
 
 text-length-requires : tie.Need-text-length-requires
@@ -52,7 +53,7 @@ returns-2 : tie.Need-returns-2
 returns-2 c =
     let start = c .before .before .before .before .before .before .before .before .before .before .before .before .before .before .before .before .before .before in
     let left = c .before .before .before .before .before .before .before .before .before .before .analyze in
-    prints-answer (start .args .sheet .now) (length (start .args .tables .now)) (length (start .args .work .now)) (length (start .args .answer .now)) (left .result) _ _ _ (left .ensures)
+    prints-answer printing (start .args .sheet .now) (length (start .args .tables .now)) (length (start .args .work .now)) (length (start .args .answer .now)) (left .result) _ _ _ (left .ensures)
     (c .before .before .if1 .left) _ (c .text-length .ensures)
 
 pub put-printed-spec : {M : Type 1} → statement M

@@ -1,40 +1,68 @@
--- The head, and the spans behind it.
-use borrow.Author.Needs.{needs}
+-- The head, the sets, and the positions behind them.
+use mathlib.Core.Path.{_∙_}
+use native.Mathlib.Omega.{arith}
+use Rattle.widths.specs.Laws.{at-most}
+use Rattle.blocks.specs.Laws.{block-few, block-in, answers-are}
 use Rattle.store.specs.Words.{block-written}
 use Rattle.store.proofs.block.store_block.Statement.{statement}
 use Rattle.store.proofs.block.store_block.Tie as tie
 
-sub-block : tie.Need-sub-block
-sub-block c = search needs
-
-mul-block : tie.Need-mul-block
-mul-block c = search needs
+place-of-requires : tie.Need-place-of-requires
+place-of-requires c κs = let start = c .before .before in (start .pre .1, start .pre .2, omega arith)
 
 store-head-requires : tie.Need-store-head-requires
-store-head-requires c κs = search needs
+store-head-requires c κs =
+    let start = c .before .before .before .before in
+    let v = start .args .width in
+    omega (arith, c .before .place-of .ensures, block-few v .0, block-in v (start .args .q) (start .pre .1) (start .pre .2), answers-are v, start .pre .0)
 
-add-store-words : tie.Need-add-store-words
-add-store-words c = search needs
+put-set-requires : tie.Need-put-set-requires
+put-set-requires c κs =
+    let start = c .before .before .before .before .before .before .before .before in
+    (omega (arith, c .before .before .before .store-head .ensures .long, start .pre .0), start .pre .1, start .pre .2, omega arith)
 
-store-words-requires : tie.Need-store-words-requires
-store-words-requires c κs = search needs
+put-set-requires-2 : tie.Need-put-set-requires-2
+put-set-requires-2 c κs =
+    let start = c .before .before .before .before .before .before .before .before .before .before .before .before in
+    (omega (arith, c .before .before .before .put-set .ensures .long, c .before .before .before .before .before .before .before .store-head .ensures .long, start .pre .0), start .pre .1, start .pre .2, omega arith)
+
+put-set-requires-3 : tie.Need-put-set-requires-3
+put-set-requires-3 c κs =
+    let start = c .before .before .before .before .before .before .before .before .before .before .before .before .before .before .before .before in (
+      omega (arith, c .before .before .before .put-set2 .ensures .long, c .before .before .before .before .before .before .before .put-set .ensures .long, c .before .before .before .before .before .before .before .before .before .before .before .store-head .ensures .long, start .pre .0),
+      start .pre .1,
+      start .pre .2,
+      omega arith,
+    )
+
+put-spans-requires : tie.Need-put-spans-requires
+put-spans-requires c κs =
+    let start = c .before .before .before .before .before .before .before .before .before .before .before .before .before .before .before .before .before .before .before .before in (
+      omega (arith, c .before .before .before .put-set3 .ensures .long, c .before .before .before .before .before .before .before .put-set2 .ensures .long, c .before .before .before .before .before .before .before .before .before .before .before .put-set .ensures .long, c .before .before .before .before .before .before .before .before .before .before .before .before .before .before .before .store-head .ensures .long, start .pre .0),
+      start .pre .1,
+      start .pre .2,
+      omega (arith, at-most (start .args .width), start .pre .3),
+    )
 
 same-length : tie.Need-same-length
-same-length c = search needs
+same-length c =
+    c .before .before .put-spans .ensures .long ∙ c .before .before .before .before .before .before .put-set3 .ensures .long ∙ c .before .before .before .before .before .before .before .before .before .before .put-set2 .ensures .long ∙ c .before .before .before .before .before .before .before .before .before .before .before .before .before .before .put-set .ensures .long ∙ c .before .before .before .before .before .before .before .before .before .before .before .before .before .before .before .before .before .before .store-head .ensures .long
 
 returns : tie.Need-returns
 returns c =
-    let a = c .before .before .before .before .before .before .before .before .before .before .args in
-    block-written _ (a .q) (a .scope) _ (a .count) (a .base) (a .placed) _ (c .before .before .before .before .before .before .store-head .ensures) _ (c .before .before .store-words .ensures)
+    let a = c .before .before .before .before .before .before .before .before .before .before .before .before .before .before .before .before .before .before .before .before .before .before .before .args in
+    block-written (a .width) _ (a .q) (a .scope) _ (a .count) (a .base) (a .placed) _ (omega (arith, c .before .before .before .before .before .before .before .before .before .before .before .before .before .before .before .before .before .before .before .before .place-of .ensures)) _ (c .before .before .before .before .before .before .before .before .before .before .before .before .before .before .before .before .before .before .store-head .ensures)
+    _ (c .before .before .before .before .before .before .before .before .before .before .before .before .before .before .put-set .ensures) _ (c .before .before .before .before .before .before .before .before .before .before .put-set2 .ensures) _ (c .before .before .before .before .before .before .put-set3 .ensures) _ (c .before .before .put-spans .ensures)
 
 pub store-block-spec : {M : Type 1} → statement M
 store-block-spec =
     tie.close
     (tie.spec
-    sub-block
-    mul-block
+    place-of-requires
     store-head-requires
-    add-store-words
-    store-words-requires
+    put-set-requires
+    put-set-requires-2
+    put-set-requires-3
+    put-spans-requires
     same-length
     returns)

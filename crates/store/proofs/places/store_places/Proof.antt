@@ -1,22 +1,27 @@
 -- The loop's invariant: the places below k are written.
 use mathlib.Core.Path.{refl}
-use Prim.Native.Nat.{_+_, _-_, _≤_}
+use Prim.Native.Nat.{_+_, _-_, _≤_, _<_}
 use native.Mathlib.Omega.{arith}
+use lib.ListN.{length}
 use borrow.Author.Needs.{needs}
-use Rattle.store.specs.Writes.{Written, written-none, written-more, written-all}
+use Rattle.blocks.specs.Laws.{answers-are, places-few}
+use Rattle.store.specs.Writes.{Written, written-none, written-more, written-all, written-at}
 use Rattle.store.specs.Words.{placeWord}
 use Rattle.store.proofs.places.store_places.Statement.{statement}
 use Rattle.store.proofs.places.store_places.Tie as tie
 
 abbrev Inv-loop : tie.InvT-loop
 Inv-loop answers₀ base count order reached first k₀ answers k =
-    (k ≤ count) × Written answers₀ answers (4608 + base) k (placeWord order reached)
+    (k ≤ count) × Written answers₀ answers first k (placeWord order reached)
 
 abbrev μ-loop : tie.MeasureT-loop
 μ-loop answers₀ base count order reached first k₀ answers k = count - k
 
+places-of-requires : tie.Need-places-of-requires Inv-loop μ-loop
+places-of-requires c κs = search needs
+
 add-first : tie.Need-add-first Inv-loop μ-loop
-add-first c = search needs
+add-first c = let start = c .before .before .before .before in omega (arith, c .places-of .ensures, places-few (start .args .width), start .pre .1)
 
 loop-holds : tie.Need-loop-holds Inv-loop μ-loop
 loop-holds c = (omega arith, written-none _ _ _)
@@ -34,19 +39,30 @@ mul-place-word : tie.Need-mul-place-word Inv-loop μ-loop
 mul-place-word c = omega (arith, c .shared-slice-known3 .given (c .before .before .loop .k))
 
 shared-slice-read-place-word : tie.Need-shared-slice-read-place-word Inv-loop μ-loop
-shared-slice-read-place-word c = c .before .before .before .before .before .before .before .pre .3 (c .before .before .before .loop .k) (omega arith)
+shared-slice-read-place-word c = c .before .before .before .before .before .before .before .before .pre .3 (c .before .before .before .loop .k) (omega arith)
 
 place-word-requires : tie.Need-place-word-requires Inv-loop μ-loop
 place-word-requires c κs = search needs
 
+inside : (c : tie.After-place-word Inv-loop μ-loop) → (c .before .before .before .before .before .places-of .result + c .before .before .before .before .before .before .before .before .before .args .base) + c .before .before .before .before .loop .k < length (c .before .before .before .before .before .before .before .before .before .args .answers .now)
+inside c =
+    let start = c .before .before .before .before .before .before .before .before .before in
+    let v = start .args .width in
+    omega (arith, c .before .before .before .before .before .places-of .ensures, answers-are v, start .pre .0, start .pre .1)
+
+few : (c : tie.After-place-word Inv-loop μ-loop) → (c .before .before .before .before .before .places-of .result + c .before .before .before .before .before .before .before .before .before .args .base) + c .before .before .before .before .loop .k < 9216
+few c =
+    let start = c .before .before .before .before .before .before .before .before .before in
+    omega (arith, c .before .before .before .before .before .places-of .ensures, places-few (start .args .width), start .pre .1)
+
 add-answers : tie.Need-add-answers Inv-loop μ-loop
-add-answers c = search needs
+add-answers c = omega (arith, few c)
 
 mul-answers : tie.Need-mul-answers Inv-loop μ-loop
-mul-answers c = search needs
+mul-answers c = omega (arith, few c)
 
 slice-write-answers : tie.Need-slice-write-answers Inv-loop μ-loop
-slice-write-answers c = omega (arith, c .before .before .before .before .loop .inv .1 .long)
+slice-write-answers c = omega (arith, c .before .before .before .before .loop .inv .1 .long, inside c)
 
 add-k : tie.Need-add-k Inv-loop μ-loop
 add-k c = search needs
@@ -56,13 +72,15 @@ loop-less c = search needs
 
 loop-again : tie.Need-loop-again Inv-loop μ-loop
 loop-again c =
-    (omega arith, written-more _ _ _ _ _ (c .before .before .before .before .loop .inv .1) (omega arith) _ (c .place-word .ensures))
+    (omega arith, written-more _ _ _ _ _ (c .before .before .before .before .loop .inv .1) (inside c) _ (c .place-word .ensures))
 
 same-length : tie.Need-same-length Inv-loop μ-loop
 same-length c = c .before .loop .inv .1 .long
 
 returns : tie.Need-returns Inv-loop μ-loop
-returns c = written-all _ _ _ _ _ (c .before .loop .inv .1) _ (omega arith)
+returns c =
+    let at = c .before .before .places-of .ensures in
+    written-at _ _ _ _ _ _ (omega (arith, at)) (written-all _ _ _ _ _ (c .before .loop .inv .1) _ (omega arith))
 
 pub store-places-spec : {M : Type 1} → statement M
 store-places-spec =
@@ -70,6 +88,7 @@ store-places-spec =
     (tie.spec
     Inv-loop
     μ-loop
+    places-of-requires
     add-first
     loop-holds
     mul-index

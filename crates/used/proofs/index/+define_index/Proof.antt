@@ -43,7 +43,7 @@ known m = (
 )
 
 returns : (m : ℕ) → lts.Need-returns (known m) (here m) define-index.Post
-returns m c = index-none _ _ (c .before .before .before .pre .1 .0) _ (c .if1 .taken) _ _ _ _
+returns m c = index-none _ _ _ (c .before .before .before .pre .1 .0) _ (c .if1 .taken) _ _ _ _
 
 row-at-requires : (m : ℕ) → lts.Need-row-at-requires (known m) (here m) define-index.Post
 row-at-requires m c κs =
@@ -68,7 +68,7 @@ leaf-requires m c κs =
     let start = r .before .before .before .before in
     let pre = start .pre .1 in (
       rw (row-is m r) (low-name _ (pre .0) _ (r .before .if1 .left) (pre .1)),
-      leaf-fits _ _ (pre .0) _ (r .before .if1 .left) (pre .1) _ (row-is m r) _ (n .before .pattern-of .ensures) _ (n .next-of .ensures)
+      leaf-fits _ _ _ (pre .0) _ (r .before .if1 .left) (pre .1) _ (row-is m r) _ (n .before .pattern-of .ensures) _ (n .next-of .ensures)
           (start .args .statement) (start .args .used) _ _ (pre .2),
     )
 
@@ -90,7 +90,7 @@ inner-requires m c κs =
       (
         pre .0,
         k .1,
-        inner-fits _ _ (pre .0) _ (r .before .if1 .left) (pre .1) _ (row-is m r) _ (n .before .pattern-of .ensures) _ (n .next-of .ensures)
+        inner-fits _ _ _ (pre .0) _ (r .before .if1 .left) (pre .1) _ (row-is m r) _ (n .before .pattern-of .ensures) _ (n .next-of .ensures)
             _ _ _ _ (pre .2) _ _ _ (d .define-leaf .ensures) _ (omega (arith, d .define-leaf .kept .1 .1 .1 .1 .1 .0)),
       ),
     )
@@ -107,7 +107,7 @@ next-requires m c κs =
       (
         pre .0,
         k .1,
-        next-fits _ _ (pre .0) _ (r .before .if1 .left) (pre .1) _ (row-is m r) _ (n .before .pattern-of .ensures) _ (n .next-of .ensures)
+        next-fits _ _ _ (pre .0) _ (r .before .if1 .left) (pre .1) _ (row-is m r) _ (n .before .pattern-of .ensures) _ (n .next-of .ensures)
             _ _ _ _ (pre .2) _ _ _ (d .define-leaf .ensures) _ _ (i .define-index .ensures) _
             (omega (arith, d .define-leaf .kept .1 .1 .1 .1 .1 .0, i .define-index .kept .1 .1 .1 .1 .1 .1 .0)),
       ),
@@ -121,7 +121,7 @@ returns-2 m c =
     let n = c .before .before .before .before .before .before .before .before .before .before .before .before in
     let r = n .before .before in
     let pre = r .before .before .before .before .pre .1 in
-    index-turn _ _ (pre .0) _ (r .before .if1 .left) (pre .1) _ (row-is m r) _ (n .before .pattern-of .ensures) _ (n .next-of .ensures)
+    index-turn _ _ _ (pre .0) _ (r .before .if1 .left) (pre .1) _ (row-is m r) _ (n .before .pattern-of .ensures) _ (n .next-of .ensures)
     _ _ _ _ _ _ _ _ _ _ (c .before .before .before .before .before .before .before .before .before .before .define-leaf .ensures) (c .before .before .before .before .before .before .define-index .ensures) (c .before .before .define-index2 .ensures)
 
 pub +define-index-spec : {M : Type 1} → statement M

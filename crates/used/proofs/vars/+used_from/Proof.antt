@@ -55,7 +55,7 @@ known m = (
 returns : (m : ℕ) → lts.Need-returns (known m) (at m) used-from.Post
 returns m c =
     let start = c .before .before .before .before in
-    walked-none _ _ _ _ (start .pre .1 .0) _ (c .if1 .taken) (start .args .rest) _ _ _
+    walked-none _ _ _ _ _ (start .pre .1 .0) _ (c .if1 .taken) (start .args .rest) _ _ _
 
 row-at-requires : (m : ℕ) → lts.Need-row-at-requires (known m) (at m) used-from.Post
 row-at-requires m c κs =
@@ -110,7 +110,7 @@ first-requires m c κs =
         pre .0,
         k .1,
         omega (arith, pre .2, o .use-row .kept .1 .1 .1 .1 .1 .1 .0),
-        first-room _ _ _ _ (pre .0) _ (r .before .if1 .left) (pre .1) (start .args .rest) _ (row-is m r) _ (n .before .kids-of .ensures) _ (n .next-of .ensures)
+        first-room _ _ _ _ _ (pre .0) _ (r .before .if1 .left) (pre .1) (start .args .rest) _ (row-is m r) _ (n .before .kids-of .ensures) _ (n .next-of .ensures)
             (start .args .used) _ (pre .3) (o .use-row .result) (f .fresh .result) (o .use-row .ensures .count) (f .fresh .ensures),
       ),
     )
@@ -120,11 +120,11 @@ first-requires m c κs =
 first-walk : (m : ℕ) (c : lts.Joined2 (known m) (at m) used-from.Post)
     → let o = c .before .before .before .before .before in
     let a = c .before .before .before .before .before .before .before .before .before .before .before .before .before .before .args in
-    Walked (a .tables .now) (a .scope) (a .extras) (a .statement) (c .before .before .before .before .before .before .before .before .kids-of .result .first) true (c .before .before .fresh .result) (o .use-row .last .1 .1 .1 .1 .1 .1 .0) (a .definitions .now) (c .if2 .part) (c .if2 .firsts) (c .if2 .definitions)
+    Walked (a .tables .now) (a .width) (a .scope) (a .extras) (a .statement) (c .before .before .before .before .before .before .before .before .kids-of .result .first) true (c .before .before .fresh .result) (o .use-row .last .1 .1 .1 .1 .1 .1 .0) (a .definitions .now) (c .if2 .part) (c .if2 .firsts) (c .if2 .definitions)
     × (length (c .if2 .firsts) ≡ length (o .use-row .last .1 .1 .1 .1 .1 .1 .0)) × (length (c .if2 .definitions) ≡ length (a .definitions .now))
 first-walk m c =
     let start = c .before .before .before .before .before .before .before .before .before .before .before .before .before .before in
-    guarded-walk _ _ _ _ (start .pre .1 .0) _ _ _ _ _ _ _ (λ w. (_, _, _, w .3 .ensures, w .3 .kept .1 .1 .1 .1 .1 .1 .1 .0, w .3 .kept .1 .1 .1 .1 .1 .1 .1 .1 .0, w .8, w .9, w .10)) (λ w. (w .0 .left, w .1, w .2, w .3)) (c .if2 .came)
+    guarded-walk _ _ _ _ _ (start .pre .1 .0) _ _ _ _ _ _ _ (λ w. (_, _, _, w .3 .ensures, w .3 .kept .1 .1 .1 .1 .1 .1 .1 .0, w .3 .kept .1 .1 .1 .1 .1 .1 .1 .1 .0, w .8, w .9, w .10)) (λ w. (w .0 .left, w .1, w .2, w .3)) (c .if2 .came)
 
 first-firsts : (m : ℕ) (c : lts.Joined2 (known m) (at m) used-from.Post) → length (c .if2 .firsts) ≡ length (c .before .before .before .before .before .before .before .before .before .before .before .before .before .before .args .firsts .now)
 first-firsts m c = first-walk m c .1 ∙ c .before .before .before .before .before .use-row .kept .1 .1 .1 .1 .1 .1 .0
@@ -140,7 +140,7 @@ here-requires m c κs =
     let pre = start .pre .1 in (
       pre .0,
       rw (row-is m r) (second-low _ (pre .0) _ (r .before .if1 .left) (pre .1)),
-      here-fits _ _ _ _ (pre .0) _ (r .before .if1 .left) (pre .1) (start .args .rest) _ (row-is m r) _ (n .before .kids-of .ensures) _ (n .next-of .ensures)
+      here-fits _ _ _ _ _ (pre .0) _ (r .before .if1 .left) (pre .1) (start .args .rest) _ (row-is m r) _ (n .before .kids-of .ensures) _ (n .next-of .ensures)
           (start .args .used) _ (pre .3) (o .use-row .result) (f .fresh .result) (o .use-row .ensures .count) (f .fresh .ensures) _ _ _ _ _ (first-walk m j .0) _ (first-walk m j .2),
     )
 
@@ -160,7 +160,7 @@ second-requires m c κs =
         pre .0,
         k .1,
         omega (arith, pre .2, first-firsts m j),
-        second-room _ _ _ _ (pre .0) _ (r .before .if1 .left) (pre .1) (start .args .rest) _ (row-is m r) _ (n .before .kids-of .ensures) _ (n .next-of .ensures)
+        second-room _ _ _ _ _ (pre .0) _ (r .before .if1 .left) (pre .1) (start .args .rest) _ (row-is m r) _ (n .before .kids-of .ensures) _ (n .next-of .ensures)
             (start .args .used) _ (pre .3) (o .use-row .result) (f .fresh .result) (o .use-row .ensures .count) (f .fresh .ensures) _ _ _ _ _ (first-walk m j .0) _ _ (h .used-here .ensures) _
             (h .used-here .kept .1 .1 .1 .1 .1 .1 .0 ∙ first-walk m j .2),
       ),
@@ -170,11 +170,11 @@ second-walk : (m : ℕ) (c : lts.Joined3 (known m) (at m) used-from.Post)
     → let h = c .before .before .before .before in
     let j = c .before .before .before .before .before .before in
     let a = j .before .before .before .before .before .before .before .before .before .before .before .before .before .before .args in
-    Walked (a .tables .now) (a .scope) (a .extras) (a .statement) (j .before .before .before .before .before .before .before .before .kids-of .result .second) true (h .used-here .result) (j .if2 .firsts) (h .used-here .last .1 .1 .1 .1 .1 .1 .0) (c .if3 .s) (c .if3 .firsts) (c .if3 .definitions)
+    Walked (a .tables .now) (a .width) (a .scope) (a .extras) (a .statement) (j .before .before .before .before .before .before .before .before .kids-of .result .second) true (h .used-here .result) (j .if2 .firsts) (h .used-here .last .1 .1 .1 .1 .1 .1 .0) (c .if3 .s) (c .if3 .firsts) (c .if3 .definitions)
     × (length (c .if3 .firsts) ≡ length (j .if2 .firsts)) × (length (c .if3 .definitions) ≡ length (h .used-here .last .1 .1 .1 .1 .1 .1 .0))
 second-walk m c =
     let start = c .before .before .before .before .before .before .before .before .before .before .before .before .before .before .before .before .before .before .before .before in
-    guarded-walk _ _ _ _ (start .pre .1 .0) _ _ _ _ _ _ _ (λ w. (_, _, _, w .3 .ensures, w .3 .kept .1 .1 .1 .1 .1 .1 .1 .0, w .3 .kept .1 .1 .1 .1 .1 .1 .1 .1 .0, w .8, w .9, w .10)) (λ w. (w .0 .left, w .1, w .2, w .3)) (c .if3 .came)
+    guarded-walk _ _ _ _ _ (start .pre .1 .0) _ _ _ _ _ _ _ (λ w. (_, _, _, w .3 .ensures, w .3 .kept .1 .1 .1 .1 .1 .1 .1 .0, w .3 .kept .1 .1 .1 .1 .1 .1 .1 .1 .0, w .8, w .9, w .10)) (λ w. (w .0 .left, w .1, w .2, w .3)) (c .if3 .came)
 
 second-firsts : (m : ℕ) (c : lts.Joined3 (known m) (at m) used-from.Post) → length (c .if3 .firsts) ≡ length (c .before .before .before .before .before .before .before .before .before .before .before .before .before .before .before .before .before .before .before .before .args .firsts .now)
 second-firsts m c = second-walk m c .1 ∙ first-firsts m (c .before .before .before .before .before .before)
@@ -199,7 +199,7 @@ third-requires m c κs =
         pre .0,
         k .1,
         omega (arith, pre .2, second-firsts m l),
-        third-room _ _ _ _ (pre .0) _ (r .before .if1 .left) (pre .1) (start .args .rest) _ (row-is m r) _ (n .before .kids-of .ensures) _ (n .next-of .ensures)
+        third-room _ _ _ _ _ (pre .0) _ (r .before .if1 .left) (pre .1) (start .args .rest) _ (row-is m r) _ (n .before .kids-of .ensures) _ (n .next-of .ensures)
             (start .args .used) _ (pre .3) (o .use-row .result) (f .fresh .result) (o .use-row .ensures .count) (f .fresh .ensures) _ _ _ _ _ (first-walk m j .0) _ _ (h .used-here .ensures) _ _ _ (second-walk m l .0) _
             (second-definitions m l),
       ),
@@ -209,11 +209,11 @@ third-walk : (m : ℕ) (c : lts.Joined4 (known m) (at m) used-from.Post)
     → let l = c .before .before in
     let j = l .before .before .before .before .before .before in
     let a = j .before .before .before .before .before .before .before .before .before .before .before .before .before .before .args in
-    Walked (a .tables .now) (a .scope) (a .extras) (a .statement) (j .before .before .before .before .before .before .before .before .kids-of .result .third) true (l .if3 .s) (l .if3 .firsts) (l .if3 .definitions) (c .if4 .s) (c .if4 .firsts) (c .if4 .definitions)
+    Walked (a .tables .now) (a .width) (a .scope) (a .extras) (a .statement) (j .before .before .before .before .before .before .before .before .kids-of .result .third) true (l .if3 .s) (l .if3 .firsts) (l .if3 .definitions) (c .if4 .s) (c .if4 .firsts) (c .if4 .definitions)
     × (length (c .if4 .firsts) ≡ length (l .if3 .firsts)) × (length (c .if4 .definitions) ≡ length (l .if3 .definitions))
 third-walk m c =
     let start = c .before .before .before .before .before .before .before .before .before .before .before .before .before .before .before .before .before .before .before .before .before .before in
-    guarded-walk _ _ _ _ (start .pre .1 .0) _ _ _ _ _ _ _ (λ w. (_, _, _, w .3 .ensures, w .3 .kept .1 .1 .1 .1 .1 .1 .1 .0, w .3 .kept .1 .1 .1 .1 .1 .1 .1 .1 .0, w .8, w .9, w .10)) (λ w. (w .0 .left, w .1, w .2, w .3)) (c .if4 .came)
+    guarded-walk _ _ _ _ _ (start .pre .1 .0) _ _ _ _ _ _ _ (λ w. (_, _, _, w .3 .ensures, w .3 .kept .1 .1 .1 .1 .1 .1 .1 .0, w .3 .kept .1 .1 .1 .1 .1 .1 .1 .1 .0, w .8, w .9, w .10)) (λ w. (w .0 .left, w .1, w .2, w .3)) (c .if4 .came)
 
 third-firsts : (m : ℕ) (c : lts.Joined4 (known m) (at m) used-from.Post) → length (c .if4 .firsts) ≡ length (c .before .before .before .before .before .before .before .before .before .before .before .before .before .before .before .before .before .before .before .before .before .before .args .firsts .now)
 third-firsts m c = third-walk m c .1 ∙ second-firsts m (c .before .before)
@@ -225,8 +225,8 @@ third-definitions m c = third-walk m c .2 ∙ second-definitions m (c .before .b
 turned : (m : ℕ) (c : lts.Joined4 (known m) (at m) used-from.Post) (e : Used) (fs ds : List ℕ)
     → let n = c .before .before .before .before .before .before .before .before .before .before .before .before .before .before .before in
     let a = c .before .before .before .before .before .before .before .before .before .before .before .before .before .before .before .before .before .before .before .before .before .before .args in
-    Walked (a .tables .now) (a .scope) (a .extras) (a .statement) (n .next-of .result) true (c .if4 .s) (c .if4 .firsts) (c .if4 .definitions) e fs ds
-    → Walked (a .tables .now) (a .scope) (a .extras) (a .statement) (a .row) (a .rest) (a .used) (a .firsts .now) (a .definitions .now) e fs ds
+    Walked (a .tables .now) (a .width) (a .scope) (a .extras) (a .statement) (n .next-of .result) true (c .if4 .s) (c .if4 .firsts) (c .if4 .definitions) e fs ds
+    → Walked (a .tables .now) (a .width) (a .scope) (a .extras) (a .statement) (a .row) (a .rest) (a .used) (a .firsts .now) (a .definitions .now) e fs ds
 turned m c e fs ds rest =
     let l = c .before .before in
     let h = l .before .before .before .before in
@@ -237,7 +237,7 @@ turned m c e fs ds rest =
     let r = n .before .before in
     let start = r .before .before .before .before .before in
     let pre = start .pre .1 in
-    walked-turn _ _ _ _ (pre .0) _ (r .before .if1 .left) (pre .1) (start .args .rest) _ (row-is m r) _ (n .before .kids-of .ensures) _ (n .next-of .ensures)
+    walked-turn _ _ _ _ _ (pre .0) _ (r .before .if1 .left) (pre .1) (start .args .rest) _ (row-is m r) _ (n .before .kids-of .ensures) _ (n .next-of .ensures)
     _ _ _ _ _ _ _ _ _ _ _ _ _ _ _ _ _ _ _ _ (o .use-row .ensures) (f .fresh .ensures) (first-walk m j .0) (h .used-here .ensures)
     (second-walk m l .0) (third-walk m c .0) rest
 
@@ -250,7 +250,7 @@ same-length-2 m c = third-definitions m (c .before)
 returns-2 : (m : ℕ) → lts.Need-returns-2 (known m) (at m) used-from.Post
 returns-2 m c =
     let start = c .before .before .before .before .before .before .before .before .before .before .before .before .before .before .before .before .before .before .before .before .before .before .before in
-    turned m (c .before) _ _ _ (walked-none _ _ _ _ (start .pre .1 .0) _ (c .if5 .taken) true _ _ _)
+    turned m (c .before) _ _ _ (walked-none _ _ _ _ _ (start .pre .1 .0) _ (c .if5 .taken) true _ _ _)
 
 next-requires : (m : ℕ) → lts.Need-used-from-requires-4 (known m) (at m) used-from.Post
 next-requires m c κs =
@@ -270,7 +270,7 @@ next-requires m c κs =
         pre .0,
         rw (n .next-of .ensures) (k .1),
         omega (arith, pre .2, third-firsts m q),
-        next-room _ _ _ _ (pre .0) _ (r .before .if1 .left) (pre .1) (start .args .rest) _ (row-is m r) _ (n .before .kids-of .ensures) _ (n .next-of .ensures)
+        next-room _ _ _ _ _ (pre .0) _ (r .before .if1 .left) (pre .1) (start .args .rest) _ (row-is m r) _ (n .before .kids-of .ensures) _ (n .next-of .ensures)
             (start .args .used) _ (pre .3) (o .use-row .result) (f .fresh .result) (o .use-row .ensures .count) (f .fresh .ensures) _ _ _ _ _ (first-walk m j .0) _ _ (h .used-here .ensures) _ _ _ (second-walk m l .0) _ _ _ (third-walk m q .0) _
             (third-definitions m q),
       ),

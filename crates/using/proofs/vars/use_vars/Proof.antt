@@ -6,6 +6,7 @@ use native.Mathlib.Omega.{arith}
 use lib.ListN.{length}
 use lib.Seq.{length-take-le}
 use borrow.Author.Needs.{needs}
+use Rattle.blocks.specs.Layout.{answers}
 use Rattle.frame.specs.Faults.{isSound}
 use Rattle.using.specs.ComprRows.{comprs-if}
 use Rattle.using.specs.Defined.{defined-room, rows-stay, uses-all}
@@ -14,12 +15,13 @@ use Rattle.using.proofs.vars.use_vars.Statement.{statement}
 use Rattle.using.proofs.vars.use_vars.Tie as tie
 
 -- How many words lie in front of the table.
-front : tie.Start → ℕ
-front start = length (start .args .work .now) - 4736
+front : tie.After-answers-of → ℕ
+front k = length (k .before .before .before .before .before .before .before .args .work .now) - k .answers-of .result
 
-front-last : (start : tie.Start) → front start + 4736 ≡ length (start .args .work .now)
+front-last : (k : tie.After-answers-of)
+    → (let a = k .before .before .before .before .before .before .before .args in front k + answers (a .p .width) ≡ length (a .work .now))
 unfolding front
-front-last start = omega (arith, start .pre .3 .room)
+front-last k = omega (arith, k .answers-of .ensures, k .before .before .before .before .before .before .before .pre .3 .room .enough)
 
 fine : (k : tie.Then1) → isSound (k .before .before .before .before .before .args .p .fault) ≡ true
 fine k = sym (k .before .is-sound .ensures) ∙ k .if1 .taken
@@ -27,30 +29,34 @@ fine k = sym (k .before .is-sound .ensures) ∙ k .if1 .taken
 is-sound-requires : tie.Need-is-sound-requires
 is-sound-requires c κs = search needs
 
+answers-of-requires : tie.Need-answers-of-requires
+answers-of-requires c κs = search needs
+
 sub-end : tie.Need-sub-end
 sub-end c =
-    let start = c .before .before .before .before .before .before in
-    omega (arith, start .pre .3 .room)
+    let start = c .before .before .before .before .before .before .before in
+    omega (arith, c .answers-of .ensures, start .pre .3 .room .enough)
 
 slice-relend-prefix-used-vars : tie.Need-slice-relend-prefix-used-vars
 slice-relend-prefix-used-vars c = search needs
 
 slice-aggregate-used-vars : tie.Need-slice-aggregate-used-vars
 slice-aggregate-used-vars c =
-    let start = c .before .before .before .before .before .before .before .before in
-    sym (length-take-le (length (start .args .work .now) - 4736) (start .args .work .now) (omega arith))
+    let start = c .before .before .before .before .before .before .before .before .before in
+    sym (length-take-le (length (start .args .work .now) - c .before .before .answers-of .result) (start .args .work .now) (omega arith))
 
 used-vars-requires : tie.Need-used-vars-requires
 unfolding front
 used-vars-requires c κs =
-    let k = c .before .before .before in
+    let ans = c .before .before in
+    let k = ans .before .before in
     let start = k .before .before .before .before .before in
     let a = start .args in
     let pre = start .pre in (
       pre .0,
       pre .1,
       pre .2,
-      defined-room (a .tables .now) (a .extras) (a .statement) (a .row) (a .rest) (a .p) (a .firsts .now) (a .work .now) (pre .3) (fine k) (pre .4) (front start) (front-last start) _ refl,
+      defined-room (a .tables .now) (a .extras) (a .statement) (a .row) (a .rest) (a .p) (a .firsts .now) (a .work .now) (pre .3) (fine k) (pre .4) (front ans) (front-last ans) _ refl,
     )
 
 use-defined-requires : tie.Need-use-defined-requires
@@ -66,12 +72,13 @@ returns : tie.Need-returns
 unfolding front
 returns c =
     let u = c .before .before .before .before .before .before .before in
-    let k = u .before .before .before .before in
+    let ans = u .before .before .before in
+    let k = ans .before .before in
     let start = k .before .before .before .before .before in
     let a = start .args in
     let pre = start .pre in
     uses-defined (a .tables .now) (a .extras) (a .statement) (a .row) (a .rest) (a .p) (a .firsts .now) (a .work .now) (fine k) _ (u .used-vars .ensures .undefined) (c .before .if2 .taken) _ _ _
-    (uses-all (a .tables .now) (a .extras) (a .statement) (a .row) (a .rest) (a .p) (a .firsts .now) (a .work .now) (pre .3) (fine k) (pre .4) (front start) (front-last start)
+    (uses-all (a .tables .now) (a .extras) (a .statement) (a .row) (a .rest) (a .p) (a .firsts .now) (a .work .now) (pre .3) (fine k) (pre .4) (front ans) (front-last ans)
     _ _ (u .used-vars .kept .1 .1 .1 .1 .1 .1 .1 .1 .0) _ (u .used-vars .ensures) _ (c .use-defined .ensures))
     (comprs-if (a .tables .now) (pre .0) _ (a .rest) (a .row) _ (c .use-defined .ensures .comprs) (u .used-vars .ensures .comprs))
 
@@ -81,7 +88,8 @@ empty-requires c κs = search needs
 fail-undefined-requires : tie.Need-fail-undefined-requires
 fail-undefined-requires c κs =
     let u = c .before .before .before .before .before .before .before in
-    let k = u .before .before .before .before in
+    let ans = u .before .before .before in
+    let k = ans .before .before in
     let start = k .before .before .before .before .before in
     let a = start .args in (
       start .pre .0 .room,
@@ -98,12 +106,13 @@ returns-2 : tie.Need-returns-2
 unfolding front
 returns-2 c =
     let u = c .before .before .before .before .before .before .before .before in
-    let k = u .before .before .before .before in
+    let ans = u .before .before .before in
+    let k = ans .before .before in
     let start = k .before .before .before .before .before in
     let a = start .args in
     let pre = start .pre in
     uses-undefined (a .tables .now) (a .extras) (a .statement) (a .row) (a .rest) (a .p) (a .firsts .now) (a .work .now) (fine k) _ (u .used-vars .ensures .undefined) (c .before .before .if2 .left) _ _
-    (rows-stay (a .tables .now) (a .extras) (a .statement) (a .row) (a .rest) (a .p) (a .firsts .now) (a .work .now) (pre .3) (fine k) (pre .4) (front start) (front-last start)
+    (rows-stay (a .tables .now) (a .extras) (a .statement) (a .row) (a .rest) (a .p) (a .firsts .now) (a .work .now) (pre .3) (fine k) (pre .4) (front ans) (front-last ans)
     _ _ (u .used-vars .kept .1 .1 .1 .1 .1 .1 .1 .1 .0) _ (u .used-vars .ensures)) _ (c .fail-undefined .ensures) _
 
 empty-requires-2 : tie.Need-empty-requires-2
@@ -119,6 +128,7 @@ use-vars-spec =
     tie.close
     (tie.spec
     is-sound-requires
+    answers-of-requires
     sub-end
     slice-relend-prefix-used-vars
     slice-aggregate-used-vars

@@ -42,23 +42,23 @@ known m = (
 -- A query that is asked for is to be analysed.
 begins : (m : ℕ) (c : analyze-query-lts.Else2 (known m) (analyze-query-at m) analyze-query.Post) →
     let a = c .before .before .before .before .before .args in
-    Begun (a .tables .now) (a .outer .now) (a .work .now) (a .query) (a .key) (a .value)
+    Begun (a .tables .now) (a .width) (a .outer .now) (a .work .now) (a .query) (a .key) (a .value)
 begins m c =
     let start = c .before .before .before .before .before in
     let a = start .args in
-    begun-of (a .tables .now) (a .outer .now) (a .work .now) (a .query) (a .key) (a .value) (c .before .if1 .left) (start .pre .1 .2)
+    begun-of (a .tables .now) (a .width) (a .outer .now) (a .work .now) (a .query) (a .key) (a .value) (c .before .if1 .left) (start .pre .1 .2)
 
 -- Its scope is gathered.
 starts : (m : ℕ) (c : analyze-query-lts.After-first-at (known m) (analyze-query-at m) analyze-query.Post) →
     let a = c .before .before .before .before .before .before .before .before .before .before .args in
-    Started (a .tables .now) (a .outer .now) (a .work .now) (a .query) (a .key) (a .value)
-    (c .before .before .before .gather-local-vars .last .1 .1 .1 .1 .1 .0) (replicate 128 0) (c .first-at .result) (c .before .begun .result)
+    Started (a .tables .now) (a .width) (a .outer .now) (a .work .now) (a .query) (a .key) (a .value)
+    (c .before .before .before .gather-local-vars .last .1 .1 .1 .1 .1 .0) (replicate 512 0) (c .first-at .result) (c .before .begun .result)
 starts m c = record {
   ok = c .before .before .before .before .before .before .before .before .before .before .pre .1 .0;
   begun = begins m (c .before .before .before .before .before);
   scope = c .before .before .before .gather-local-vars .result;
   gathered = c .before .before .before .gather-local-vars .ensures;
-  zeros = zero-at 128;
+  zeros = zero-at 512;
   is = c .first-at .ensures;
   begins = c .before .begun .ensures;
 }
@@ -67,11 +67,11 @@ starts m c = record {
 encloses : (m : ℕ) (c : analyze-query-lts.After-enclose (known m) (analyze-query-at m) analyze-query.Post) →
     let a = c .before .before .before .before .before .before .before .before .before .before .before .before .before .before .before .before .before .before .before .before .before .args in
     let did = c .before .before .before .before .before .before .before .process-stmts in
-    Enclosed (a .tables .now) (a .outer .now) (a .work .now) (a .query) (a .key) (a .value) (c .before .before .before .before .before .before .before .before .before .before .before .before .before .before .gather-local-vars .last .1 .1 .1 .1 .1 .0)
+    Enclosed (a .tables .now) (a .width) (a .outer .now) (a .work .now) (a .query) (a .key) (a .value) (c .before .before .before .before .before .before .before .before .before .before .before .before .before .before .gather-local-vars .last .1 .1 .1 .1 .1 .0)
     (a .levels - 1) (did .result) (c .before .before .before .opened .result) (c .enclose .last .1 .1 .1 .0)
     (did .last .1 .1 .1 .1 .1 .1 .1 .0) (did .last .1 .1 .1 .1 .1 .1 .1 .1 .0)
 encloses m c = record {
-  firsts = replicate 128 0;
+  firsts = replicate 512 0;
   row = c .before .before .before .before .before .before .before .before .before .before .before .first-at .result;
   p = c .before .before .before .before .before .before .before .before .before .before .before .before .begun .result;
   started = starts m (c .before .before .before .before .before .before .before .before .before .before .before);
@@ -83,12 +83,12 @@ encloses m c = record {
 pub returns : (m : ℕ) → analyze-query-lts.Need-returns (known m) (analyze-query-at m) analyze-query.Post
 returns m c =
     let a = c .before .before .before .before .args in
-    does-none (a .tables .now) (a .outer .now) (a .query) (a .key) (a .value) (a .levels) (a .work .now) (c .if1 .taken)
+    does-none (a .tables .now) (a .width) (a .outer .now) (a .query) (a .key) (a .value) (a .levels) (a .work .now) (c .if1 .taken)
 
 pub returns-2 : (m : ℕ) → analyze-query-lts.Need-returns-2 (known m) (analyze-query-at m) analyze-query.Post
 returns-2 m c =
     let a = c .before .before .before .before .before .args in
-    does-nothing (a .tables .now) (a .outer .now) (a .query) (a .key) (a .value) (a .levels) (a .work .now) (c .if2 .taken)
+    does-nothing (a .tables .now) (a .width) (a .outer .now) (a .query) (a .key) (a .value) (a .levels) (a .work .now) (c .if2 .taken)
 
 pub slice-aggregate-gather-local-vars : (m : ℕ) → analyze-query-lts.Need-slice-aggregate-gather-local-vars (known m) (analyze-query-at m) analyze-query.Post
 slice-aggregate-gather-local-vars m c = search needs
@@ -130,8 +130,8 @@ process-stmts-requires m c κs =
         pre .1,
         omega (arith, c .before .before .before .before .before .before .gather-local-vars .kept .1 .1 .1 .1 .1 .0),
         omega arith,
-        row-high _ _ _ _ _ _ _ _ _ _ x,
-        asks-stmts _ _ _ _ _ _ _ _ _ _ x,
+        row-high _ _ _ _ _ _ _ _ _ _ _ x,
+        asks-stmts _ _ _ _ _ _ _ _ _ _ _ x,
       ),
     )
 
@@ -169,7 +169,7 @@ process-comprs-requires m c κs =
         omega (arith, c .before .before .before .before .enclose .kept .1 .1 .1 .0),
         omega (arith, did .kept .1 .1 .1 .1 .1 .1 .1 .0),
         b .key-low,
-        asks-key _ _ _ _ _ _ _ _ _ _ _ _ _ (encloses m (c .before .before .before .before)),
+        asks-key _ _ _ _ _ _ _ _ _ _ _ _ _ _ (encloses m (c .before .before .before .before)),
       ),
     )
 
@@ -194,7 +194,7 @@ process-comprs-requires-2 m c κs =
         omega (arith, c .before .before .before .before .before .before .before .before .before .before .before .enclose .kept .1 .1 .1 .0),
         omega (arith, did .kept .1 .1 .1 .1 .1 .1 .0, c .before .before .before .before .before .before .before .before .before .before .before .before .before .before .before .before .before .before .process-stmts .kept .1 .1 .1 .1 .1 .1 .1 .0),
         b .value-low,
-        asks-value _ _ _ _ _ _ _ _ _ _ _ _ _ (encloses m (c .before .before .before .before .before .before .before .before .before .before .before)) _ _ _ (did .ensures),
+        asks-value _ _ _ _ _ _ _ _ _ _ _ _ _ _ (encloses m (c .before .before .before .before .before .before .before .before .before .before .before)) _ _ _ (did .ensures),
       ),
     )
 
@@ -212,8 +212,8 @@ finish-requires m c κs =
       b .from,
       b .to,
       omega (arith, c .before .before .before .before .before .before .before .before .before .before .before .before .before .before .before .before .before .before .before .before .before .before .before .before .before .before .before .before .before .before .before .gather-local-vars .kept .1 .1 .1 .1 .1 .0),
-      room-last _ _ _ _ _ _ _ _ _ _ _ _ _ x _ _ _ key _ _ _ value,
-      based-last _ _ _ _ _ _ _ _ _ _ _ _ _ x _ _ _ key _ _ _ value,
+      room-last _ _ _ _ _ _ _ _ _ _ _ _ _ _ x _ _ _ key _ _ _ value,
+      based-last _ _ _ _ _ _ _ _ _ _ _ _ _ _ x _ _ _ key _ _ _ value,
     )
 
 pub same-length : (m : ℕ) → analyze-query-lts.Need-same-length (known m) (analyze-query-at m) analyze-query.Post
@@ -226,5 +226,5 @@ same-length m c =
 pub returns-3 : (m : ℕ) → analyze-query-lts.Need-returns-3 (known m) (analyze-query-at m) analyze-query.Post
 returns-3 m c =
     let some = c .before .before .before .before .before .before .before .before .before .before .before .before .before .before .before .before .before .before .before .before .before .before .before .before .before .before .before .before .before .before .before .before .before .before .before .before .if2 .left in
-    does-query _ _ _ _ _ _ _ _ _ _ _ _ _ (encloses m (c .before .before .before .before .before .before .before .before .before .before .before .before .before .before .before .before .before .before .before .before)) _ _ _ (c .before .before .before .before .before .before .before .before .before .before .before .before .before .before .before .process-comprs .ensures) _ _ _
+    does-query _ _ _ _ _ _ _ _ _ _ _ _ _ _ (encloses m (c .before .before .before .before .before .before .before .before .before .before .before .before .before .before .before .before .before .before .before .before)) _ _ _ (c .before .before .before .before .before .before .before .before .before .before .before .before .before .before .before .process-comprs .ensures) _ _ _
     (c .before .before .before .before .before .before .before .before .process-comprs2 .ensures) _ (omega (arith, some)) _ _ (c .before .before .finish .ensures)

@@ -1,9 +1,11 @@
 -- `process_comprs`: the walk goes on to later rows only, and to the query of a comprehension with the levels that are left.
-use mathlib.Core.Path.{_≡_, refl, _∙_}
+use mathlib.Core.Path.{_≡_, refl, ap, _∙_}
 use Prim.Native.Nat.{ℕ, _+_, _*_, _≤_}
 use native.Mathlib.Omega.{arith}
 use lib.ListN.{length}
 use borrow.Author.Needs.{needs}
+use Rattle.widths.specs.Widths as Widths
+use Rattle.blocks.specs.Layout.{answers}
 use Rattle.trees.specs.Sheet.{rowAt, row-fields}
 use Rattle.gather.specs.Walking.{remains, Falls, Calls, row-low, calls}
 use Rattle.frame.specs.Tails.{whole, whole-length}
@@ -17,6 +19,7 @@ use Rattle.branches.proofs.next_of.Reads as next-of-reads
 use Rattle.comprs.proofs.after.after_compr.Reads as after-compr-reads
 use Rattle.comprs.proofs.pending.pending.Reads as pending-reads
 use Rattle.records.proofs.row_at.Reads as row-at-reads
+use Rattle.widths.proofs.Width.row.Reads as row-reads
 use Rattle.analyzer.proofs.query.+analyze_query+assign_pair+process_comprs+process_every+process_expr+process_literal+process_non_var+process_non_vars+process_pairs+process_some_in+process_stmts+use_expr.Lts-process_comprs as process-comprs-lts
 use Rattle.analyzer.proofs.query.+analyze_query+assign_pair+process_comprs+process_every+process_expr+process_literal+process_non_var+process_non_vars+process_pairs+process_some_in+process_stmts+use_expr.Proof.Measures.{analyze-query-below, process-comprs-at, process-comprs-below}
 
@@ -30,6 +33,8 @@ known m = (
   next-of-reads.Learnt,
   pending-reads.Asked,
   pending-reads.Learnt,
+  row-reads.Asked,
+  row-reads.Learnt,
   analyze-query-below m,
   analyze-query.Post,
   after-compr-reads.Asked,
@@ -66,24 +71,33 @@ kids-of-requires m c κs = search needs
 pub next-of-requires : (m : ℕ) → process-comprs-lts.Need-next-of-requires (known m) (process-comprs-at m) process-comprs.Post
 next-of-requires m c κs = search needs
 
--- There is room for the rows of definitions and for the table.
-room : (m : ℕ) (c : process-comprs-lts.After-row-at (known m) (process-comprs-at m) process-comprs.Post)
-    → let start = c .before .before .before .before .before .before in
-    4 * start .args .p .count + 4736 ≤ length (start .args .work .now)
+-- There is room for the rows of definitions, which have n words, and for the table.
+room : (m : ℕ) (c : process-comprs-lts.After-row-at (known m) (process-comprs-at m) process-comprs.Post) (n : ℕ)
+    → let a = c .before .before .before .before .before .before .args in
+    n ≡ Widths.row (a .p .width) * a .p .count → n + answers (a .p .width) ≤ length (a .work .now)
 room m c =
     let pre = c .before .before .before .before .before .before .pre .1 in
     room-at _ (pre .0) _ _ (c .before .if1 .left) (pre .3) _ (row-is m c) _ _ _ (pre .4)
+
+-- So many words have the rows.
+rows-are : (m : ℕ) (c : process-comprs-lts.After-row (known m) (process-comprs-at m) process-comprs.Post)
+    → let a = c .before .before .before .before .before .before .before .before .before .before .before .args in
+    c .row .result * a .p .count ≡ Widths.row (a .p .width) * a .p .count
+rows-are m c = ap (λ (n : ℕ). n * c .before .before .before .before .before .before .before .before .before .before .before .args .p .count) (c .row .ensures)
 
 pub pending-requires : (m : ℕ) → process-comprs-lts.Need-pending-requires (known m) (process-comprs-at m) process-comprs.Post
 pending-requires m c κs =
     let r = c .before .before .before in
     let pre = r .before .before .before .before .before .before .pre .1 in
-    (omega (arith, room m r), query-in m r)
+    (omega (arith, room m r _ refl), query-in m r)
+
+pub row-requires : (m : ℕ) → process-comprs-lts.Need-row-requires (known m) (process-comprs-at m) process-comprs.Post
+row-requires m c κs = search needs
 
 pub mul-at : (m : ℕ) → process-comprs-lts.Need-mul-at (known m) (process-comprs-at m) process-comprs.Post
 mul-at m c =
-    let r = c .before .before .before .before .before in
-    omega (arith, room m r, r .before .before .before .before .before .before .good .1 .1 .1 .1 .1 .1 .1 .0 .1)
+    let r = c .before .before .before .before .before .before in
+    record { fits = omega (arith, room m r _ (rows-are m (c .before)), r .before .before .before .before .before .before .good .1 .1 .1 .1 .1 .1 .1 .0 .1) }
 
 pub cast-analyze-query : (m : ℕ) → process-comprs-lts.Need-cast-analyze-query (known m) (process-comprs-at m) process-comprs.Post
 cast-analyze-query m c = search needs
@@ -93,27 +107,27 @@ cast-analyze-query-2 m c = search needs
 
 pub mul-analyze-query : (m : ℕ) → process-comprs-lts.Need-mul-analyze-query (known m) (process-comprs-at m) process-comprs.Post
 mul-analyze-query m c =
-    let r = c .before .before .before .before .before .before .before in
-    omega (arith, room m r, r .before .before .before .before .before .before .good .1 .1 .1 .1 .1 .1 .1 .0 .1)
+    let r = c .before .before .before .before .before .before .before .before in
+    omega (arith, room m r _ (rows-are m (c .before .before .before)), r .before .before .before .before .before .before .good .1 .1 .1 .1 .1 .1 .1 .0 .1)
 
 pub sub-analyze-query : (m : ℕ) → process-comprs-lts.Need-sub-analyze-query (known m) (process-comprs-at m) process-comprs.Post
 sub-analyze-query m c =
-    let r = c .before .before .before .before .before .before .before in
-    omega (arith, room m r, r .before .before .before .before .before .before .good .1 .1 .1 .1 .1 .1 .1 .0 .1)
+    let r = c .before .before .before .before .before .before .before .before in
+    omega (arith, room m r _ (rows-are m (c .before .before .before)), r .before .before .before .before .before .before .good .1 .1 .1 .1 .1 .1 .1 .0 .1)
 
 pub part-analyze-query-start : (m : ℕ) → process-comprs-lts.Need-part-analyze-query-start (known m) (process-comprs-at m) process-comprs.Post
 part-analyze-query-start m c =
-    let r = c .before .before .before .before .before .before .before in
-    omega (arith, room m r, r .before .before .before .before .before .before .good .1 .1 .1 .1 .1 .1 .1 .0 .1)
+    let r = c .before .before .before .before .before .before .before .before in
+    omega (arith, room m r _ (rows-are m (c .before .before .before)), r .before .before .before .before .before .before .good .1 .1 .1 .1 .1 .1 .1 .0 .1)
 
 pub part-analyze-query-end : (m : ℕ) → process-comprs-lts.Need-part-analyze-query-end (known m) (process-comprs-at m) process-comprs.Post
 part-analyze-query-end m c =
-    let r = c .before .before .before .before .before .before .before in
-    omega (arith, room m r, r .before .before .before .before .before .before .good .1 .1 .1 .1 .1 .1 .1 .0 .1)
+    let r = c .before .before .before .before .before .before .before .before in
+    omega (arith, room m r _ (rows-are m (c .before .before .before)), r .before .before .before .before .before .before .good .1 .1 .1 .1 .1 .1 .1 .0 .1)
 
 pub analyze-query-requires : (m : ℕ) → process-comprs-lts.Need-analyze-query-requires (known m) (process-comprs-at m) process-comprs.Post
 analyze-query-requires m c κs =
-    let q = c .before .before .before .before in
+    let q = c .before .before .before .before .before in
     let r = q .before .before .before .before in
     let start = r .before .before .before .before .before .before in
     let pre = start .pre .1 in (
@@ -121,35 +135,38 @@ analyze-query-requires m c κs =
       (
         pre .0,
         pre .1,
-        query-asks _ (pre .0) _ _ (r .before .if1 .left) (pre .3) _ (row-is m r) _ _ _ (pre .4) _ (q .pending .ensures) (query-in m r),
+        query-asks _ (pre .0) _ _ (r .before .if1 .left) (pre .3) _ (row-is m r) _ _ _ (pre .4)
+            _ (rows-are m (c .before .before .before .before)) _ (q .pending .ensures) (query-in m r),
       ),
     )
 
 pub after-compr-requires : (m : ℕ) → process-comprs-lts.Need-after-compr-requires (known m) (process-comprs-at m) process-comprs.Post
 after-compr-requires m c κs =
     let a = c .before .before .before .before in
-    let r = a .before .before .before .before .before .before .before .before .before in
+    let r = a .before .before .before .before .before .before .before .before .before .before in
     let start = r .before .before .before .before .before .before in
+    let rows = rows-are m (a .before .before .before .before .before) in
     let pre = start .pre .1 in (
       pre .2,
-      omega (arith, room m r, whole-length (start .args .work .now) (4 * start .args .p .count) (room m r) (a .analyze-query .last .1 .1 .1 .1 .1 .1 .0) (a .analyze-query .kept .1 .1 .1 .1 .1 .1 .0)),
+      omega (arith, room m r _ rows, whole-length (start .args .p .width) (start .args .work .now) _ (room m r _ rows) (a .analyze-query .last .1 .1 .1 .1 .1 .1 .0) (a .analyze-query .kept .1 .1 .1 .1 .1 .1 .0)),
       query-in m r,
     )
 
 -- The row's own turn.
 own : (m : ℕ) (c : process-comprs-lts.After-after-compr (known m) (process-comprs-at m) process-comprs.Post)
     → let q = c .before .before .before .before .before in
-    let r = q .before .before .before .before .before .before .before .before .before in
+    let r = q .before .before .before .before .before .before .before .before .before .before in
     let a = r .before .before .before .before .before .before .args in
     DoesComprs (a .tables .now) (a .inner .now) (ownCompr (a .tables .now) (a .row) (r .row-at .result)) (a .levels) (a .p) (a .firsts .now) (a .work .now)
     (c .after-compr .result) (c .after-compr .last .1 .1 .1 .0)
-    (whole (a .work .now) (4 * a .p .count) (room m r) (q .analyze-query .last .1 .1 .1 .1 .1 .1 .0) (q .analyze-query .kept .1 .1 .1 .1 .1 .1 .0))
+    (whole (a .p .width) (a .work .now) _ (room m r _ (rows-are m (q .before .before .before .before .before))) (q .analyze-query .last .1 .1 .1 .1 .1 .1 .0) (q .analyze-query .kept .1 .1 .1 .1 .1 .1 .0))
 own m c =
     let q = c .before .before .before .before .before in
-    let r = q .before .before .before .before .before .before .before .before .before in
+    let r = q .before .before .before .before .before .before .before .before .before .before in
     let start = r .before .before .before .before .before .before in
     let pre = start .pre .1 in
-    own-does _ (pre .0) _ _ (r .before .if1 .left) (pre .3) _ (row-is m r) _ _ _ (pre .4) _ (q .before .before .before .before .before .pending .ensures) (query-in m r) (start .args .levels) _ _
+    own-does _ (pre .0) _ _ (r .before .if1 .left) (pre .3) _ (row-is m r) _ _ _ (pre .4)
+    _ (rows-are m (q .before .before .before .before .before)) _ (q .before .before .before .before .before .before .pending .ensures) (query-in m r) (start .args .levels) _ _
     (q .analyze-query .kept .1 .1 .1 .1 .1 .1 .0) (q .analyze-query .ensures) _ _ (c .after-compr .ensures)
 
 ready : (m : ℕ) (c : process-comprs-lts.After-next-of (known m) (process-comprs-at m) process-comprs.Post)
@@ -163,7 +180,7 @@ ready m c =
 pub process-comprs-requires : (m : ℕ) → process-comprs-lts.Need-process-comprs-requires (known m) (process-comprs-at m) process-comprs.Post
 process-comprs-requires m c κs =
     let a = c .before .before .before .before in
-    let n = a .before .before .before .before .before .before .before .before .before .before .before .before in
+    let n = a .before .before .before .before .before .before .before .before .before .before .before .before .before in
     let r = n .before .before in
     let start = r .before .before .before .before .before .before in
     let pre = start .pre .1 in
@@ -183,7 +200,7 @@ pub process-comprs-requires-2 : (m : ℕ) → process-comprs-lts.Need-process-co
 process-comprs-requires-2 m c κs =
     let d1 = c .before .before .before .before .before .before in
     let a = d1 .before .before .before .before .before in
-    let n = a .before .before .before .before .before .before .before .before .before .before .before .before in
+    let n = a .before .before .before .before .before .before .before .before .before .before .before .before .before in
     let r = n .before .before in
     let start = r .before .before .before .before .before .before in
     let pre = start .pre .1 in
@@ -204,7 +221,7 @@ process-comprs-requires-3 m c κs =
     let d2 = c .before .before .before .before .before .before in
     let d1 = d2 .before .before .before .before .before .before .before in
     let a = d1 .before .before .before .before .before in
-    let n = a .before .before .before .before .before .before .before .before .before .before .before .before in
+    let n = a .before .before .before .before .before .before .before .before .before .before .before .before .before in
     let r = n .before .before in
     let start = r .before .before .before .before .before .before in
     let pre = start .pre .1 in
@@ -226,7 +243,7 @@ process-comprs-requires-4 m c κs =
     let d2 = d3 .before .before .before .before .before .before .before in
     let d1 = d2 .before .before .before .before .before .before .before in
     let a = d1 .before .before .before .before .before in
-    let n = a .before .before .before .before .before .before .before .before .before .before .before .before in
+    let n = a .before .before .before .before .before .before .before .before .before .before .before .before .before in
     let r = n .before .before in
     let start = r .before .before .before .before .before .before in
     let pre = start .pre .1 in
@@ -282,7 +299,7 @@ returns-2 m c =
     let d2 = d3 .before .before .before .before .before .before .before in
     let d1 = d2 .before .before .before .before .before .before .before in
     let a = d1 .before .before .before .before .before in
-    let n = a .before .before .before .before .before .before .before .before .before .before .before .before in
+    let n = a .before .before .before .before .before .before .before .before .before .before .before .before .before in
     let r = n .before .before in
     let start = r .before .before .before .before .before .before in
     let pre = start .pre .1 in

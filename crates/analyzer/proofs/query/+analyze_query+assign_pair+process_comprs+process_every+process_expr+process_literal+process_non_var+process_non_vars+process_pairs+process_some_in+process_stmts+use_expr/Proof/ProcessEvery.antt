@@ -1,9 +1,11 @@
 -- `process_every`: the domain is used in the scopes around the statement, and the body is a nested query below key and value (`every-does`).
-use mathlib.Core.Path.{_≡_}
+use mathlib.Core.Path.{_≡_, ap}
 use Prim.Native.Nat.{ℕ, _+_, _*_, _≤_}
 use native.Mathlib.Omega.{arith}
 use lib.ListN.{length}
 use borrow.Author.Needs.{needs}
+use Rattle.widths.specs.Widths as Widths
+use Rattle.blocks.specs.Layout.{answers}
 use Rattle.frame.specs.Tails.{whole-length}
 use Rattle.using.specs.UsesMods.{listed-none}
 use Rattle.analyzer.specs.EverySteps.{named, use-asks, one-fits, room-at, query-asks, every-does}
@@ -16,6 +18,7 @@ use Rattle.literals.proofs.body.after_body.Reads as after-body-reads
 use Rattle.literals.proofs.body.body_of.Reads as body-of-reads
 use Rattle.names.proofs.Names.empty.Reads as empty-reads
 use Rattle.recording.proofs.record.record_one.Reads as record-one-reads
+use Rattle.widths.proofs.Width.row.Reads as row-reads
 use Rattle.analyzer.proofs.query.+analyze_query+assign_pair+process_comprs+process_every+process_expr+process_literal+process_non_var+process_non_vars+process_pairs+process_some_in+process_stmts+use_expr.Lts-process_every as process-every-lts
 use Rattle.analyzer.proofs.query.+analyze_query+assign_pair+process_comprs+process_every+process_expr+process_literal+process_non_var+process_non_vars+process_pairs+process_some_in+process_stmts+use_expr.Proof.Measures.{analyze-query-below, process-every-at, use-expr-below}
 
@@ -33,6 +36,8 @@ known m = (
   enclose-every-reads.Learnt,
   body-of-reads.Asked,
   body-of-reads.Learnt,
+  row-reads.Asked,
+  row-reads.Learnt,
   analyze-query-below m,
   analyze-query.Post,
   after-body-reads.Asked,
@@ -84,9 +89,10 @@ record-one-requires m c κs =
     one-fits (a .tables .now) (pre .0) (a .outer .now) (a .spans .now) (a .st) (a .context) (a .p) (a .firsts .now) (a .work .now) (pre .4) (pre .5)
     _ (closed .enclose .ensures) _ (empty .empty .ensures) _ _ _ (uses .use-expr .ensures)
 
--- There is room for the rows of definitions and for the table.
-room : (m : ℕ) (c : process-every-lts.After-record-one (known m) (process-every-at m) process-every.Post)
-    → 4 * c .record-one .result .count + 4736 ≤ length (c .record-one .last .1 .1 .1 .0)
+-- There is room for the rows of definitions, which have n words, and for the table.
+room : (m : ℕ) (c : process-every-lts.After-record-one (known m) (process-every-at m) process-every.Post) (n : ℕ)
+    → let s = c .record-one .result in
+    n ≡ Widths.row (s .width) * s .count → n + answers (s .width) ≤ length (c .record-one .last .1 .1 .1 .0)
 room m c =
     let uses = c .before .before .before .before .before .before in
     let empty = uses .before .before .before .before .before in
@@ -96,6 +102,12 @@ room m c =
     let pre = start .pre .1 in
     room-at (a .tables .now) (pre .0) (a .outer .now) (a .spans .now) (a .st) (a .context) (a .p) (a .firsts .now) (a .work .now) (pre .4) (pre .5)
     _ (closed .enclose .ensures) _ (empty .empty .ensures) _ _ _ (uses .use-expr .ensures) _ _ (c .record-one .ensures)
+
+-- So many words have the rows.
+rows-are : (m : ℕ) (c : process-every-lts.After-row (known m) (process-every-at m) process-every.Post)
+    → let s = c .before .before .before .before .before .before .before .before .before .before .before .record-one .result in
+    c .row .result * s .count ≡ Widths.row (s .width) * s .count
+rows-are m c = ap (λ (n : ℕ). n * c .before .before .before .before .before .before .before .before .before .before .before .record-one .result .count) (c .row .ensures)
 
 -- It is no longer than it was.
 short : (m : ℕ) (c : process-every-lts.After-record-one (known m) (process-every-at m) process-every.Post)
@@ -128,37 +140,40 @@ cast-body-of m c = search needs
 pub body-of-requires : (m : ℕ) → process-every-lts.Need-body-of-requires (known m) (process-every-at m) process-every.Post
 body-of-requires m c κs = search needs
 
+pub row-requires : (m : ℕ) → process-every-lts.Need-row-requires (known m) (process-every-at m) process-every.Post
+row-requires m c κs = search needs
+
 pub mul-at : (m : ℕ) → process-every-lts.Need-mul-at (known m) (process-every-at m) process-every.Post
 mul-at m c =
-    let r = c .before .before .before .before .before .before .before .before .before .before .before in
-    omega (arith, room m r, short m r, r .before .before .before .before .before .before .before .before .before .before .before .before .before .before .before .before .before .before .before .before .good .1 .1 .1 .1 .1 .1 .1 .0 .1)
+    let r = c .before .before .before .before .before .before .before .before .before .before .before .before in
+    record { fits = omega (arith, room m r _ (rows-are m (c .before)), short m r, r .before .before .before .before .before .before .before .before .before .before .before .before .before .before .before .before .before .before .before .before .good .1 .1 .1 .1 .1 .1 .1 .0 .1) }
 
 pub slice-aggregate-analyze-query : (m : ℕ) → process-every-lts.Need-slice-aggregate-analyze-query (known m) (process-every-at m) process-every.Post
 slice-aggregate-analyze-query m c = search needs
 
 pub mul-analyze-query : (m : ℕ) → process-every-lts.Need-mul-analyze-query (known m) (process-every-at m) process-every.Post
 mul-analyze-query m c =
-    let r = c .before .before .before .before .before .before .before .before .before .before .before .before in
-    omega (arith, room m r, short m r, r .before .before .before .before .before .before .before .before .before .before .before .before .before .before .before .before .before .before .before .before .good .1 .1 .1 .1 .1 .1 .1 .0 .1)
+    let r = c .before .before .before .before .before .before .before .before .before .before .before .before .before in
+    omega (arith, room m r _ (rows-are m (c .before .before)), short m r, r .before .before .before .before .before .before .before .before .before .before .before .before .before .before .before .before .before .before .before .before .good .1 .1 .1 .1 .1 .1 .1 .0 .1)
 
 pub sub-analyze-query : (m : ℕ) → process-every-lts.Need-sub-analyze-query (known m) (process-every-at m) process-every.Post
 sub-analyze-query m c =
-    let r = c .before .before .before .before .before .before .before .before .before .before .before .before in
-    omega (arith, room m r, short m r, r .before .before .before .before .before .before .before .before .before .before .before .before .before .before .before .before .before .before .before .before .good .1 .1 .1 .1 .1 .1 .1 .0 .1)
+    let r = c .before .before .before .before .before .before .before .before .before .before .before .before .before in
+    omega (arith, room m r _ (rows-are m (c .before .before)), short m r, r .before .before .before .before .before .before .before .before .before .before .before .before .before .before .before .before .before .before .before .before .good .1 .1 .1 .1 .1 .1 .1 .0 .1)
 
 pub part-analyze-query-start : (m : ℕ) → process-every-lts.Need-part-analyze-query-start (known m) (process-every-at m) process-every.Post
 part-analyze-query-start m c =
-    let r = c .before .before .before .before .before .before .before .before .before .before .before .before in
-    omega (arith, room m r, short m r, r .before .before .before .before .before .before .before .before .before .before .before .before .before .before .before .before .before .before .before .before .good .1 .1 .1 .1 .1 .1 .1 .0 .1)
+    let r = c .before .before .before .before .before .before .before .before .before .before .before .before .before in
+    omega (arith, room m r _ (rows-are m (c .before .before)), short m r, r .before .before .before .before .before .before .before .before .before .before .before .before .before .before .before .before .before .before .before .before .good .1 .1 .1 .1 .1 .1 .1 .0 .1)
 
 pub part-analyze-query-end : (m : ℕ) → process-every-lts.Need-part-analyze-query-end (known m) (process-every-at m) process-every.Post
 part-analyze-query-end m c =
-    let r = c .before .before .before .before .before .before .before .before .before .before .before .before in
-    omega (arith, room m r, short m r, r .before .before .before .before .before .before .before .before .before .before .before .before .before .before .before .before .before .before .before .before .good .1 .1 .1 .1 .1 .1 .1 .0 .1)
+    let r = c .before .before .before .before .before .before .before .before .before .before .before .before .before in
+    omega (arith, room m r _ (rows-are m (c .before .before)), short m r, r .before .before .before .before .before .before .before .before .before .before .before .before .before .before .before .before .before .before .before .before .good .1 .1 .1 .1 .1 .1 .1 .0 .1)
 
 pub analyze-query-requires : (m : ℕ) → process-every-lts.Need-analyze-query-requires (known m) (process-every-at m) process-every.Post
 analyze-query-requires m c κs =
-    let which = c .before .before .before in
+    let which = c .before .before .before .before in
     let around = which .before .before .before in
     let one = around .before .before .before .before .before .before .before in
     let uses = one .before .before .before .before .before .before in
@@ -173,7 +188,7 @@ analyze-query-requires m c κs =
         omega (arith, around .enclose-every .kept .1 .1 .1 .1 .0),
         query-asks (a .tables .now) (pre .0) (a .outer .now) (a .spans .now) (a .st) (a .context) (a .p) (a .firsts .now) (a .work .now) (pre .4) (pre .5)
             _ (closed .enclose .ensures) _ (empty .empty .ensures) _ _ _ (uses .use-expr .ensures) _ _ (one .record-one .ensures)
-            _ (around .enclose-every .ensures) _ (which .body-of .ensures),
+            _ (rows-are m (c .before .before .before)) _ (around .enclose-every .ensures) _ (which .body-of .ensures),
       ),
     )
 
@@ -181,22 +196,23 @@ pub after-body-requires : (m : ℕ) → process-every-lts.Need-after-body-requir
 after-body-requires m c κs = search needs
 
 pub same-length : (m : ℕ) → process-every-lts.Need-same-length (known m) (process-every-at m) process-every.Post
-same-length m c = omega (arith, c .before .before .before .before .before .before .before .before .before .before .before .before .before .before .before .before .before .before .before .before .before .before .before .use-expr .kept .1 .1 .1 .1 .1 .1 .1 .0)
+same-length m c = omega (arith, c .before .before .before .before .before .before .before .before .before .before .before .before .before .before .before .before .before .before .before .before .before .before .before .before .use-expr .kept .1 .1 .1 .1 .1 .1 .1 .0)
 
 pub same-length-2 : (m : ℕ) → process-every-lts.Need-same-length-2 (known m) (process-every-at m) process-every.Post
 same-length-2 m c =
-    let one = c .before .before .before .before .before .before .before .before .before .before .before .before .before .before .before .before .before in
+    let one = c .before .before .before .before .before .before .before .before .before .before .before .before .before .before .before .before .before .before in
+    let rows = rows-are m (c .before .before .before .before .before .before .before) in
     let query = c .before .before .before in
     omega (
       arith,
       short m one,
-      whole-length (one .record-one .last .1 .1 .1 .0) (4 * one .record-one .result .count) (room m one) (query .analyze-query .last .1 .1 .1 .1 .1 .1 .0) (query .analyze-query .kept .1 .1 .1 .1 .1 .1 .0),
+      whole-length (one .record-one .result .width) (one .record-one .last .1 .1 .1 .0) _ (room m one _ rows) (query .analyze-query .last .1 .1 .1 .1 .1 .1 .0) (query .analyze-query .kept .1 .1 .1 .1 .1 .1 .0),
     )
 
 pub returns : (m : ℕ) → process-every-lts.Need-returns (known m) (process-every-at m) process-every.Post
 returns m c =
     let query = c .before .before .before in
-    let which = query .before .before .before .before in
+    let which = query .before .before .before .before .before in
     let around = which .before .before .before in
     let one = around .before .before .before .before .before .before .before in
     let uses = one .before .before .before .before .before .before in
@@ -207,5 +223,5 @@ returns m c =
     let pre = start .pre .1 in
     every-does (a .tables .now) (pre .0) (a .outer .now) (a .spans .now) (a .st) (a .context) (a .p) (a .firsts .now) (a .work .now) (pre .4) (pre .5)
     _ (closed .enclose .ensures) _ (empty .empty .ensures) _ _ _ (uses .use-expr .ensures) _ _ (one .record-one .ensures)
-    _ (around .enclose-every .ensures) _ (which .body-of .ensures) _ _ (query .analyze-query .kept .1 .1 .1 .1 .1 .1 .0) (query .analyze-query .ensures)
+    _ (rows-are m (query .before .before .before .before)) _ (around .enclose-every .ensures) _ (which .body-of .ensures) _ _ (query .analyze-query .kept .1 .1 .1 .1 .1 .1 .0) (query .analyze-query .ensures)
     _ (c .after-body .ensures)

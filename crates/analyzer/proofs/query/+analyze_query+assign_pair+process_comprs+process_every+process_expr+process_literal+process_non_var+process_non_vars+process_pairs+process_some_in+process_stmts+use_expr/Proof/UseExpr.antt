@@ -101,13 +101,7 @@ all-used-requires m c κs =
       pre .0,
       at-low _ (start .args .rest) _ _ (u .use-vars .ensures .comprs) (pre .3),
       pre .5 .mods-low,
-      omega (
-        arith,
-        use-room _ _ _ _ (start .args .rest) _ _ _ _ (pre .5) (pre .4),
-        u .use-vars .kept .1 .1 .1 .1 .1 .1 .1 .0,
-        d .process-comprs .kept .1 .1 .1 .1 .1 .1 .1 .0,
-        e .process-comprs2 .kept .1 .1 .1 .1 .1 .1 .1 .0,
-      ),
+      use-room _ _ _ _ (start .args .rest) _ _ _ _ (pre .5) (pre .4) _ _ _ (u .use-vars .ensures) _ _ _ (d .process-comprs .ensures) _ _ _ (e .process-comprs2 .ensures),
     )
 
 pub same-length-3 : (m : ℕ) → use-expr-lts.Need-same-length-3 (known m) (use-expr-at m) use-expr.Post

@@ -1,0 +1,60 @@
+-- The most that a call takes of each thing, and the least that it is lent. The definitions say these numbers here alone.
+use Prim.Native.Nat.{ℕ}
+
+-- ---- what the library and the printing program differ in
+
+pub record Limits : Type 0 where
+  -- The words of a set of names.
+  pub words : ℕ
+  -- The names of a sheet, and the largest name of a definition: a set has a bit for each, and one for the empty name.
+  pub names : ℕ
+  -- The words of a definition's row: a statement, a name, and the set of used names.
+  pub row : ℕ
+  -- The words of work.
+  pub work : ℕ
+
+-- Every exported call.
+abbrev pub library : Limits
+library = record { words = 8; names = 511; row = 10; work = 24576 }
+
+abbrev pub printing : Limits
+printing = record { words = 2; names = 127; row = 4; work = 8192 }
+
+-- ---- what they have in common
+
+-- The bytes of a sheet.
+abbrev pub sheet : ℕ
+sheet = 32768
+
+-- The bytes of a name.
+abbrev pub name : ℕ
+name = 32
+
+-- A value.
+abbrev pub value : ℕ
+value = 65535
+
+-- The rows of each section but the names.
+abbrev pub builtIns : ℕ
+builtIns = 64
+
+abbrev pub expressions : ℕ
+expressions = 512
+
+abbrev pub statements : ℕ
+statements = 128
+
+abbrev pub queries : ℕ
+queries = 32
+
+-- The definitions of a list handed to the scheduler; its statements are as many as a sheet's.
+abbrev pub definitions : ℕ
+definitions = 640
+
+-- The level of a query. Row 1 is level 1.
+abbrev pub nesting : ℕ
+nesting = 8
+
+-- And the least: the entries of the tables.
+abbrev pub tables : ℕ
+tables = 8192

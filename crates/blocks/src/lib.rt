@@ -1,0 +1,132 @@
+// Where the answers of a sheet's queries stand in lent memory, by the width of sets: a block for each query, and the places of all queries
+// behind the blocks. Whoever reads or writes a part of a block does it here.
+
+use names::Names;
+use widths::Width;
+use widths::load_set;
+use widths::store_set;
+ghost use mathlib.Core.Path.{_≡_};
+ghost use Prim.Native.Nat.{_+_, _-_, _*_, _≤_, _<_};
+ghost use lib.ListN.{length, getD};
+ghost use Rattle.widths.specs.Widths.{words, Same, Put};
+ghost use Rattle.blocks.specs.Layout.{block, places, answers, wordAt, spanAt, setAt, half, both, SpansPut};
+
+// 0: never analysed; 1: analysed and unplaced; 2: placed.
+pub const STATE: usize = 0;
+
+pub const INPUT: usize = 1;
+
+pub const COUNT: usize = 2;
+
+// The place of the query's first statement among the places.
+pub const BASE: usize = 3;
+
+// A position has 32 bits, half a word.
+const HALF: u64 = 0x1_0000_0000;
+
+// The words of a block: four, three sets, and the positions of as many names as a set has room for, two to a word.
+pub fn block_of(width: Width) -> usize
+    ensures { λ r. ⌜ r ≡ block width ⌝ }
+{
+    match width {
+        Width::Two => 74,
+        Width::Eight => 284,
+    }
+}
+
+// The words of all answers.
+pub fn answers_of(width: Width) -> usize
+    ensures { λ r. ⌜ r ≡ answers width ⌝ }
+{
+    match width {
+        Width::Two => 2496,
+        Width::Eight => 9216,
+    }
+}
+
+// Where word i of query q's block stands.
+pub fn place_of(width: Width, q: usize, i: usize) -> usize
+    requires { ⌜ (1 ≤ q) × (q ≤ 32) × (i ≤ block width) ⌝ }
+    ensures { λ r. ⌜ r ≡ block width * (q - 1) + i ⌝ }
+{
+    block_of(width) * (q - 1) + i
+}
+
+// Word i of query q's block, of the first four.
+pub fn word_at(width: Width, work: &[u64], q: usize, i: usize) -> u64
+    requires { ⌜ (answers width ≤ length (now work)) × (1 ≤ q) × (q ≤ 32) × (i ≤ 3) ⌝ }
+    ensures { λ r. ⌜ r ≡ wordAt width (now (work .entry)) q i ⌝ }
+{
+    work[place_of(width, q, i)]
+}
+
+// Where the places begin.
+pub fn places_of(width: Width) -> usize
+    ensures { λ r. ⌜ r ≡ places width ⌝ }
+{
+    match width {
+        Width::Two => 2368,
+        Width::Eight => 9088,
+    }
+}
+
+// Place k of a query whose places begin at `base` among those of all.
+pub fn statement_at(width: Width, work: &[u64], base: usize, k: usize) -> u64
+    requires { ⌜ (answers width ≤ length (now work)) × (base + k < 128) ⌝ }
+    ensures { λ r. ⌜ r ≡ getD (now (work .entry)) (places width + base + k) 0 ⌝ }
+{
+    work[places_of(width) + base + k]
+}
+
+// The set s of query q: 0 the locals, 1 unscoped, 2 inputs.
+pub fn set_at(width: Width, work: &[u64], q: usize, s: usize) -> Names
+    requires { ⌜ (answers width ≤ length (now work)) × (1 ≤ q) × (q ≤ 32) × (s ≤ 2) ⌝ }
+    ensures { λ r. ⌜ Same (setAt width (now (work .entry)) q s) (r .words) ⌝ }
+{
+    let at = place_of(width, q, 4 + width.words() * s);
+    load_set(width, work, at)
+}
+
+// Puts the set s of query q, as many of its words as the width has.
+pub fn put_set(width: Width, work: &mut [u64], q: usize, s: usize, set: Names)
+    requires { ⌜ (answers width ≤ length (now work)) × (1 ≤ q) × (q ≤ 32) × (s ≤ 2) ⌝ }
+    ensures { λ _. ⌜ Put (words width) (now (work .entry)) (block width * (q - 1) + (4 + words width * s)) (set .words) (now (work .exit)) ⌝ }
+{
+    let at = place_of(width, q, 4 + width.words() * s);
+    store_set(width, work, at, set);
+}
+
+// The lower half of a word, or the upper one.
+fn half_of(word: u64, upper: bool) -> u64
+    ensures { λ r. ⌜ r ≡ half word upper ⌝ }
+{
+    if upper { word / HALF } else { word % HALF }
+}
+
+// The position of the local x of query q.
+pub fn span_at(width: Width, work: &[u64], q: usize, x: usize) -> u64
+    requires { ⌜ (answers width ≤ length (now work)) × (1 ≤ q) × (q ≤ 32) × (x < 64 * words width) ⌝ }
+    ensures { λ r. ⌜ r ≡ spanAt width (now (work .entry)) q x ⌝ }
+{
+    let at = place_of(width, q, 4 + 3 * width.words() + x / 2);
+    half_of(work[at], x % 2 == 1)
+}
+
+// Two positions in a word.
+fn both_of(lower: u64, upper: u64) -> u64
+    ensures { λ r. ⌜ r ≡ both lower upper ⌝ }
+{
+    lower % HALF + HALF * (upper % HALF)
+}
+
+// Puts the positions of query q's locals, `spans` having a word for each name.
+pub fn put_spans(width: Width, work: &mut [u64], q: usize, spans: &[u64])
+    requires { ⌜ (answers width ≤ length (now work)) × (1 ≤ q) × (q ≤ 32) × (64 * words width ≤ length (now spans)) ⌝ }
+    ensures { λ _. ⌜ SpansPut width (now (work .entry)) q (now (spans .entry)) (now (work .exit)) ⌝ }
+{
+    let first = place_of(width, q, 4 + 3 * width.words());
+    let count = 32 * width.words();
+    for i in 0..count {
+        work[first + i] = both_of(spans[2 * i], spans[2 * i + 1]);
+    }
+}

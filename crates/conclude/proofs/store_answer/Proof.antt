@@ -1,0 +1,28 @@
+-- The base is the word of the block, so what is written is the query's answer.
+use borrow.Author.Needs.{needs}
+use Rattle.conclude.specs.Concluded.{answer-written}
+use Rattle.conclude.proofs.store_answer.Statement.{statement}
+use Rattle.conclude.proofs.store_answer.Tie as tie
+
+word-at-requires : tie.Need-word-at-requires
+word-at-requires c κs = search needs
+
+store-block-requires : tie.Need-store-block-requires
+store-block-requires c κs = search needs
+
+store-places-requires : tie.Need-store-places-requires
+store-places-requires c κs = search needs
+
+same-length : tie.Need-same-length
+same-length c = search needs
+
+returns : tie.Need-returns
+returns c =
+    let a = c .before .before .before .before .before .before .before .before .before .before .before .before .before .before .args in
+    answer-written (a .width) _ (a .query) (a .scope) _ (a .count) _ (a .placed) _ _ _ _ (c .before .before .before .before .before .before .before .before .word-at .ensures) (c .before .before .before .before .before .before .store-block .ensures)
+    (c .before .before .store-places .ensures)
+
+pub store-answer-spec : {M : Type 1} → statement M
+store-answer-spec =
+    tie.close
+    (tie.spec word-at-requires store-block-requires store-places-requires same-length returns)

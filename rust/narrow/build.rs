@@ -1,0 +1,11 @@
+//! Has the toolchain prove the printing program's call and write `libnarrow.a`, and links that.
+//!
+//! No two runs of the toolchain meet: cargo starts this one when that of `nokchbem` has ended, since
+//! this crate depends on it and it links a library.
+
+#[path = "../staticlib.rs"]
+mod staticlib;
+
+fn main() {
+    staticlib::link("narrow");
+}
