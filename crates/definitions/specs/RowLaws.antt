@@ -9,9 +9,10 @@ use Rattle.basics.specs.Ranges.{counted, range}
 use Rattle.names.specs.Sets.{members}
 use Rattle.turns.specs.Definitions as Turns
 use Rattle.widths.specs.Widths.{wordsAt}
+use Rattle.widths.specs.Laws.{words-length, words-get}
 use Rattle.rows.specs.Rows.{rowCount, definitionAt, definitions}
 use Rattle.definitions.specs.declared.Definition.{Definition}
-use Rattle.definitions.specs.Rows.{usedWord, rowsOfRecords, definitionOf}
+use Rattle.definitions.specs.Rows.{usedWords, rowOfRecord, rowsOfRecords, definitionOf}
 use Rattle.definitions.specs.Copies.{noRecord}
 
 pub rows-length : (ds : List Definition) → length (rowsOfRecords ds) ≡ 10 * length ds
@@ -26,24 +27,17 @@ rows-count ds = omega (arith, rows-length ds)
 
 pub rows-append : (xs ys : List Definition) → rowsOfRecords (xs ++ ys) ≡ rowsOfRecords xs ++ rowsOfRecords ys
 rows-append [] ys = refl
-rows-append (d ∷ xs) ys = ap (λ (t : List ℕ). d .statement ∷ d .name ∷ usedWord d 0 ∷ usedWord d 1 ∷ usedWord d 2 ∷ usedWord d 3 ∷ usedWord d 4 ∷ usedWord d 5 ∷ usedWord d 6 ∷ usedWord d 7 ∷ t) (rows-append xs ys)
+rows-append (d ∷ xs) ys = ap (λ (t : List ℕ). rowOfRecord d ++ t) (rows-append xs ys)
 
 -- ---- what they define
 
 -- A used set has eight words, and these are all of it.
 pub used-whole : (d : Definition) → length (d .used .words) ≡ 8 → definitionOf d .used ≡ members (d .used .words)
-used-whole d h = ap members (ext-getD 0 _ (d .used .words) (sym h) (λ k l. at k l))
-  where
-    at : (k : ℕ) → k < 8 → getD (usedWord d 0 ∷ usedWord d 1 ∷ usedWord d 2 ∷ usedWord d 3 ∷ usedWord d 4 ∷ usedWord d 5 ∷ usedWord d 6 ∷ usedWord d 7 ∷ []) k 0 ≡ getD (d .used .words) k 0
-    at zero l = refl
-    at (suc zero) l = refl
-    at (suc (suc zero)) l = refl
-    at (suc (suc (suc zero))) l = refl
-    at (suc (suc (suc (suc zero)))) l = refl
-    at (suc (suc (suc (suc (suc zero))))) l = refl
-    at (suc (suc (suc (suc (suc (suc zero)))))) l = refl
-    at (suc (suc (suc (suc (suc (suc (suc zero))))))) l = refl
-    at (suc (suc (suc (suc (suc (suc (suc (suc k)))))))) l = absurd (omega arith)
+used-whole d h =
+    let ws = d .used .words in
+    ap members (ext-getD 0 (usedWords d) ws (words-length 8 ws 0 ∙ sym h) (λ k l.
+    let z : 0 + k ≡ k = omega arith in
+    words-get 8 ws 0 k (omega (arith, l, words-length 8 ws 0)) ∙ ap (λ (j : ℕ). getD ws j 0) z))
 
 -- A row more in front moves every row by one.
 row-on : (front ws : List ℕ) → length front ≡ 10 → (k : ℕ) → definitionAt 10 (front ++ ws) (suc k) ≡ definitionAt 10 ws k
@@ -65,7 +59,7 @@ row-on front ws long k =
 row-at : (ds : List Definition) (k : ℕ) → k < length ds → definitionAt 10 (rowsOfRecords ds) k ≡ definitionOf (getD ds k noRecord)
 row-at [] k h = absurd (omega arith)
 row-at (d ∷ ds) zero h = refl
-row-at (d ∷ ds) (suc k) h = row-on (d .statement ∷ d .name ∷ usedWord d 0 ∷ usedWord d 1 ∷ usedWord d 2 ∷ usedWord d 3 ∷ usedWord d 4 ∷ usedWord d 5 ∷ usedWord d 6 ∷ usedWord d 7 ∷ []) (rowsOfRecords ds) refl k ∙ row-at ds k (omega arith)
+row-at (d ∷ ds) (suc k) h = row-on (rowOfRecord d) (rowsOfRecords ds) refl k ∙ row-at ds k (omega arith)
 
 rows-from : (ds : List Definition) (k c : ℕ) → k + c ≤ length ds
     → map (definitionAt 10 (rowsOfRecords ds)) (counted k c) ≡ map definitionOf (take c (drop k ds))

@@ -14,7 +14,7 @@ ghost use Rattle.schedule.specs.Call.{Scheduled};
 ghost use Rattle.definitions.specs.declared.Definition.{Definition};
 ghost use Rattle.definitions.specs.Rows.{rowsOfRecords};
 ghost use Rattle.definitions.specs.Copies.{CopyOf};
-ghost use Rattle.definitions.specs.Puts.{putRow};
+ghost use Rattle.definitions.specs.Puts.{RowPut};
 
 // The words of a row: sets have eight.
 const ROW: usize = 10;
@@ -63,20 +63,15 @@ pub fn copied(records: &[Definition]) -> [Definition; DEFINITIONS]
 
 // Makes row i the record's.
 fn put_row(words: &mut [u64; ROWS], i: usize, definition: Definition)
-    requires { ⌜ i < 640 ⌝ }
-    ensures { λ _. ⌜ now (words .exit) ≡ putRow (now (words .entry)) i definition ⌝ }
+    requires { ⌜ (length (now words) ≡ 6400) × (i < 640) ⌝ }
+    ensures { λ _. ⌜ RowPut (now (words .entry)) i definition (now (words .exit)) ⌝ }
 {
-    let used = definition.used;
     words[ROW * i] = definition.statement as u64;
     words[ROW * i + 1] = definition.name as u64;
-    words[ROW * i + 2] = used.words[0];
-    words[ROW * i + 3] = used.words[1];
-    words[ROW * i + 4] = used.words[2];
-    words[ROW * i + 5] = used.words[3];
-    words[ROW * i + 6] = used.words[4];
-    words[ROW * i + 7] = used.words[5];
-    words[ROW * i + 8] = used.words[6];
-    words[ROW * i + 9] = used.words[7];
+    let used = definition.used;
+    for k in 0..names::WORDS {
+        words[ROW * i + 2 + k] = used.words[k];
+    }
 }
 
 // The rows of the first `len` records.

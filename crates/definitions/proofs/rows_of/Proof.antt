@@ -6,7 +6,7 @@ use native.Mathlib.Omega.{arith}
 use borrow.Author.Needs.{needs}
 use Rattle.definitions.specs.Rows.{rowsOfRecords}
 use Rattle.definitions.specs.Copies.{noRecord}
-use Rattle.definitions.specs.Puts.{put-length, rows-next}
+use Rattle.definitions.specs.Puts.{rows-next}
 use Rattle.definitions.proofs.rows_of.Statement.{statement}
 use Rattle.definitions.proofs.rows_of.Tie as tie
 use Rattle.definitions.proofs.rows_of.Reads as reads
@@ -41,11 +41,10 @@ loop-again : tie.Need-loop-again Inv-loop μ-loop
 loop-again c =
     let l = c .before .before .before .before in
     let a = l .before .args in
-    let e = c .put-row .ensures in
-    let room : 10 * l .loop .i + 9 < length (l .loop .words) = search needs in (
+    let put = c .put-row .ensures in (
       search needs,
-      ap length e ∙ put-length (l .loop .words) (l .loop .i) (getD (a .t1) (l .loop .i) noRecord) ∙ l .loop .inv .1,
-      ap (take (10 * (l .loop .i + 1))) e ∙ rows-next (a .t1) (l .loop .words) (l .loop .i) (search needs) room (l .loop .inv .2),
+      put .long ∙ l .loop .inv .1,
+      rows-next (a .t1) (l .loop .words) _ (l .loop .i) (search needs) put (l .loop .inv .2),
     )
 
 returns : tie.Need-returns Inv-loop μ-loop
