@@ -43,7 +43,7 @@ pub fn finish(
     query: usize,
     scope: Scope,
     p: Progress,
-    spans: &[u64],
+    spans: &[u32],
     work: &mut [u64],
 ) -> Fault
     requires { ⌜ Accepted (now tables) × (1 ≤ query) × (query ≤ getD (now tables) 4 0) × (512 ≤ length (now spans)) × (row (p .width) * p .count + answers (p .width) ≤ length (now work)) × (isSound (p .fault) ≡ true → Based (p .width) (now tables) (answersOf (p .width) (now work))) ⌝ }

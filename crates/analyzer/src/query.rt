@@ -74,7 +74,7 @@ const EVERY: u16 = 5;
 // what it takes from around it rises.
 fn process_comprs(
     tables: &[u16],
-    inner: &[u64],
+    inner: &[u32],
     row: usize,
     rest: bool,
     levels: usize,
@@ -114,7 +114,7 @@ fn process_comprs(
 // What the expression at a row uses, with its comprehensions and those of the modifiers. Hands back all names that it uses.
 fn use_expr(
     tables: &[u16],
-    inner: &[u64],
+    inner: &[u32],
     extras: Names,
     row: usize,
     rest: bool,
@@ -149,7 +149,7 @@ fn use_expr(
 // A pair of an assignment, both ways; nothing where there is none. `check`: are the first uses of what stands on the left looked at?
 fn assign_pair(
     tables: &[u16],
-    inner: &[u64],
+    inner: &[u32],
     left: usize,
     right: usize,
     check: bool,
@@ -174,7 +174,7 @@ fn assign_pair(
 // `process_assign_expr`: the expressions of two chains side by side.
 fn process_pairs(
     tables: &[u16],
-    inner: &[u64],
+    inner: &[u32],
     left: usize,
     right: usize,
     check: bool,
@@ -234,7 +234,7 @@ fn process_pairs(
 // A part of a some-in pattern that is no variable; nothing where there is none.
 fn process_non_var(
     tables: &[u16],
-    inner: &[u64],
+    inner: &[u32],
     row: usize,
     context: Context,
     p: Progress,
@@ -261,7 +261,7 @@ fn process_non_var(
 // The parts of the pattern at a row, with the rest of its chain, that are no variables.
 fn process_non_vars(
     tables: &[u16],
-    inner: &[u64],
+    inner: &[u32],
     row: usize,
     context: Context,
     p: Progress,
@@ -285,18 +285,18 @@ fn process_non_vars(
 // `Literal::SomeIn`.
 fn process_some_in(
     tables: &[u16],
-    outer: &[u64],
+    outer: &[u32],
     st: Statement,
     context: Context,
     p: Progress,
-    spans: &[u64],
+    spans: &[u32],
     firsts: &mut [u64],
     work: &mut [u64],
 ) -> Progress
     requires { ⌜ Accepted (now tables) × (512 ≤ length (now outer)) × (512 ≤ length (now spans)) × (512 ≤ length (now firsts)) × (st .form ≡ 2) × AsksLiteral (now tables) (now outer) (now spans) st context p (now firsts) (now work) ⌝ }
     ensures { λ r. ⌜ DoesStep (now (tables .entry)) (someInStep (now (tables .entry)) st context) (now (outer .entry)) (now (spans .entry)) context p (now (firsts .entry)) (now (work .entry)) r (now (firsts .exit)) (now (work .exit)) ⌝ }
 {
-    let mut inner: [u64; 512] = [0; 512];
+    let mut inner: [u32; 512] = [0; 512];
     enclose(outer, p.scope, spans, &mut inner);
     let none = Names::empty();
     let key = st.first as usize;
@@ -326,19 +326,19 @@ fn process_some_in(
 // `Literal::Every`: the domain is read, and the body is a query below key and value.
 fn process_every(
     tables: &[u16],
-    outer: &[u64],
+    outer: &[u32],
     st: Statement,
     context: Context,
     p: Progress,
-    spans: &[u64],
+    spans: &[u32],
     firsts: &mut [u64],
     work: &mut [u64],
 ) -> Progress
     requires { ⌜ Accepted (now tables) × (512 ≤ length (now outer)) × (512 ≤ length (now spans)) × (512 ≤ length (now firsts)) × (st .form ≡ 5) × AsksLiteral (now tables) (now outer) (now spans) st context p (now firsts) (now work) ⌝ }
     ensures { λ r. ⌜ DoesStep (now (tables .entry)) (everyStep (now (tables .entry)) st context) (now (outer .entry)) (now (spans .entry)) context p (now (firsts .entry)) (now (work .entry)) r (now (firsts .exit)) (now (work .exit)) ⌝ }
 {
-    let mut inner: [u64; 512] = [0; 512];
-    let mut body: [u64; 512] = [0; 512];
+    let mut inner: [u32; 512] = [0; 512];
+    let mut body: [u32; 512] = [0; 512];
     enclose(outer, p.scope, spans, &mut inner);
     let none = Names::empty();
     let u = use_expr(
@@ -379,19 +379,19 @@ fn process_every(
 // `process_expr`: an assignment, or any other expression, which records its uses; `call`: does an extra argument count?
 fn process_expr(
     tables: &[u16],
-    outer: &[u64],
+    outer: &[u32],
     row: usize,
     call: bool,
     context: Context,
     p: Progress,
-    spans: &[u64],
+    spans: &[u32],
     firsts: &mut [u64],
     work: &mut [u64],
 ) -> Progress
     requires { ⌜ Accepted (now tables) × (512 ≤ length (now outer)) × (512 ≤ length (now spans)) × (512 ≤ length (now firsts)) × AsksWhole (now tables) (now outer) (now spans) row context p (now firsts) (now work) ⌝ }
     ensures { λ r. ⌜ DoesStep (now (tables .entry)) (exprStep (now (tables .entry)) call row context) (now (outer .entry)) (now (spans .entry)) context p (now (firsts .entry)) (now (work .entry)) r (now (firsts .exit)) (now (work .exit)) ⌝ }
 {
-    let mut inner: [u64; 512] = [0; 512];
+    let mut inner: [u32; 512] = [0; 512];
     let arg = extra_arg(tables, row, call);
     let extras = extra_vars(tables, outer, arg);
     let s = bind_extras(p, extras);
@@ -417,11 +417,11 @@ fn process_expr(
 // A literal, by its form.
 fn process_literal(
     tables: &[u16],
-    outer: &[u64],
+    outer: &[u32],
     st: Statement,
     context: Context,
     p: Progress,
-    spans: &[u64],
+    spans: &[u32],
     firsts: &mut [u64],
     work: &mut [u64],
 ) -> Progress
@@ -453,12 +453,12 @@ fn process_literal(
 // The statements from a row on, the first being statement `statement`.
 fn process_stmts(
     tables: &[u16],
-    outer: &[u64],
+    outer: &[u32],
     row: usize,
     statement: usize,
     levels: usize,
     p: Progress,
-    spans: &[u64],
+    spans: &[u32],
     firsts: &mut [u64],
     work: &mut [u64],
 ) -> Progress
@@ -498,7 +498,7 @@ fn process_stmts(
 // Nothing where there is no query.
 pub fn analyze_query(
     tables: &[u16],
-    outer: &[u64],
+    outer: &[u32],
     query: usize,
     key: usize,
     value: usize,
@@ -515,9 +515,9 @@ pub fn analyze_query(
     if levels == 0 {
         return Fault::Sound;
     }
-    let mut spans: [u64; 512] = [0; 512];
+    let mut spans: [u32; 512] = [0; 512];
     let mut firsts: [u64; 512] = [0; 512];
-    let mut inner: [u64; 512] = [0; 512];
+    let mut inner: [u32; 512] = [0; 512];
     let scope = gather_local_vars(tables, outer, query, key, value, &mut spans);
     let start = begun(scope, width);
     let row = first_at(tables, query) as usize;

@@ -11,7 +11,7 @@ ghost use Rattle.gather.specs.Sheets.{Accepted};
 ghost use Rattle.analyzer.specs.Analysed.{Analysed};
 
 // Past all lines: no name exists around the outer query.
-const NEVER: u64 = 65536;
+const NEVER: u32 = 65536;
 
 // How deep queries may nest.
 const DEEPEST: usize = 8;
@@ -22,6 +22,6 @@ pub fn analyze_sheet(tables: &[u16], work: &mut [u64], width: Width) -> Fault
     ensures { λ r. ⌜ Analysed width (now (tables .entry)) (now (work .exit)) r ⌝ }
 {
     set_bases(tables, work, width);
-    let outer: [u64; 512] = [NEVER; 512];
+    let outer: [u32; 512] = [NEVER; 512];
     analyze_query(tables, &outer, 1, 0, 0, DEEPEST, work, width)
 }

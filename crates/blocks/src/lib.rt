@@ -113,14 +113,14 @@ pub fn span_at(width: Width, work: &[u64], q: usize, x: usize) -> u64
 }
 
 // Two positions in a word.
-fn both_of(lower: u64, upper: u64) -> u64
+fn both_of(lower: u32, upper: u32) -> u64
     ensures { λ r. ⌜ r ≡ both lower upper ⌝ }
 {
-    lower % HALF + HALF * (upper % HALF)
+    lower as u64 + HALF * upper as u64
 }
 
-// Puts the positions of query q's locals, `spans` having a word for each name.
-pub fn put_spans(width: Width, work: &mut [u64], q: usize, spans: &[u64])
+// Puts the positions of query q's locals, `spans` having one for each name.
+pub fn put_spans(width: Width, work: &mut [u64], q: usize, spans: &[u32])
     requires { ⌜ (answers width ≤ length (now work)) × (1 ≤ q) × (q ≤ 32) × (64 * words width ≤ length (now spans)) ⌝ }
     ensures { λ _. ⌜ SpansPut width (now (work .entry)) q (now (spans .entry)) (now (work .exit)) ⌝ }
 {

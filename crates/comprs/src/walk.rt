@@ -33,6 +33,7 @@ fn compr_step(scope: Scope, work: &[u64], w: Row, names: Names, width: Width) ->
 }
 
 // The expression at a row, with the rest of its chain if `rest`.
+// A call on no row would only copy the scope and the names, so none is made.
 pub fn comprs_used(
     tables: &[u16],
     scope: Scope,
@@ -52,8 +53,17 @@ pub fn comprs_used(
     let k = kids_of(w);
     let next = next_of(w, rest);
     let mut s = compr_step(scope, work, w, names, width);
-    s = comprs_used(tables, scope, work, k.first, true, s, width);
-    s = comprs_used(tables, scope, work, k.second, true, s, width);
-    s = comprs_used(tables, scope, work, k.third, true, s, width);
+    if k.first != 0 {
+        s = comprs_used(tables, scope, work, k.first, true, s, width);
+    }
+    if k.second != 0 {
+        s = comprs_used(tables, scope, work, k.second, true, s, width);
+    }
+    if k.third != 0 {
+        s = comprs_used(tables, scope, work, k.third, true, s, width);
+    }
+    if next == 0 {
+        return s;
+    }
     comprs_used(tables, scope, work, next, true, s, width)
 }

@@ -7,6 +7,7 @@ use mathlib.Core.Option.{some}
 use Prim.Native.Nat.{ℕ}
 use lib.Dec.{eqb}
 use Rattle.names.specs.Sets.{member, Empty, Inserted, Union, Difference}
+use Rattle.names.specs.declared.Names.{Names}
 use borrow.Author.Tests.{eqb-true, eq-eqb}
 use Rattle.basics.specs.Truth.{bool-cases, bool-ext}
 use Rattle.trees.specs.Lists.{isSome}
@@ -22,6 +23,10 @@ pub record Sets (k : Scope) (s : spec.Scope) : Type 0 where
   pub unscoped : (x : ℕ) → contains (s .unscoped) x ≡ member (k .unscoped .words) x
   pub inputs : (x : ℕ) → contains (s .inputs) x ≡ member (k .inputs .words) x
   pub flag : s .usesInput ≡ k .uses
+
+-- A scope by its parts.
+abbrev pub scopeOf : Names → List ℕ → List ℕ → Bool → Scope
+scopeOf l u i f = record { locals = l; unscoped = record { words = u }; inputs = record { words = i }; uses = f }
 
 -- ---- what the methods do
 

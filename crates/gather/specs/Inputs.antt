@@ -4,9 +4,10 @@ use mathlib.Core.Bool.{Bool, true, false, cond}
 use mathlib.Core.List.{List, [], _∷_, _++_, foldl}
 use Prim.Native.Nat.{ℕ, _≤_}
 use native.Mathlib.Omega.{arith}
-use lib.ListN.{getD}
+use lib.ListN.{length, getD}
 use borrow.Author.Tests.{eq-eqb, ne-eqb}
 use Rattle.names.specs.Sets.{member}
+use Rattle.names.specs.declared.Names.{Names}
 use Rattle.records.specs.declared.Row.{Row}
 use Rattle.trees.specs.Sheet.{Sheet, rowAt, isInput}
 use Rattle.trees.specs.Kinds.{isVar}
@@ -19,7 +20,7 @@ use Rattle.branches.specs.Kids.{kidsOf}
 use Rattle.branches.specs.Walks.{alone, overBy, overBy-none, overBy-row}
 use Rattle.gather.specs.declared.scope.Scope.{Scope}
 use Rattle.gather.specs.Sheets.{countsAt, specialAt, sheetAt, Accepted}
-use Rattle.gather.specs.Agrees.{Sets, WithInput, WithFlag}
+use Rattle.gather.specs.Agrees.{Sets, WithInput, WithFlag, scopeOf}
 use Rattle.gather.specs.Outers.{Outer, Exists}
 use Rattle.gather.specs.Exprs.{exprBy}
 
@@ -40,6 +41,11 @@ fold-vars f s (e ∷ ts) = go (isVar (rowOf e)) (fold-vars f (f s (rowOf e)) ts)
     go true h k = h
     go false h k = k
 
+-- What is done to a scope is done to its parts in lent words, whatever its locals are: the flag and the inputs change.
+pub record InParts (does : Scope → Scope → Type 0) (u i : List ℕ) (f : Bool) (j : List ℕ) (g : Bool) : Type 0 where
+  pub long : length j ≡ length i
+  pub done : (l : Names) → does (scopeOf l u i f) (scopeOf l u j g)
+
 module _ (t outer : List ℕ) where
   -- What a step of the code does, for all parents that `outer` stands for.
   abbrev Steps : (List spec.Scope → spec.Scope → spec.Scope) → Scope → Scope → Type 0
@@ -54,6 +60,17 @@ module _ (t outer : List ℕ) where
   -- The expression at a row, with the rest of its chain if `rest`.
   abbrev pub InputWalk : ℕ → Bool → Scope → Scope → Type 0
   InputWalk row rest k r = Steps (λ parents s. gatherInputVars (sheetAt t) parents (exprBy t rest row) s) k r
+
+  -- ---- the same of a scope's parts in lent words
+
+  abbrev pub InputVarIn : Row → List ℕ → List ℕ → Bool → List ℕ → Bool → Type 0
+  InputVarIn w = InParts (InputVar w)
+
+  abbrev pub InputStepIn : Row → List ℕ → List ℕ → Bool → List ℕ → Bool → Type 0
+  InputStepIn w = InParts (InputStep w)
+
+  abbrev pub InputWalkIn : ℕ → Bool → List ℕ → List ℕ → Bool → List ℕ → Bool → Type 0
+  InputWalkIn row rest = InParts (InputWalk row rest)
 
   -- ---- the ways out of `input_var`
 

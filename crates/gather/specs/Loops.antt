@@ -1,29 +1,77 @@
 -- The walk that gathers the variables of indexes, step by step.
 use mathlib.Core.Path.{_≡_, refl, sym, ap, _∙_, subst}
 use mathlib.Core.Bool.{Bool, true, false, cond, _&&_}
-use mathlib.Core.List.{List}
+use mathlib.Core.List.{List, [], _∷_, foldl}
 use Prim.Native.Nat.{ℕ, _≤_}
 use native.Mathlib.Omega.{arith}
-use lib.ListN.{getD}
+use lib.ListN.{length, getD}
 use borrow.Author.Tests.{eq-eqb, ne-eqb}
 use Rattle.records.specs.declared.Row.{Row}
-use Rattle.trees.specs.Sheet.{rowAt, isInput}
+use Rattle.trees.specs.Lists.{isSome}
+use Rattle.trees.specs.Sheet.{Sheet, rowAt, isInput, isSpecial}
 use Rattle.trees.specs.Kinds.{isVar, isRefBrack}
-use Rattle.trees.specs.Trees.{treeAt}
+use Rattle.trees.specs.Trees.{Tree, treeAt}
+use Rattle.trees.specs.Traverse.{leaves, vars}
 use Rattle.scopes.specs.Scopes as spec
-use Rattle.scopes.specs.Scopes.{useInput}
-use Rattle.scopes.specs.Gather.{gatherAssignedVars, loopVar, gatherLoopVars}
+use Rattle.scopes.specs.Scopes.{addUnscoped, addInput, useInput, varExists}
+use Rattle.scopes.specs.Gather.{assignVar, gatherAssignedVars, loopVar, gatherLoopVars}
 use Rattle.branches.specs.declared.Kids.{Kids}
 use Rattle.branches.specs.Kids.{kidsOf}
 use Rattle.branches.specs.Walks.{aloneAt, overBy, overBy-none, overBy-row}
 use Rattle.gather.specs.declared.scope.Scope.{Scope}
 use Rattle.gather.specs.Sheets.{countsAt, specialAt, sheetAt, Accepted}
-use Rattle.gather.specs.Agrees.{WithFlag}
+use Rattle.gather.specs.Agrees.{WithFlag, scopeOf}
 use Rattle.gather.specs.Spans.{Agrees, Steps, agrees-flag}
 use Rattle.gather.specs.Exprs.{exprBy}
 use Rattle.gather.specs.Assigned.{AssignWalk}
 
+-- The scope with these words, as a value.
+abbrev pub scopeIn : List ℕ → List ℕ → List ℕ → Bool → Scope
+scopeIn o u i f = scopeOf (record { words = o }) u i f
+
+-- What is done to a scope is done to its parts in lent words: the locals stay.
+pub record InParts (does : Scope → List ℕ → Scope → List ℕ → Type 0) (o u i : List ℕ) (f : Bool) (l v j : List ℕ) (g : Bool) (m : List ℕ) : Type 0 where
+  pub unscoped-long : length v ≡ length u
+  pub inputs-long : length j ≡ length i
+  pub done : does (scopeIn o u i f) l (scopeIn o v j g) m
+
+-- ---- a pattern that does not shadow keeps the locals
+
+module _ (sheet : Sheet) (parents : List spec.Scope) where
+  var-keeps : (s : spec.Scope) (w : Row) → assignVar sheet parents false s w .locals ≡ s .locals
+  unfolding assignVar addInput addUnscoped useInput
+  var-keeps s w = go (isSpecial sheet (w .name)) (varExists parents w)
+    where
+      go : (a b : Bool) → cond a (useInput (isInput sheet (w .name)) s) (cond b (addInput s (w .name)) (addUnscoped s (w .name))) .locals ≡ s .locals
+      go true b = refl
+      go false true = refl
+      go false false = refl
+
+  vars-keep : (rows : List Row) (s : spec.Scope) → foldl (assignVar sheet parents false) s rows .locals ≡ s .locals
+  vars-keep [] s = refl
+  vars-keep (w ∷ rows) s = vars-keep rows (assignVar sheet parents false s w) ∙ var-keeps s w
+
+  assigned-keeps : (e : Tree) (s : spec.Scope) → gatherAssignedVars sheet parents false e s .locals ≡ s .locals
+  unfolding gatherAssignedVars
+  assigned-keeps e s = vars-keep (vars (leaves e)) s
+
 module _ (t outer : List ℕ) where
+  -- So the scope that it hands back may have the locals that there were.
+  pub with-locals : (row : ℕ) (rest : Bool) (o u i : List ℕ) (f : Bool) (l : List ℕ) (r : Scope) (m : List ℕ)
+      → AssignWalk t outer row rest false (scopeIn o u i f) l r m
+      → AssignWalk t outer row rest false (scopeIn o u i f) l (scopeIn o (r .unscoped .words) (r .inputs .words) (r .uses)) m
+  with-locals row rest o u i f l r m h parents out s a =
+      let b = h parents out s a in
+      record {
+        sets = record {
+          locals = λ x. ap (λ (ls : List spec.Span). isSome (spec.spanIn ls x)) (assigned-keeps (sheetAt t) parents (exprBy t rest row) s) ∙ a .sets .locals x;
+          unscoped = b .sets .unscoped;
+          inputs = b .sets .inputs;
+          flag = b .sets .flag;
+        };
+        placed = b .placed;
+      }
+
   abbrev stepAt : List spec.Scope → spec.Scope → Row → spec.Scope
   stepAt parents s w =
       cond (isRefBrack w) (gatherAssignedVars (sheetAt t) parents false (treeAt (sheetAt t) (w .second)) s)
@@ -35,6 +83,17 @@ module _ (t outer : List ℕ) where
   -- The expression at a row, with the rest of its chain if `rest`.
   abbrev pub LoopWalk : ℕ → Bool → Scope → List ℕ → Scope → List ℕ → Type 0
   LoopWalk row rest = Steps outer (λ parents s. gatherLoopVars (sheetAt t) parents (exprBy t rest row) s)
+
+  -- ---- the same of a scope's parts in lent words
+
+  abbrev pub IndexWalkIn : ℕ → List ℕ → List ℕ → List ℕ → Bool → List ℕ → List ℕ → List ℕ → Bool → List ℕ → Type 0
+  IndexWalkIn row = InParts (AssignWalk t outer row true false)
+
+  abbrev pub LoopStepIn : Row → List ℕ → List ℕ → List ℕ → Bool → List ℕ → List ℕ → List ℕ → Bool → List ℕ → Type 0
+  LoopStepIn w = InParts (LoopStep w)
+
+  abbrev pub LoopWalkIn : ℕ → Bool → List ℕ → List ℕ → List ℕ → Bool → List ℕ → List ℕ → List ℕ → Bool → List ℕ → Type 0
+  LoopWalkIn row rest = InParts (LoopWalk row rest)
 
   -- ---- the ways out of `loop_step`
 

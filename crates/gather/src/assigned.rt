@@ -27,11 +27,11 @@ const OBJECT: u16 = 9;
 // A variable.
 fn assign_var(
     tables: &[u16],
-    outer: &[u64],
+    outer: &[u32],
     w: Row,
     can_shadow: bool,
     scope: Scope,
-    spans: &mut [u64],
+    spans: &mut [u32],
 ) -> Scope
     requires { ⌜ (8192 ≤ length (now tables)) × (512 ≤ length (now outer)) × (w .name < 512) × (512 ≤ length (now spans)) ⌝ }
     ensures { λ r. ⌜ AssignVar (now (tables .entry)) (now (outer .entry)) w «can_shadow» scope (now (spans .entry)) r (now (spans .exit)) ⌝ }
@@ -53,11 +53,11 @@ fn assign_var(
 // Any expression.
 fn assign_step(
     tables: &[u16],
-    outer: &[u64],
+    outer: &[u32],
     w: Row,
     can_shadow: bool,
     scope: Scope,
-    spans: &mut [u64],
+    spans: &mut [u32],
 ) -> Scope
     requires { ⌜ (8192 ≤ length (now tables)) × (512 ≤ length (now outer)) × (w .name < 512) × (512 ≤ length (now spans)) ⌝ }
     ensures { λ r. ⌜ AssignStep (now (tables .entry)) (now (outer .entry)) w «can_shadow» scope (now (spans .entry)) r (now (spans .exit)) ⌝ }
@@ -85,12 +85,12 @@ fn items_of(w: Row) -> usize
 // A call on no row would only copy the scope, so none is made.
 pub fn gather_assigned_vars(
     tables: &[u16],
-    outer: &[u64],
+    outer: &[u32],
     row: usize,
     rest: bool,
     can_shadow: bool,
     scope: Scope,
-    spans: &mut [u64],
+    spans: &mut [u32],
 ) -> Scope
     requires { ⌜ Accepted (now tables) × (512 ≤ length (now outer)) × (row ≤ getD (now tables) 2 0) × (512 ≤ length (now spans)) ⌝ }
     ensures { λ r. ⌜ AssignWalk (now (tables .entry)) (now (outer .entry)) row rest «can_shadow» scope (now (spans .entry)) r (now (spans .exit)) ⌝ }

@@ -22,10 +22,10 @@ pub fn next_at(tables: &[u16], row: usize) -> usize
 
 pub fn gather_read_each(
     tables: &[u16],
-    outer: &[u64],
+    outer: &[u32],
     row: usize,
     scope: Scope,
-    spans: &mut [u64],
+    spans: &mut [u32],
 ) -> Scope
     requires { ⌜ Accepted (now tables) × (512 ≤ length (now outer)) × (row ≤ getD (now tables) 2 0) × (512 ≤ length (now spans)) ⌝ }
     ensures { λ r. ⌜ ReadEach (now (tables .entry)) (now (outer .entry)) row scope (now (spans .entry)) r (now (spans .exit)) ⌝ }
@@ -40,11 +40,11 @@ pub fn gather_read_each(
 
 pub fn gather_vars_each(
     tables: &[u16],
-    outer: &[u64],
+    outer: &[u32],
     row: usize,
     can_shadow: bool,
     scope: Scope,
-    spans: &mut [u64],
+    spans: &mut [u32],
 ) -> Scope
     requires { ⌜ Accepted (now tables) × (512 ≤ length (now outer)) × (row ≤ getD (now tables) 2 0) × (512 ≤ length (now spans)) ⌝ }
     ensures { λ r. ⌜ VarsEach (now (tables .entry)) (now (outer .entry)) row «can_shadow» scope (now (spans .entry)) r (now (spans .exit)) ⌝ }

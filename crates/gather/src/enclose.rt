@@ -9,14 +9,14 @@ ghost use Prim.Native.Nat.{_≤_, min};
 ghost use lib.ListN.{length};
 ghost use Rattle.gather.specs.Enclosing.{Copied, Lowered, Cleared, Encloses};
 
-fn lesser(a: u64, b: u64) -> u64
+fn lesser(a: u32, b: u32) -> u32
     ensures { λ r. ⌜ r ≡ min a b ⌝ }
 {
     if a < b { a } else { b }
 }
 
 // `to` receives the number of each name.
-fn copy(from: &[u64], to: &mut [u64])
+fn copy(from: &[u32], to: &mut [u32])
     requires { ⌜ (512 ≤ length (now from)) × (512 ≤ length (now to)) ⌝ }
     ensures { λ _. ⌜ Copied (now (from .entry)) 512 (now (to .exit)) ⌝ }
 {
@@ -26,7 +26,7 @@ fn copy(from: &[u64], to: &mut [u64])
 }
 
 // A local exists from its line on, where it did not before.
-fn lower_locals(locals: Names, spans: &[u64], inner: &mut [u64])
+fn lower_locals(locals: Names, spans: &[u32], inner: &mut [u32])
     requires { ⌜ (512 ≤ length (now spans)) × (512 ≤ length (now inner)) ⌝ }
     ensures { λ _. ⌜ Lowered (locals .words) (now (spans .entry)) (now (inner .entry)) (now (inner .exit)) ⌝ }
 {
@@ -38,7 +38,7 @@ fn lower_locals(locals: Names, spans: &[u64], inner: &mut [u64])
 }
 
 // An unscoped name exists at every line.
-fn clear_unscoped(unscoped: Names, inner: &mut [u64])
+fn clear_unscoped(unscoped: Names, inner: &mut [u32])
     requires { ⌜ 512 ≤ length (now inner) ⌝ }
     ensures { λ _. ⌜ Cleared (unscoped .words) (now (inner .entry)) (now (inner .exit)) ⌝ }
 {
@@ -50,7 +50,7 @@ fn clear_unscoped(unscoped: Names, inner: &mut [u64])
 }
 
 // `inner` receives what `outer` is, with the scope that has its locals at `spans`.
-pub fn enclose(outer: &[u64], scope: Scope, spans: &[u64], inner: &mut [u64])
+pub fn enclose(outer: &[u32], scope: Scope, spans: &[u32], inner: &mut [u32])
     requires { ⌜ (512 ≤ length (now outer)) × (512 ≤ length (now spans)) × (512 ≤ length (now inner)) ⌝ }
     ensures { λ _. ⌜ Encloses (now (outer .entry)) scope (now (spans .entry)) (now (inner .exit)) ⌝ }
 {

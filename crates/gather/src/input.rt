@@ -1,9 +1,13 @@
 // `gather_input_vars`: the variables of an expression that exist in the scopes around the query are its inputs.
+// The walk has the parts of the scope in lent words: a scope by value would be copied at every row.
 
 use crate::outer::var_exists;
-use crate::scope::Scope;
 use crate::special::is_input;
 use branches::kids_of;
+use branches::next_of;
+use names::WORDS;
+use names::add;
+use names::has;
 use records::Row;
 use records::row_at;
 ghost use mathlib.Core.Path.{_≡_};
@@ -11,70 +15,86 @@ ghost use mathlib.Core.List.{List};
 ghost use Prim.Native.Nat.{_≤_, _<_};
 ghost use lib.ListN.{length, getD};
 ghost use Rattle.gather.specs.Sheets.{Accepted};
-ghost use Rattle.gather.specs.Inputs.{InputVar, InputStep, InputWalk};
+ghost use Rattle.gather.specs.Inputs.{InputVarIn, InputStepIn, InputWalkIn};
 
 // The kind of a variable.
 const VAR: u16 = 6;
 
-// A variable: `input` sets the flag, and a name that is not unscoped so far and exists is an input.
-fn input_var(tables: &[u16], outer: &[u64], w: Row, scope: Scope) -> Scope
-    requires { ⌜ (8192 ≤ length (now tables)) × (512 ≤ length (now outer)) × (w .name < 512) ⌝ }
-    ensures { λ r. ⌜ InputVar (now (tables .entry)) (now (outer .entry)) w scope r ⌝ }
+// A variable: `input` sets the flag, and a name that is not unscoped so far and exists is an input. Hands back the flag.
+fn input_var(
+    tables: &[u16],
+    outer: &[u32],
+    w: Row,
+    unscoped: &[u64; WORDS],
+    inputs: &mut [u64; WORDS],
+    uses: bool,
+) -> bool
+    requires { ⌜ (8192 ≤ length (now tables)) × (512 ≤ length (now outer)) × (w .name < 512) × (length (now unscoped) ≡ 8) × (length (now inputs) ≡ 8) ⌝ }
+    ensures { λ r. ⌜ InputVarIn (now (tables .entry)) (now (outer .entry)) w (now (unscoped .entry)) (now (inputs .entry)) uses (now (inputs .exit)) r ⌝ }
 {
     if is_input(tables, w.name) {
-        return scope.use_input(true);
+        return true;
     }
     let name = w.name as usize;
-    if scope.unscoped.contains(name) {
-        return scope;
+    if has(unscoped, name) {
+        return uses;
     }
     if !var_exists(outer, w) {
-        return scope;
+        return uses;
     }
-    scope.add_input(name)
+    add(inputs, name);
+    uses
 }
 
 // Any expression.
-fn input_step(tables: &[u16], outer: &[u64], w: Row, scope: Scope) -> Scope
-    requires { ⌜ (8192 ≤ length (now tables)) × (512 ≤ length (now outer)) × (w .name < 512) ⌝ }
-    ensures { λ r. ⌜ InputStep (now (tables .entry)) (now (outer .entry)) w scope r ⌝ }
+fn input_step(
+    tables: &[u16],
+    outer: &[u32],
+    w: Row,
+    unscoped: &[u64; WORDS],
+    inputs: &mut [u64; WORDS],
+    uses: bool,
+) -> bool
+    requires { ⌜ (8192 ≤ length (now tables)) × (512 ≤ length (now outer)) × (w .name < 512) × (length (now unscoped) ≡ 8) × (length (now inputs) ≡ 8) ⌝ }
+    ensures { λ r. ⌜ InputStepIn (now (tables .entry)) (now (outer .entry)) w (now (unscoped .entry)) (now (inputs .entry)) uses (now (inputs .exit)) r ⌝ }
 {
     if w.kind == VAR {
-        return input_var(tables, outer, w, scope);
+        return input_var(tables, outer, w, unscoped, inputs, uses);
     }
-    scope
+    uses
 }
 
-// The expression at a row, with the rest of its chain if `rest`.
-// A call on no row would only copy the scope, so none is made.
+// The expression at a row, with the rest of its chain if `rest`. No call is made on no row.
 pub fn gather_input_vars(
     tables: &[u16],
-    outer: &[u64],
+    outer: &[u32],
     row: usize,
     rest: bool,
-    scope: Scope,
-) -> Scope
-    requires { ⌜ Accepted (now tables) × (512 ≤ length (now outer)) × (row ≤ getD (now tables) 2 0) ⌝ }
-    ensures { λ r. ⌜ InputWalk (now (tables .entry)) (now (outer .entry)) row rest scope r ⌝ }
+    unscoped: &[u64; WORDS],
+    inputs: &mut [u64; WORDS],
+    uses: bool,
+) -> bool
+    requires { ⌜ Accepted (now tables) × (512 ≤ length (now outer)) × (row ≤ getD (now tables) 2 0) × (length (now unscoped) ≡ 8) × (length (now inputs) ≡ 8) ⌝ }
+    ensures { λ r. ⌜ InputWalkIn (now (tables .entry)) (now (outer .entry)) row rest (now (unscoped .entry)) (now (inputs .entry)) uses (now (inputs .exit)) r ⌝ }
 {
     if row == 0 {
-        return scope;
+        return uses;
     }
     let w = row_at(tables, row);
     let k = kids_of(w);
-    let next = branches::next_of(w, rest);
-    let mut s = input_step(tables, outer, w, scope);
+    let next = next_of(w, rest);
+    let mut s = input_step(tables, outer, w, unscoped, inputs, uses);
     if k.first != 0 {
-        s = gather_input_vars(tables, outer, k.first, true, s);
+        s = gather_input_vars(tables, outer, k.first, true, unscoped, inputs, s);
     }
     if k.second != 0 {
-        s = gather_input_vars(tables, outer, k.second, true, s);
+        s = gather_input_vars(tables, outer, k.second, true, unscoped, inputs, s);
     }
     if k.third != 0 {
-        s = gather_input_vars(tables, outer, k.third, true, s);
+        s = gather_input_vars(tables, outer, k.third, true, unscoped, inputs, s);
     }
     if next == 0 {
         return s;
     }
-    gather_input_vars(tables, outer, next, true, s)
+    gather_input_vars(tables, outer, next, true, unscoped, inputs, s)
 }

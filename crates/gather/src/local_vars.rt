@@ -13,7 +13,7 @@ ghost use Rattle.gather.specs.Sheets.{Accepted};
 ghost use Rattle.gather.specs.Queries.{StmtsStep, Gathered};
 
 // The statements from a row on.
-fn gather_stmts(tables: &[u16], outer: &[u64], row: usize, scope: Scope, spans: &mut [u64]) -> Scope
+fn gather_stmts(tables: &[u16], outer: &[u32], row: usize, scope: Scope, spans: &mut [u32]) -> Scope
     requires { ⌜ Accepted (now tables) × (512 ≤ length (now outer)) × (row ≤ getD (now tables) 3 0) × (512 ≤ length (now spans)) ⌝ }
     ensures { λ r. ⌜ StmtsStep (now (tables .entry)) (now (outer .entry)) row scope (now (spans .entry)) r (now (spans .exit)) ⌝ }
 {
@@ -28,11 +28,11 @@ fn gather_stmts(tables: &[u16], outer: &[u64], row: usize, scope: Scope, spans: 
 // The query's outputs are the chains at `key` and `value`.
 pub fn gather_local_vars(
     tables: &[u16],
-    outer: &[u64],
+    outer: &[u32],
     query: usize,
     key: usize,
     value: usize,
-    spans: &mut [u64],
+    spans: &mut [u32],
 ) -> Scope
     requires { ⌜ Accepted (now tables) × (512 ≤ length (now outer)) × (1 ≤ query) × (query ≤ getD (now tables) 4 0) × (key ≤ getD (now tables) 2 0) × (value ≤ getD (now tables) 2 0) × (512 ≤ length (now spans)) ⌝ }
     ensures { λ r. ⌜ Gathered (now (tables .entry)) (now (outer .entry)) query key value r (now (spans .exit)) ⌝ }

@@ -15,7 +15,7 @@ ghost use Rattle.gather.specs.Locals.{LocalStep, LocalsEach};
 // The kind of a variable.
 const VAR: u16 = 6;
 
-fn local_step(w: Row, scope: Scope, spans: &mut [u64]) -> Scope
+fn local_step(w: Row, scope: Scope, spans: &mut [u32]) -> Scope
     requires { ⌜ (w .name < 512) × (512 ≤ length (now spans)) ⌝ }
     ensures { λ r. ⌜ LocalStep w scope (now (spans .entry)) r (now (spans .exit)) ⌝ }
 {
@@ -27,7 +27,7 @@ fn local_step(w: Row, scope: Scope, spans: &mut [u64]) -> Scope
 }
 
 // Those of the chain from a row on.
-pub fn add_locals(tables: &[u16], row: usize, scope: Scope, spans: &mut [u64]) -> Scope
+pub fn add_locals(tables: &[u16], row: usize, scope: Scope, spans: &mut [u32]) -> Scope
     requires { ⌜ Accepted (now tables) × (row ≤ getD (now tables) 2 0) × (512 ≤ length (now spans)) ⌝ }
     ensures { λ r. ⌜ LocalsEach (now (tables .entry)) row scope (now (spans .entry)) r (now (spans .exit)) ⌝ }
 {

@@ -1,10 +1,13 @@
 // `gather_loop_vars`: the index of a bracket is a pattern, whose variables a loop may bind.
+// The walk has the parts of the scope in lent words: a scope by value would be copied at every row.
 
 use crate::assigned::gather_assigned_vars;
 use crate::scope::Scope;
 use crate::special::is_input;
 use branches::kids_of;
 use branches::next_of;
+use names::Names;
+use names::WORDS;
 use records::Row;
 use records::row_at;
 ghost use mathlib.Core.Path.{_≡_};
@@ -12,58 +15,144 @@ ghost use mathlib.Core.List.{List};
 ghost use Prim.Native.Nat.{_≤_, _<_};
 ghost use lib.ListN.{length, getD};
 ghost use Rattle.gather.specs.Sheets.{Accepted};
-ghost use Rattle.gather.specs.Loops.{LoopStep, LoopWalk};
+ghost use Rattle.gather.specs.Loops.{IndexWalkIn, LoopStepIn, LoopWalkIn};
 
 // The kinds that are told apart.
 const VAR: u16 = 6;
 
 const REF_BRACK: u16 = 16;
 
-// Any expression.
-fn loop_step(tables: &[u16], outer: &[u64], w: Row, scope: Scope, spans: &mut [u64]) -> Scope
-    requires { ⌜ Accepted (now tables) × (512 ≤ length (now outer)) × (w .second ≤ getD (now tables) 2 0) × (512 ≤ length (now spans)) ⌝ }
-    ensures { λ r. ⌜ LoopStep (now (tables .entry)) (now (outer .entry)) w scope (now (spans .entry)) r (now (spans .exit)) ⌝ }
+// Puts the words of a set.
+fn put(set: Names, words: &mut [u64; WORDS])
+    ensures { λ _. ⌜ (now (words .exit) ≡ set .words) × (length (set .words) ≡ 8) ⌝ }
 {
-    if w.kind == REF_BRACK {
-        return gather_assigned_vars(tables, outer, w.second as usize, true, false, scope, spans);
-    }
-    if w.kind == VAR {
-        return scope.use_input(is_input(tables, w.name));
-    }
-    scope
+    let all = set.words;
+    *words = all;
 }
 
-// The expression at a row, with the rest of its chain if `rest`.
-// A call on no row would only copy the scope, so none is made.
+// The index at a row: a pattern takes the scope as a value. None of its variables is a local. Hands back the flag.
+fn bind_index(
+    tables: &[u16],
+    outer: &[u32],
+    row: usize,
+    locals: &[u64; WORDS],
+    unscoped: &mut [u64; WORDS],
+    inputs: &mut [u64; WORDS],
+    uses: bool,
+    spans: &mut [u32],
+) -> bool
+    requires { ⌜ Accepted (now tables) × (512 ≤ length (now outer)) × (row ≤ getD (now tables) 2 0) × (length (now unscoped) ≡ 8) × (length (now inputs) ≡ 8) × (512 ≤ length (now spans)) ⌝ }
+    ensures { λ r. ⌜ IndexWalkIn (now (tables .entry)) (now (outer .entry)) row (now (locals .entry)) (now (unscoped .entry)) (now (inputs .entry)) uses (now (spans .entry)) (now (unscoped .exit)) (now (inputs .exit)) r (now (spans .exit)) ⌝ }
+{
+    let scope = Scope {
+        locals: Names { words: *locals },
+        unscoped: Names { words: *unscoped },
+        inputs: Names { words: *inputs },
+        uses,
+    };
+    let s = gather_assigned_vars(tables, outer, row, true, false, scope, spans);
+    put(s.unscoped, unscoped);
+    put(s.inputs, inputs);
+    s.uses
+}
+
+// Any expression.
+fn loop_step(
+    tables: &[u16],
+    outer: &[u32],
+    w: Row,
+    locals: &[u64; WORDS],
+    unscoped: &mut [u64; WORDS],
+    inputs: &mut [u64; WORDS],
+    uses: bool,
+    spans: &mut [u32],
+) -> bool
+    requires { ⌜ Accepted (now tables) × (512 ≤ length (now outer)) × (w .second ≤ getD (now tables) 2 0) × (length (now unscoped) ≡ 8) × (length (now inputs) ≡ 8) × (512 ≤ length (now spans)) ⌝ }
+    ensures { λ r. ⌜ LoopStepIn (now (tables .entry)) (now (outer .entry)) w (now (locals .entry)) (now (unscoped .entry)) (now (inputs .entry)) uses (now (spans .entry)) (now (unscoped .exit)) (now (inputs .exit)) r (now (spans .exit)) ⌝ }
+{
+    if w.kind == REF_BRACK {
+        let index = w.second as usize;
+        return bind_index(tables, outer, index, locals, unscoped, inputs, uses, spans);
+    }
+    if w.kind == VAR {
+        return is_input(tables, w.name) || uses;
+    }
+    uses
+}
+
+// The expression at a row, with the rest of its chain if `rest`. No call is made on no row.
 pub fn gather_loop_vars(
     tables: &[u16],
-    outer: &[u64],
+    outer: &[u32],
     row: usize,
     rest: bool,
-    scope: Scope,
-    spans: &mut [u64],
-) -> Scope
-    requires { ⌜ Accepted (now tables) × (512 ≤ length (now outer)) × (row ≤ getD (now tables) 2 0) × (512 ≤ length (now spans)) ⌝ }
-    ensures { λ r. ⌜ LoopWalk (now (tables .entry)) (now (outer .entry)) row rest scope (now (spans .entry)) r (now (spans .exit)) ⌝ }
+    locals: &[u64; WORDS],
+    unscoped: &mut [u64; WORDS],
+    inputs: &mut [u64; WORDS],
+    uses: bool,
+    spans: &mut [u32],
+) -> bool
+    requires { ⌜ Accepted (now tables) × (512 ≤ length (now outer)) × (row ≤ getD (now tables) 2 0) × (length (now unscoped) ≡ 8) × (length (now inputs) ≡ 8) × (512 ≤ length (now spans)) ⌝ }
+    ensures { λ r. ⌜ LoopWalkIn (now (tables .entry)) (now (outer .entry)) row rest (now (locals .entry)) (now (unscoped .entry)) (now (inputs .entry)) uses (now (spans .entry)) (now (unscoped .exit)) (now (inputs .exit)) r (now (spans .exit)) ⌝ }
 {
     if row == 0 {
-        return scope;
+        return uses;
     }
     let w = row_at(tables, row);
     let k = kids_of(w);
     let next = next_of(w, rest);
-    let mut s = loop_step(tables, outer, w, scope, spans);
+    let mut s = loop_step(tables, outer, w, locals, unscoped, inputs, uses, spans);
     if k.first != 0 {
-        s = gather_loop_vars(tables, outer, k.first, true, s, spans);
+        s = gather_loop_vars(
+            tables,
+            outer,
+            k.first,
+            true,
+            locals,
+            unscoped,
+            inputs,
+            s,
+            spans,
+        );
     }
     if k.second != 0 {
-        s = gather_loop_vars(tables, outer, k.second, true, s, spans);
+        s = gather_loop_vars(
+            tables,
+            outer,
+            k.second,
+            true,
+            locals,
+            unscoped,
+            inputs,
+            s,
+            spans,
+        );
     }
     if k.third != 0 {
-        s = gather_loop_vars(tables, outer, k.third, true, s, spans);
+        s = gather_loop_vars(
+            tables,
+            outer,
+            k.third,
+            true,
+            locals,
+            unscoped,
+            inputs,
+            s,
+            spans,
+        );
     }
     if next == 0 {
         return s;
     }
-    gather_loop_vars(tables, outer, next, true, s, spans)
+    gather_loop_vars(
+        tables,
+        outer,
+        next,
+        true,
+        locals,
+        unscoped,
+        inputs,
+        s,
+        spans,
+    )
 }

@@ -9,10 +9,10 @@ ghost use Rattle.scopes.specs.Scopes.{varExists};
 ghost use Rattle.gather.specs.Outers.{Exists};
 
 // `var_exists`.
-pub fn var_exists(outer: &[u64], w: Row) -> bool
+pub fn var_exists(outer: &[u32], w: Row) -> bool
     requires { ⌜ (512 ≤ length (now outer)) × (w .name < 512) ⌝ }
     ensures { λ r. ⌜ Exists (now (outer .entry)) w r ⌝ }
 {
     let name = w.name as usize;
-    outer[name] <= w.line as u64
+    outer[name] <= w.line as u32
 }

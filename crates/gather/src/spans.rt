@@ -6,10 +6,10 @@ ghost use Prim.Native.Nat.{_≤_, _<_};
 ghost use lib.ListN.{length, set};
 ghost use Rattle.gather.specs.Spans.{spanWord};
 
-pub fn put_span(spans: &mut [u64], w: Row)
+pub fn put_span(spans: &mut [u32], w: Row)
     requires { ⌜ (512 ≤ length (now spans)) × (w .name < 512) ⌝ }
     ensures { λ _. ⌜ now (spans .exit) ≡ set (now (spans .entry)) (w .name) (spanWord w) ⌝ }
 {
     let name = w.name as usize;
-    spans[name] = w.line as u64 * 65536 + w.col as u64;
+    spans[name] = w.line as u32 * 65536 + w.col as u32;
 }

@@ -27,7 +27,7 @@ const EXPR: u16 = 3;
 const NOT_EXPR: u16 = 4;
 
 // An expression by itself: an assignment binds, and so does an extra argument.
-fn gather_expr(tables: &[u16], outer: &[u64], row: usize, scope: Scope, spans: &mut [u64]) -> Scope
+fn gather_expr(tables: &[u16], outer: &[u32], row: usize, scope: Scope, spans: &mut [u32]) -> Scope
     requires { ⌜ Accepted (now tables) × (512 ≤ length (now outer)) × (row ≤ getD (now tables) 2 0) × (512 ≤ length (now spans)) ⌝ }
     ensures { λ r. ⌜ ExprStep (now (tables .entry)) (now (outer .entry)) row scope (now (spans .entry)) r (now (spans .exit)) ⌝ }
 {
@@ -45,10 +45,10 @@ fn gather_expr(tables: &[u16], outer: &[u64], row: usize, scope: Scope, spans: &
 // Key and value of an `every` are seen in its body only.
 fn gather_literal(
     tables: &[u16],
-    outer: &[u64],
+    outer: &[u32],
     st: Statement,
     scope: Scope,
-    spans: &mut [u64],
+    spans: &mut [u32],
 ) -> Scope
     requires { ⌜ Accepted (now tables) × (512 ≤ length (now outer)) × Named (now tables) st × (512 ≤ length (now spans)) ⌝ }
     ensures { λ r. ⌜ LiteralStep (now (tables .entry)) (now (outer .entry)) st scope (now (spans .entry)) r (now (spans .exit)) ⌝ }
@@ -73,10 +73,10 @@ fn gather_literal(
 // The modifiers come first.
 pub fn gather_stmt(
     tables: &[u16],
-    outer: &[u64],
+    outer: &[u32],
     st: Statement,
     scope: Scope,
-    spans: &mut [u64],
+    spans: &mut [u32],
 ) -> Scope
     requires { ⌜ Accepted (now tables) × (512 ≤ length (now outer)) × Named (now tables) st × (512 ≤ length (now spans)) ⌝ }
     ensures { λ r. ⌜ StmtStep (now (tables .entry)) (now (outer .entry)) st scope (now (spans .entry)) r (now (spans .exit)) ⌝ }

@@ -4,6 +4,7 @@ use crate::assigned::gather_assigned_vars;
 use crate::input::gather_input_vars;
 use crate::loops::gather_loop_vars;
 use crate::scope::Scope;
+use names::Names;
 use records::Row;
 use records::row_at;
 ghost use mathlib.Core.Path.{_≡_};
@@ -19,20 +20,39 @@ const ASSIGN_EQ: u16 = 20;
 
 const ASSIGN_COL_EQ: u16 = 21;
 
-// The expression at a row is read, with the rest of its chain if `rest`.
+// The expression at a row is read, with the rest of its chain if `rest`. The walks have the parts of the scope, which is put together again.
 pub fn gather_read(
     tables: &[u16],
-    outer: &[u64],
+    outer: &[u32],
     row: usize,
     rest: bool,
     scope: Scope,
-    spans: &mut [u64],
+    spans: &mut [u32],
 ) -> Scope
     requires { ⌜ Accepted (now tables) × (512 ≤ length (now outer)) × (row ≤ getD (now tables) 2 0) × (512 ≤ length (now spans)) ⌝ }
     ensures { λ r. ⌜ ReadWalk (now (tables .entry)) (now (outer .entry)) row rest scope (now (spans .entry)) r (now (spans .exit)) ⌝ }
 {
-    let s = gather_input_vars(tables, outer, row, rest, scope);
-    gather_loop_vars(tables, outer, row, rest, s, spans)
+    let locals = scope.locals.words;
+    let mut unscoped = scope.unscoped.words;
+    let mut inputs = scope.inputs.words;
+    let read = gather_input_vars(tables, outer, row, rest, &unscoped, &mut inputs, scope.uses);
+    let uses = gather_loop_vars(
+        tables,
+        outer,
+        row,
+        rest,
+        &locals,
+        &mut unscoped,
+        &mut inputs,
+        read,
+        spans,
+    );
+    Scope {
+        locals: Names { words: locals },
+        unscoped: Names { words: unscoped },
+        inputs: Names { words: inputs },
+        uses,
+    }
 }
 
 pub fn is_assign(w: Row) -> bool
@@ -47,12 +67,12 @@ pub fn is_assign(w: Row) -> bool
 // Both sides of an assignment are patterns, and `:=` shadows. Any other expression is a pattern itself.
 fn gather_bound(
     tables: &[u16],
-    outer: &[u64],
+    outer: &[u32],
     row: usize,
     rest: bool,
     can_shadow: bool,
     scope: Scope,
-    spans: &mut [u64],
+    spans: &mut [u32],
 ) -> Scope
     requires { ⌜ Accepted (now tables) × (512 ≤ length (now outer)) × (row ≤ getD (now tables) 2 0) × (512 ≤ length (now spans)) ⌝ }
     ensures { λ r. ⌜ BoundWalk (now (tables .entry)) (now (outer .entry)) row rest «can_shadow» scope (now (spans .entry)) r (now (spans .exit)) ⌝ }
@@ -72,12 +92,12 @@ fn gather_bound(
 // The expression at a row is bound and read, with the rest of its chain if `rest`.
 pub fn gather_vars(
     tables: &[u16],
-    outer: &[u64],
+    outer: &[u32],
     row: usize,
     rest: bool,
     can_shadow: bool,
     scope: Scope,
-    spans: &mut [u64],
+    spans: &mut [u32],
 ) -> Scope
     requires { ⌜ Accepted (now tables) × (512 ≤ length (now outer)) × (row ≤ getD (now tables) 2 0) × (512 ≤ length (now spans)) ⌝ }
     ensures { λ r. ⌜ VarsWalk (now (tables .entry)) (now (outer .entry)) row rest «can_shadow» scope (now (spans .entry)) r (now (spans .exit)) ⌝ }

@@ -24,14 +24,14 @@ pub fn extra_arg(tables: &[u16], row: usize, call: bool) -> usize
 }
 
 // The names that the extra argument at a row binds, none where the row is 0. None of them is a local, so nothing comes to `spans`.
-pub fn extra_vars(tables: &[u16], outer: &[u64], arg: usize) -> Names
+pub fn extra_vars(tables: &[u16], outer: &[u32], arg: usize) -> Names
     requires { ⌜ Accepted (now tables) × (512 ≤ length (now outer)) × (arg ≤ getD (now tables) 2 0) ⌝ }
     ensures { λ r. ⌜ ExtraVars (now (tables .entry)) (now (outer .entry)) arg r ⌝ }
 {
     if arg == 0 {
         return Names::empty();
     }
-    let mut spans: [u64; 512] = [0; 512];
+    let mut spans: [u32; 512] = [0; 512];
     let none = Scope::empty();
     let scope = gather_assigned_vars(tables, outer, arg, false, false, none, &mut spans);
     scope.unscoped

@@ -12,6 +12,7 @@ ghost use Rattle.gather.specs.Sheets.{Accepted};
 ghost use Rattle.literals.specs.Used.{NamesWalk};
 
 // The expression at a row, with the rest of its chain if `rest`. Its names come to `names`.
+// A call on no row would only copy the scope and the names, so none is made.
 pub fn used_names(
     tables: &[u16],
     scope: Scope,
@@ -30,8 +31,17 @@ pub fn used_names(
     let k = kids_of(w);
     let next = next_of(w, rest);
     let mut s = used_step(tables, scope, extras, w, names);
-    s = used_names(tables, scope, extras, k.first, true, s);
-    s = used_names(tables, scope, extras, k.second, true, s);
-    s = used_names(tables, scope, extras, k.third, true, s);
+    if k.first != 0 {
+        s = used_names(tables, scope, extras, k.first, true, s);
+    }
+    if k.second != 0 {
+        s = used_names(tables, scope, extras, k.second, true, s);
+    }
+    if k.third != 0 {
+        s = used_names(tables, scope, extras, k.third, true, s);
+    }
+    if next == 0 {
+        return s;
+    }
     used_names(tables, scope, extras, next, true, s)
 }

@@ -25,6 +25,7 @@ fn check_var(w: Row, p: Progress, firsts: &[u64]) -> Progress
 }
 
 // The variables of the chain from a row on.
+// A call on no row would only copy the progress, so none is made.
 pub fn check_vars(tables: &[u16], row: usize, p: Progress, firsts: &[u64]) -> Progress
     requires { ⌜ Accepted (now tables) × (row ≤ getD (now tables) 2 0) × (512 ≤ length (now firsts)) ⌝ }
     ensures { λ r. ⌜ VarsChecked (now (tables .entry)) row p (now (firsts .entry)) r ⌝ }
@@ -35,6 +36,9 @@ pub fn check_vars(tables: &[u16], row: usize, p: Progress, firsts: &[u64]) -> Pr
     let w = row_at(tables, row);
     let next = next_of(w, true);
     let q = check_var(w, p, firsts);
+    if next == 0 {
+        return q;
+    }
     check_vars(tables, next, q, firsts)
 }
 
@@ -54,6 +58,7 @@ fn check_leaf(w: Row, p: Progress, firsts: &[u64]) -> Progress
 }
 
 // The locals of the pattern at a row, with the rest of its chain if `rest`.
+// A call on no row would only copy the progress, so none is made.
 pub fn check_assigned(
     tables: &[u16],
     row: usize,
@@ -71,6 +76,11 @@ pub fn check_assigned(
     let inner = pattern_of(w);
     let next = next_of(w, rest);
     let mut q = check_leaf(w, p, firsts);
-    q = check_assigned(tables, inner, true, q, firsts);
+    if inner != 0 {
+        q = check_assigned(tables, inner, true, q, firsts);
+    }
+    if next == 0 {
+        return q;
+    }
     check_assigned(tables, next, true, q, firsts)
 }

@@ -43,6 +43,7 @@ fn some_step(tables: &[u16], scope: Scope, w: Row, names: Names) -> Names
 }
 
 // The pattern at a row, with the rest of its chain. Its names come to `names`.
+// A call on no row would only copy the scope and the names, so none is made.
 pub fn some_vars(tables: &[u16], scope: Scope, row: usize, names: Names) -> Names
     requires { ⌜ Accepted (now tables) × (row ≤ getD (now tables) 2 0) ⌝ }
     ensures { λ r. ⌜ SomeVars (now (tables .entry)) scope row names r ⌝ }
@@ -54,7 +55,12 @@ pub fn some_vars(tables: &[u16], scope: Scope, row: usize, names: Names) -> Name
     let inner = pattern_of(w);
     let next = next_of(w, true);
     let mut s = some_step(tables, scope, w, names);
-    s = some_vars(tables, scope, inner, s);
+    if inner != 0 {
+        s = some_vars(tables, scope, inner, s);
+    }
+    if next == 0 {
+        return s;
+    }
     some_vars(tables, scope, next, s)
 }
 
@@ -68,6 +74,7 @@ fn enter_step(tables: &[u16], scope: Scope, w: Row, firsts: &mut [u64])
 }
 
 // The same pattern's variables are uses of their names. `firsts` has a word a name.
+// A call on no row would only copy the scope, so none is made.
 pub fn first_some(tables: &[u16], scope: Scope, row: usize, firsts: &mut [u64])
     requires { ⌜ Accepted (now tables) × (row ≤ getD (now tables) 2 0) × (512 ≤ length (now firsts)) ⌝ }
     ensures { λ _. ⌜ SomeEntered (now (tables .entry)) scope row (now (firsts .entry)) (now (firsts .exit)) ⌝ }
@@ -79,6 +86,11 @@ pub fn first_some(tables: &[u16], scope: Scope, row: usize, firsts: &mut [u64])
     let inner = pattern_of(w);
     let next = next_of(w, true);
     enter_step(tables, scope, w, firsts);
-    first_some(tables, scope, inner, firsts);
+    if inner != 0 {
+        first_some(tables, scope, inner, firsts);
+    }
+    if next == 0 {
+        return;
+    }
     first_some(tables, scope, next, firsts);
 }

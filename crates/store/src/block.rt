@@ -40,7 +40,7 @@ pub fn store_block(
     answers: &mut [u64],
     q: usize,
     scope: Scope,
-    spans: &[u64],
+    spans: &[u32],
     count: usize,
     base: usize,
     placed: bool,

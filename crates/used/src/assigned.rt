@@ -50,6 +50,7 @@ pub fn leaf_step(scope: Scope, w: Row, names: Names) -> Names
 }
 
 // The pattern at a row, with the rest of its chain. Its names come to `names`.
+// A call on no row would only copy the scope and the names, so none is made.
 pub fn assigned_vars(tables: &[u16], scope: Scope, row: usize, names: Names) -> Names
     requires { ⌜ Accepted (now tables) × (row ≤ getD (now tables) 2 0) ⌝ }
     ensures { λ r. ⌜ AssignedWalk (now (tables .entry)) scope row names r ⌝ }
@@ -61,6 +62,11 @@ pub fn assigned_vars(tables: &[u16], scope: Scope, row: usize, names: Names) -> 
     let inner = pattern_of(w);
     let next = next_of(w, true);
     let mut s = leaf_step(scope, w, names);
-    s = assigned_vars(tables, scope, inner, s);
+    if inner != 0 {
+        s = assigned_vars(tables, scope, inner, s);
+    }
+    if next == 0 {
+        return s;
+    }
     assigned_vars(tables, scope, next, s)
 }

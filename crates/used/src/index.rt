@@ -77,6 +77,7 @@ fn define_leaf(
 }
 
 // The index at a row, with the rest of its chain. Its definitions are appended from row `count` on; hands back the count of rows.
+// A call on no row would only copy the scope and the names, so none is made.
 pub fn define_index(
     tables: &[u16],
     scope: Scope,
@@ -97,6 +98,11 @@ pub fn define_index(
     let inner = pattern_of(w);
     let next = next_of(w, true);
     let mut n = define_leaf(scope, statement, w, used, count, definitions, width);
-    n = define_index(tables, scope, statement, inner, used, n, definitions, width);
+    if inner != 0 {
+        n = define_index(tables, scope, statement, inner, used, n, definitions, width);
+    }
+    if next == 0 {
+        return n;
+    }
     define_index(tables, scope, statement, next, used, n, definitions, width)
 }

@@ -1,13 +1,16 @@
 -- The walk goes on to later rows only, and what the calls on the way do is a row's turn (`walk-turn`).
-use mathlib.Core.Path.{_≡_, sym, _∙_, subst}
-use mathlib.Core.Bool.{true}
+use mathlib.Core.Path.{_≡_, refl, sym, _∙_, subst}
+use mathlib.Core.Bool.{Bool, true}
+use mathlib.Core.List.{List}
 use Prim.Native.Nat.{ℕ, _<_}
+use lib.ListN.{length}
 use borrow.Author.Needs.{needs}
 use borrow.Fn.Kinds.{In}
 use borrow.Fn.PlainCycle.{Measures, is, falls, and}
+use Rattle.names.specs.declared.Names.{Names}
 use Rattle.trees.specs.Sheet.{rowAt, row-fields}
-use Rattle.gather.specs.declared.scope.Scope.{Scope}
-use Rattle.gather.specs.Walking.{remains, Calls, row-low, low-name, calls, guarded}
+use Rattle.gather.specs.Agrees.{scopeOf}
+use Rattle.gather.specs.Walking.{remains, Calls, row-low, low-name, calls, guarded-list}
 use Rattle.gather.specs.Inputs.{InputWalk, walk-none, walk-turn}
 use Rattle.gather.proofs.input.gather_input_vars.Reads as gather-input-vars
 use Rattle.gather.proofs.input.gather_input_vars.Kinds as kinds
@@ -19,14 +22,14 @@ use Rattle.records.proofs.row_at.Reads as row-at-reads
 use Rattle.gather.proofs.input.+gather_input_vars.{statement}
 use Rattle.gather.proofs.input.+gather_input_vars.Tie.{close}
 
-abbrev μ : Measures 2 kinds.ps ℕ
+abbrev μ : Measures 4 kinds.ps ℕ
 μ κs a = remains (a .0 .now) (a .1 .1 .0)
 
-abbrev here : ℕ → In 2 kinds.ps
-here m = and 2 kinds.ps (is 2 kinds.ps μ m) gather-input-vars.Pre
+abbrev here : ℕ → In 4 kinds.ps
+here m = and 4 kinds.ps (is 4 kinds.ps μ m) gather-input-vars.Pre
 
-abbrev below : ℕ → In 2 kinds.ps
-below m = and 2 kinds.ps (falls 2 kinds.ps _<_ μ m) gather-input-vars.Pre
+abbrev below : ℕ → In 4 kinds.ps
+below m = and 4 kinds.ps (falls 4 kinds.ps _<_ μ m) gather-input-vars.Pre
 
 abbrev known : ℕ → lts.Claims
 known m = (
@@ -45,8 +48,13 @@ known m = (
 returns : (m : ℕ) → lts.Need-returns (known m) (here m) gather-input-vars.Post
 returns m c =
     let start = c .before .before .before in
-    subst (λ (n : ℕ). InputWalk (start .args .tables .now) (start .args .outer .now) n (start .args .rest) (start .args .scope) (start .args .scope))
-    (sym (c .if1 .taken)) (walk-none _ _ (start .pre .1 .0) (start .args .rest) (start .args .scope))
+    let a = start .args in
+    record {
+      long = refl;
+      done = λ l.
+          let s = scopeOf l (a .unscoped .now) (a .inputs .now) (a .uses) in
+          subst (λ (n : ℕ). InputWalk (a .tables .now) (a .outer .now) n (a .rest) s s) (sym (c .if1 .taken)) (walk-none _ _ (start .pre .1 .0) (a .rest) s);
+    }
 
 row-at-requires : (m : ℕ) → lts.Need-row-at-requires (known m) (here m) gather-input-vars.Post
 row-at-requires m c κs =
@@ -66,9 +74,9 @@ next-of-requires m c κs = search needs
 
 input-step-requires : (m : ℕ) → lts.Need-input-step-requires (known m) (here m) gather-input-vars.Post
 input-step-requires m c κs =
-    let r = c .before .before in
+    let r = c .before .before .before in
     let pre = r .before .before .before .before .pre .1 in
-    (pre .0 .room, pre .1, rw (row-is m r) (low-name _ (pre .0) _ (r .before .if1 .left) (pre .2)))
+    (pre .0 .room, pre .1, rw (row-is m r) (low-name _ (pre .0) _ (r .before .if1 .left) (pre .2)), pre .3, pre .4)
 
 ready : (m : ℕ) (c : lts.After-next-of (known m) (here m) gather-input-vars.Post)
     → let start = c .before .before .before .before .before .before in
@@ -80,82 +88,121 @@ ready m c =
 
 first-requires : (m : ℕ) → lts.Need-gather-input-vars-requires (known m) (here m) gather-input-vars.Post
 first-requires m c κs =
-    let n = c .before .before .before in
+    let step = c .before .before .before in
+    let n = step .before .before in
     let pre = n .before .before .before .before .before .before .pre .1 in
     let k = ready m n .first in
-    (k .0, (pre .0, pre .1, k .1))
+    (k .0, (pre .0, pre .1, k .1, pre .3, step .input-step .ensures .long ∙ pre .4))
 
-second-requires : (m : ℕ) → lts.Need-gather-input-vars-requires-2 (known m) (here m) gather-input-vars.Post
-second-requires m c κs =
-    let n = c .before .before .before .before .before in
-    let pre = n .before .before .before .before .before .before .pre .1 in
-    let k = ready m n .second in
-    (k .0, (pre .0, pre .1, k .1))
-
-third-requires : (m : ℕ) → lts.Need-gather-input-vars-requires-3 (known m) (here m) gather-input-vars.Post
-third-requires m c κs =
-    let n = c .before .before .before .before .before .before .before in
-    let pre = n .before .before .before .before .before .before .pre .1 in
-    let k = ready m n .third in
-    (k .0, (pre .0, pre .1, k .1))
-
-next-requires : (m : ℕ) → lts.Need-gather-input-vars-requires-4 (known m) (here m) gather-input-vars.Post
-next-requires m c κs =
-    let n = c .before .before .before .before .before .before .before .before in
-    let pre = n .before .before .before .before .before .before .pre .1 in
-    let k = ready m n .next in
-    (rw (n .next-of .ensures) (k .0), (pre .0, pre .1, rw (n .next-of .ensures) (k .1)))
+-- A guarded walk over the row n, whatever the locals are.
+abbrev Walked : List ℕ → List ℕ → List ℕ → ℕ → Bool → List ℕ → Bool → List ℕ → Type 0
+Walked t o u n f i g j = (l : Names) → InputWalk t o n true (scopeOf l u i f) (scopeOf l u j g)
 
 -- The three parts, each walked where there is one.
 first-walk : (m : ℕ) (c : lts.Joined2 (known m) (here m) gather-input-vars.Post)
-    → let n = c .before .before .before in
+    → let step = c .before .before in
+    let n = step .before .before in
     let a = n .before .before .before .before .before .before .args in
-    InputWalk (a .tables .now) (a .outer .now) (n .before .kids-of .result .first) true (c .before .before .input-step .result) (c .if2 .s)
+    Walked (a .tables .now) (a .outer .now) (a .unscoped .now) (n .before .kids-of .result .first) (step .input-step .result) (step .input-step .last .1 .1 .1 .1 .0) (c .if2 .s) (c .if2 .inputs)
+    × (length (c .if2 .inputs) ≡ length (step .input-step .last .1 .1 .1 .1 .0))
 first-walk m c =
-    let start = c .before .before .before .before .before .before .before .before .before in
-    guarded (λ n. InputWalk (start .args .tables .now) (start .args .outer .now) n true) (walk-none _ _ (start .pre .1 .0) true) _ _ _
-    (λ w. (_, w .1 .ensures, w .2)) (λ w. (w .0 .left, w .1)) (c .if2 .came)
+    let start = c .before .before .before .before .before .before .before .before .before .before in
+    let a = start .args in
+    guarded-list (Walked (a .tables .now) (a .outer .now) (a .unscoped .now)) (λ f i l. walk-none _ _ (start .pre .1 .0) true _) _ _ _ _ _
+    (λ w. (_, _, w .2 .ensures .done, w .2 .ensures .long, w .3, w .4)) (λ w. (w .0 .left, w .1, w .2)) (c .if2 .came)
+
+first-long : (m : ℕ) (c : lts.Joined2 (known m) (here m) gather-input-vars.Post) → length (c .if2 .inputs) ≡ 8
+first-long m c = first-walk m c .1 ∙ c .before .before .input-step .ensures .long ∙ c .before .before .before .before .before .before .before .before .before .before .pre .1 .4
+
+second-requires : (m : ℕ) → lts.Need-gather-input-vars-requires-2 (known m) (here m) gather-input-vars.Post
+second-requires m c κs =
+    let j = c .before .before .before in
+    let n = j .before .before .before .before in
+    let pre = n .before .before .before .before .before .before .pre .1 in
+    let k = ready m n .second in
+    (k .0, (pre .0, pre .1, k .1, pre .3, first-long m j))
 
 second-walk : (m : ℕ) (c : lts.Joined3 (known m) (here m) gather-input-vars.Post)
-    → let n = c .before .before .before .before .before in
+    → let j = c .before .before in
+    let n = j .before .before .before .before in
     let a = n .before .before .before .before .before .before .args in
-    InputWalk (a .tables .now) (a .outer .now) (n .before .kids-of .result .second) true (c .before .before .if2 .s) (c .if3 .s)
+    Walked (a .tables .now) (a .outer .now) (a .unscoped .now) (n .before .kids-of .result .second) (j .if2 .s) (j .if2 .inputs) (c .if3 .s) (c .if3 .inputs)
+    × (length (c .if3 .inputs) ≡ length (j .if2 .inputs))
 second-walk m c =
-    let start = c .before .before .before .before .before .before .before .before .before .before .before in
-    guarded (λ n. InputWalk (start .args .tables .now) (start .args .outer .now) n true) (walk-none _ _ (start .pre .1 .0) true) _ _ _
-    (λ w. (_, w .1 .ensures, w .2)) (λ w. (w .0 .left, w .1)) (c .if3 .came)
+    let start = c .before .before .before .before .before .before .before .before .before .before .before .before in
+    let a = start .args in
+    guarded-list (Walked (a .tables .now) (a .outer .now) (a .unscoped .now)) (λ f i l. walk-none _ _ (start .pre .1 .0) true _) _ _ _ _ _
+    (λ w. (_, _, w .2 .ensures .done, w .2 .ensures .long, w .3, w .4)) (λ w. (w .0 .left, w .1, w .2)) (c .if3 .came)
+
+second-long : (m : ℕ) (c : lts.Joined3 (known m) (here m) gather-input-vars.Post) → length (c .if3 .inputs) ≡ 8
+second-long m c = second-walk m c .1 ∙ first-long m (c .before .before)
+
+third-requires : (m : ℕ) → lts.Need-gather-input-vars-requires-3 (known m) (here m) gather-input-vars.Post
+third-requires m c κs =
+    let j = c .before .before .before in
+    let n = j .before .before .before .before .before .before in
+    let pre = n .before .before .before .before .before .before .pre .1 in
+    let k = ready m n .third in
+    (k .0, (pre .0, pre .1, k .1, pre .3, second-long m j))
 
 third-walk : (m : ℕ) (c : lts.Joined4 (known m) (here m) gather-input-vars.Post)
-    → let n = c .before .before .before .before .before .before .before in
+    → let j = c .before .before in
+    let n = j .before .before .before .before .before .before in
     let a = n .before .before .before .before .before .before .args in
-    InputWalk (a .tables .now) (a .outer .now) (n .before .kids-of .result .third) true (c .before .before .if3 .s) (c .if4 .s)
+    Walked (a .tables .now) (a .outer .now) (a .unscoped .now) (n .before .kids-of .result .third) (j .if3 .s) (j .if3 .inputs) (c .if4 .s) (c .if4 .inputs)
+    × (length (c .if4 .inputs) ≡ length (j .if3 .inputs))
 third-walk m c =
-    let start = c .before .before .before .before .before .before .before .before .before .before .before .before .before in
-    guarded (λ n. InputWalk (start .args .tables .now) (start .args .outer .now) n true) (walk-none _ _ (start .pre .1 .0) true) _ _ _
-    (λ w. (_, w .1 .ensures, w .2)) (λ w. (w .0 .left, w .1)) (c .if4 .came)
+    let start = c .before .before .before .before .before .before .before .before .before .before .before .before .before .before in
+    let a = start .args in
+    guarded-list (Walked (a .tables .now) (a .outer .now) (a .unscoped .now)) (λ f i l. walk-none _ _ (start .pre .1 .0) true _) _ _ _ _ _
+    (λ w. (_, _, w .2 .ensures .done, w .2 .ensures .long, w .3, w .4)) (λ w. (w .0 .left, w .1, w .2)) (c .if4 .came)
+
+third-long : (m : ℕ) (c : lts.Joined4 (known m) (here m) gather-input-vars.Post) → length (c .if4 .inputs) ≡ 8
+third-long m c = third-walk m c .1 ∙ second-long m (c .before .before)
 
 -- The turn of a row, with the walk over the rest of its chain.
-turned : (m : ℕ) (c : lts.Joined4 (known m) (here m) gather-input-vars.Post) (s : Scope)
-    → let n = c .before .before .before .before .before .before .before in
+turned : (m : ℕ) (c : lts.Joined4 (known m) (here m) gather-input-vars.Post) (l : Names) (g : Bool) (j : List ℕ)
+    → let n = c .before .before .before .before .before .before .before .before in
     let a = n .before .before .before .before .before .before .args in
-    InputWalk (a .tables .now) (a .outer .now) (n .next-of .result) true (c .if4 .s) s
-    → InputWalk (a .tables .now) (a .outer .now) (a .row) (a .rest) (a .scope) s
-turned m c s rest =
-    let n = c .before .before .before .before .before .before .before in
+    InputWalk (a .tables .now) (a .outer .now) (n .next-of .result) true (scopeOf l (a .unscoped .now) (c .if4 .inputs) (c .if4 .s)) (scopeOf l (a .unscoped .now) j g)
+    → InputWalk (a .tables .now) (a .outer .now) (a .row) (a .rest) (scopeOf l (a .unscoped .now) (a .inputs .now) (a .uses)) (scopeOf l (a .unscoped .now) j g)
+turned m c l g j rest =
+    let step = c .before .before .before .before .before .before in
+    let n = step .before .before in
     let r = n .before .before in
     let start = r .before .before .before .before in
     walk-turn _ _ (start .pre .1 .0) _ (r .before .if1 .left) (start .pre .1 .2) (start .args .rest) _ (row-is m r) _ (n .before .kids-of .ensures) _ (n .next-of .ensures)
-    _ _ _ _ _ _ (c .before .before .before .before .before .before .input-step .ensures) (first-walk m (c .before .before .before .before)) (second-walk m (c .before .before)) (third-walk m c) rest
+    _ _ _ _ _ _ (step .input-step .ensures .done l) (first-walk m (c .before .before .before .before) .0 l) (second-walk m (c .before .before) .0 l) (third-walk m c .0 l) rest
 
 returns-2 : (m : ℕ) → lts.Need-returns-2 (known m) (here m) gather-input-vars.Post
 returns-2 m c =
-    let start = c .before .before .before .before .before .before .before .before .before .before .before .before .before .before in
-    turned m (c .before) _
-    (subst (λ (n : ℕ). InputWalk (start .args .tables .now) (start .args .outer .now) n true (c .before .if4 .s) (c .before .if4 .s))
-    (sym (c .if5 .taken)) (walk-none _ _ (start .pre .1 .0) true (c .before .if4 .s)))
+    let j = c .before in
+    let start = j .before .before .before .before .before .before .before .before .before .before .before .before .before .before in
+    let a = start .args in
+    record {
+      long = third-long m j ∙ sym (start .pre .1 .4);
+      done = λ l.
+          let s = scopeOf l (a .unscoped .now) (j .if4 .inputs) (j .if4 .s) in
+          turned m j l _ _
+          (subst (λ (n : ℕ). InputWalk (a .tables .now) (a .outer .now) n true s s) (sym (c .if5 .taken)) (walk-none _ _ (start .pre .1 .0) true s));
+    }
+
+next-requires : (m : ℕ) → lts.Need-gather-input-vars-requires-4 (known m) (here m) gather-input-vars.Post
+next-requires m c κs =
+    let j = c .before .before in
+    let n = j .before .before .before .before .before .before .before .before in
+    let pre = n .before .before .before .before .before .before .pre .1 in
+    let k = ready m n .next in
+    (rw (n .next-of .ensures) (k .0), (pre .0, pre .1, rw (n .next-of .ensures) (k .1), pre .3, third-long m j))
 
 returns-3 : (m : ℕ) → lts.Need-returns-3 (known m) (here m) gather-input-vars.Post
-returns-3 m c = turned m (c .before .before) _ (c .gather-input-vars4 .ensures)
+returns-3 m c =
+    let j = c .before .before .before in
+    let start = j .before .before .before .before .before .before .before .before .before .before .before .before .before .before in
+    record {
+      long = c .gather-input-vars4 .ensures .long ∙ third-long m j ∙ sym (start .pre .1 .4);
+      done = λ l. turned m j l _ _ (c .gather-input-vars4 .ensures .done l);
+    }
 
 pub +gather-input-vars-spec : {M : Type 1} → statement M
 +gather-input-vars-spec = close μ λ m.

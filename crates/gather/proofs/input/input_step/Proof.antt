@@ -1,4 +1,5 @@
 -- A variable, or nothing.
+use mathlib.Core.Path.{refl}
 use borrow.Author.Needs.{needs}
 use Rattle.gather.specs.Inputs.{step-var, step-other}
 use Rattle.gather.proofs.input.input_step.Statement.{statement}
@@ -8,10 +9,13 @@ input-var-requires : tie.Need-input-var-requires
 input-var-requires c κs = search needs
 
 returns : tie.Need-returns
-returns c = step-var _ _ _ _ (c .before .if1 .taken) _ (c .input-var .ensures)
+returns c = record {
+  long = c .input-var .ensures .long;
+  done = λ l. step-var _ _ _ _ (c .before .before .if1 .taken) _ (c .input-var .ensures .done l);
+}
 
 returns-2 : tie.Need-returns-2
-returns-2 c = step-other _ _ _ _ (c .if1 .left)
+returns-2 c = record { long = refl; done = λ l. step-other _ _ _ _ (c .if1 .left) }
 
 pub input-step-spec : {M : Type 1} → statement M
 input-step-spec = tie.close (tie.spec input-var-requires returns returns-2)

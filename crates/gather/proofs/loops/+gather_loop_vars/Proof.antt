@@ -1,17 +1,17 @@
 -- The walk goes on to later rows only, and what the calls on the way do is a row's turn (`walk-turn`).
-use mathlib.Core.Path.{_≡_, sym, _∙_, subst}
-use mathlib.Core.Bool.{true}
+use mathlib.Core.Path.{_≡_, refl, sym, _∙_, subst}
+use mathlib.Core.Bool.{Bool, true}
 use mathlib.Core.List.{List}
-use Prim.Native.Nat.{ℕ, _<_}
+use Prim.Native.Nat.{ℕ, _≤_, _<_}
 use native.Mathlib.Omega.{arith}
 use lib.ListN.{length}
 use borrow.Author.Needs.{needs}
 use borrow.Fn.Kinds.{In}
 use borrow.Fn.PlainCycle.{Measures, is, falls, and}
 use Rattle.trees.specs.Sheet.{rowAt, row-fields}
-use Rattle.gather.specs.declared.scope.Scope.{Scope}
-use Rattle.gather.specs.Walking.{remains, Calls, row-low, second-low, calls, guarded-list}
-use Rattle.gather.specs.Loops.{LoopWalk, walk-none, walk-turn}
+use Rattle.gather.specs.Sheets.{Accepted}
+use Rattle.gather.specs.Walking.{remains, Calls, row-low, second-low, calls, guarded}
+use Rattle.gather.specs.Loops.{LoopWalk, LoopWalkIn, scopeIn, walk-none, walk-turn}
 use Rattle.gather.proofs.loops.gather_loop_vars.Reads as gather-loop-vars
 use Rattle.gather.proofs.loops.gather_loop_vars.Kinds as kinds
 use Rattle.gather.proofs.loops.+gather_loop_vars.Lts-gather_loop_vars as lts
@@ -22,14 +22,14 @@ use Rattle.records.proofs.row_at.Reads as row-at-reads
 use Rattle.gather.proofs.loops.+gather_loop_vars.{statement}
 use Rattle.gather.proofs.loops.+gather_loop_vars.Tie.{close}
 
-abbrev μ : Measures 3 kinds.ps ℕ
+abbrev μ : Measures 6 kinds.ps ℕ
 μ κs a = remains (a .0 .now) (a .1 .1 .0)
 
-abbrev here : ℕ → In 3 kinds.ps
-here m = and 3 kinds.ps (is 3 kinds.ps μ m) gather-loop-vars.Pre
+abbrev here : ℕ → In 6 kinds.ps
+here m = and 6 kinds.ps (is 6 kinds.ps μ m) gather-loop-vars.Pre
 
-abbrev below : ℕ → In 3 kinds.ps
-below m = and 3 kinds.ps (falls 3 kinds.ps _<_ μ m) gather-loop-vars.Pre
+abbrev below : ℕ → In 6 kinds.ps
+below m = and 6 kinds.ps (falls 6 kinds.ps _<_ μ m) gather-loop-vars.Pre
 
 abbrev known : ℕ → lts.Claims
 known m = (
@@ -49,8 +49,13 @@ returns : (m : ℕ) → lts.Need-returns (known m) (here m) gather-loop-vars.Pos
 returns m c =
     let start = c .before .before .before .before in
     let a = start .args in
-    subst (λ (n : ℕ). LoopWalk (a .tables .now) (a .outer .now) n (a .rest) (a .scope) (a .spans .now) (a .scope) (a .spans .now))
-    (sym (c .if1 .taken)) (walk-none _ _ (start .pre .1 .0) (a .rest) (a .scope) (a .spans .now))
+    let s = scopeIn (a .locals .now) (a .unscoped .now) (a .inputs .now) (a .uses) in
+    record {
+      unscoped-long = refl;
+      inputs-long = refl;
+      done = subst (λ (n : ℕ). LoopWalk (a .tables .now) (a .outer .now) n (a .rest) s (a .spans .now) s (a .spans .now))
+          (sym (c .if1 .taken)) (walk-none _ _ (start .pre .1 .0) (a .rest) s (a .spans .now));
+    }
 
 row-at-requires : (m : ℕ) → lts.Need-row-at-requires (known m) (here m) gather-loop-vars.Post
 row-at-requires m c κs =
@@ -70,9 +75,9 @@ next-of-requires m c κs = search needs
 
 loop-step-requires : (m : ℕ) → lts.Need-loop-step-requires (known m) (here m) gather-loop-vars.Post
 loop-step-requires m c κs =
-    let r = c .before .before .before in
+    let r = c .before .before .before .before .before in
     let pre = r .before .before .before .before .before .pre .1 in
-    (pre .0, pre .1, second-low _ (pre .0) _ (r .before .if1 .left) (pre .2) _ (row-is m r), pre .3)
+    (pre .0, pre .1, second-low _ (pre .0) _ (r .before .if1 .left) (pre .2) _ (row-is m r), pre .3, pre .4, pre .5)
 
 ready : (m : ℕ) (c : lts.After-next-of (known m) (here m) gather-loop-vars.Post)
     → let start = c .before .before .before .before .before .before .before in
@@ -82,107 +87,175 @@ ready m c =
     let start = r .before .before .before .before .before in
     calls _ (start .pre .1 .0) _ (r .before .if1 .left) (start .pre .1 .2) m (start .pre .0) _ _ (row-is m r) _ (c .before .kids-of .ensures)
 
+-- A walk over the row n, from the flag, the unscoped names, the inputs and the spans on; lists stay as long as they are.
+abbrev State : Type 0
+State = Bool × List ℕ × List ℕ × List ℕ
+
+abbrev Walked : List ℕ → List ℕ → List ℕ → ℕ → State → State → Type 0
+Walked t outer o n a b = LoopWalkIn t outer n true o (a .1) (a .2) (a .0) (a .3) (b .1) (b .2) (b .0) (b .3) × (length (b .3) ≡ length (a .3))
+
+walked-none : (t outer o : List ℕ) → Accepted t → (a : State) → Walked t outer o 0 a a
+walked-none t outer o ok a = (record { unscoped-long = refl; inputs-long = refl; done = walk-none t outer ok true _ _ }, refl)
+
+-- Sets have their eight words still, and the spans are as many as before.
+abbrev Long : List ℕ → List ℕ → List ℕ → List ℕ → Type 0
+Long v j l before = (length v ≡ 8) × (length j ≡ 8) × (length l ≡ length before)
+
+-- What the step left.
+abbrev stepped : (m : ℕ) → lts.After-loop-step (known m) (here m) gather-loop-vars.Post → State
+stepped m c = (c .loop-step .result, c .loop-step .last .1 .1 .1 .1 .0, c .loop-step .last .1 .1 .1 .1 .1 .0, c .loop-step .last .1 .1 .1 .1 .1 .1 .1 .0)
+
 first-requires : (m : ℕ) → lts.Need-gather-loop-vars-requires (known m) (here m) gather-loop-vars.Post
 first-requires m c κs =
-    let n = c .before .before .before .before .before .before .before in
+    let step = c .before .before .before .before .before .before .before in
+    let n = step .before .before .before .before in
     let pre = n .before .before .before .before .before .before .before .pre .1 in
-    let k = ready m n .first in
-    (k .0, (pre .0, pre .1, k .1, omega (arith, pre .3, c .before .before .before .before .before .loop-step .kept .1 .1 .1 .1 .0)))
+    let k = ready m n .first in (
+      k .0,
+      (
+        pre .0,
+        pre .1,
+        k .1,
+        step .loop-step .ensures .unscoped-long ∙ pre .3,
+        step .loop-step .ensures .inputs-long ∙ pre .4,
+        omega (arith, pre .5, step .loop-step .kept .1 .1 .1 .1 .1 .1 .1 .0),
+      ),
+    )
 
 -- The three parts, each walked where there is one.
 first-walk : (m : ℕ) (c : lts.Joined2 (known m) (here m) gather-loop-vars.Post)
-    → let n = c .before .before .before .before .before .before in
+    → let step = c .before .before .before .before in
+    let n = step .before .before .before .before in
     let a = n .before .before .before .before .before .before .before .args in
-    LoopWalk (a .tables .now) (a .outer .now) (n .before .kids-of .result .first) true (c .before .before .before .before .loop-step .result) (c .before .before .before .before .loop-step .last .1 .1 .1 .1 .0) (c .if2 .s) (c .if2 .spans)
-    × (length (c .if2 .spans) ≡ length (c .before .before .before .before .loop-step .last .1 .1 .1 .1 .0))
+    Walked (a .tables .now) (a .outer .now) (a .locals .now) (n .before .kids-of .result .first) (stepped m step) (c .if2 .s, c .if2 .unscoped, c .if2 .inputs, c .if2 .spans)
 first-walk m c =
-    let start = c .before .before .before .before .before .before .before .before .before .before .before .before .before in
+    let start = c .before .before .before .before .before .before .before .before .before .before .before .before .before .before .before in
     let a = start .args in
-    guarded-list (λ n. LoopWalk (a .tables .now) (a .outer .now) n true) (walk-none _ _ (start .pre .1 .0) true) _ _ _ _ _
-    (λ w. (_, _, w .2 .ensures, w .2 .kept .1 .1 .1 .1 .1 .0, w .5, w .6)) (λ w. (w .0 .left, w .1, w .2)) (c .if2 .came)
+    guarded (Walked (a .tables .now) (a .outer .now) (a .locals .now)) (walked-none _ _ _ (start .pre .1 .0)) _ _ _
+    (λ w. (_, (w .4 .ensures, w .4 .kept .1 .1 .1 .1 .1 .1 .1 .1 .0), λ i. (w .10 i, w .7 i, w .8 i, w .9 i))) (λ w. (w .0 .left, λ i. (w .4 i, w .1 i, w .2 i, w .3 i))) (c .if2 .came)
 
-first-kept : (m : ℕ) (c : lts.Joined2 (known m) (here m) gather-loop-vars.Post) → length (c .if2 .spans) ≡ length (c .before .before .before .before .before .before .before .before .before .before .before .before .before .args .spans .now)
-first-kept m c = first-walk m c .1 ∙ c .before .before .before .before .loop-step .kept .1 .1 .1 .1 .0
+first-long : (m : ℕ) (c : lts.Joined2 (known m) (here m) gather-loop-vars.Post)
+    → Long (c .if2 .unscoped) (c .if2 .inputs) (c .if2 .spans) (c .before .before .before .before .before .before .before .before .before .before .before .before .before .before .before .args .spans .now)
+first-long m c =
+    let step = c .before .before .before .before in
+    let pre = step .before .before .before .before .before .before .before .before .before .before .before .pre .1 in
+    let w = first-walk m c in (
+      w .0 .unscoped-long ∙ step .loop-step .ensures .unscoped-long ∙ pre .3,
+      w .0 .inputs-long ∙ step .loop-step .ensures .inputs-long ∙ pre .4,
+      w .1 ∙ step .loop-step .kept .1 .1 .1 .1 .1 .1 .1 .0,
+    )
 
 second-requires : (m : ℕ) → lts.Need-gather-loop-vars-requires-2 (known m) (here m) gather-loop-vars.Post
 second-requires m c κs =
-    let n = c .before .before .before .before .before .before .before .before .before in
+    let j = c .before .before .before .before .before in
+    let n = j .before .before .before .before .before .before .before .before in
     let pre = n .before .before .before .before .before .before .before .pre .1 in
     let k = ready m n .second in
-    (k .0, (pre .0, pre .1, k .1, omega (arith, pre .3, first-kept m (c .before .before .before))))
+    let l = first-long m j in
+    (k .0, (pre .0, pre .1, k .1, l .0, l .1, omega (arith, pre .5, l .2)))
 
 second-walk : (m : ℕ) (c : lts.Joined3 (known m) (here m) gather-loop-vars.Post)
-    → let n = c .before .before .before .before .before .before .before .before in
+    → let j = c .before .before in
+    let n = j .before .before .before .before .before .before .before .before in
     let a = n .before .before .before .before .before .before .before .args in
-    LoopWalk (a .tables .now) (a .outer .now) (n .before .kids-of .result .second) true (c .before .before .if2 .s) (c .before .before .if2 .spans) (c .if3 .s) (c .if3 .spans)
-    × (length (c .if3 .spans) ≡ length (c .before .before .if2 .spans))
+    Walked (a .tables .now) (a .outer .now) (a .locals .now) (n .before .kids-of .result .second) (j .if2 .s, j .if2 .unscoped, j .if2 .inputs, j .if2 .spans)
+    (c .if3 .s, c .if3 .unscoped, c .if3 .inputs, c .if3 .spans)
 second-walk m c =
-    let start = c .before .before .before .before .before .before .before .before .before .before .before .before .before .before .before in
+    let start = c .before .before .before .before .before .before .before .before .before .before .before .before .before .before .before .before .before in
     let a = start .args in
-    guarded-list (λ n. LoopWalk (a .tables .now) (a .outer .now) n true) (walk-none _ _ (start .pre .1 .0) true) _ _ _ _ _
-    (λ w. (_, _, w .2 .ensures, w .2 .kept .1 .1 .1 .1 .1 .0, w .5, w .6)) (λ w. (w .0 .left, w .1, w .2)) (c .if3 .came)
+    guarded (Walked (a .tables .now) (a .outer .now) (a .locals .now)) (walked-none _ _ _ (start .pre .1 .0)) _ _ _
+    (λ w. (_, (w .4 .ensures, w .4 .kept .1 .1 .1 .1 .1 .1 .1 .1 .0), λ i. (w .10 i, w .7 i, w .8 i, w .9 i))) (λ w. (w .0 .left, λ i. (w .4 i, w .1 i, w .2 i, w .3 i))) (c .if3 .came)
 
-second-kept : (m : ℕ) (c : lts.Joined3 (known m) (here m) gather-loop-vars.Post) → length (c .if3 .spans) ≡ length (c .before .before .before .before .before .before .before .before .before .before .before .before .before .before .before .args .spans .now)
-second-kept m c = second-walk m c .1 ∙ first-kept m (c .before .before)
+second-long : (m : ℕ) (c : lts.Joined3 (known m) (here m) gather-loop-vars.Post)
+    → Long (c .if3 .unscoped) (c .if3 .inputs) (c .if3 .spans) (c .before .before .before .before .before .before .before .before .before .before .before .before .before .before .before .before .before .args .spans .now)
+second-long m c =
+    let l = first-long m (c .before .before) in
+    let w = second-walk m c in
+    (w .0 .unscoped-long ∙ l .0, w .0 .inputs-long ∙ l .1, w .1 ∙ l .2)
 
 third-requires : (m : ℕ) → lts.Need-gather-loop-vars-requires-3 (known m) (here m) gather-loop-vars.Post
 third-requires m c κs =
-    let n = c .before .before .before .before .before .before .before .before .before .before .before in
+    let j = c .before .before .before .before .before in
+    let n = j .before .before .before .before .before .before .before .before .before .before in
     let pre = n .before .before .before .before .before .before .before .pre .1 in
     let k = ready m n .third in
-    (k .0, (pre .0, pre .1, k .1, omega (arith, pre .3, second-kept m (c .before .before .before))))
+    let l = second-long m j in
+    (k .0, (pre .0, pre .1, k .1, l .0, l .1, omega (arith, pre .5, l .2)))
 
 third-walk : (m : ℕ) (c : lts.Joined4 (known m) (here m) gather-loop-vars.Post)
-    → let n = c .before .before .before .before .before .before .before .before .before .before in
+    → let j = c .before .before in
+    let n = j .before .before .before .before .before .before .before .before .before .before in
     let a = n .before .before .before .before .before .before .before .args in
-    LoopWalk (a .tables .now) (a .outer .now) (n .before .kids-of .result .third) true (c .before .before .if3 .s) (c .before .before .if3 .spans) (c .if4 .s) (c .if4 .spans)
-    × (length (c .if4 .spans) ≡ length (c .before .before .if3 .spans))
+    Walked (a .tables .now) (a .outer .now) (a .locals .now) (n .before .kids-of .result .third) (j .if3 .s, j .if3 .unscoped, j .if3 .inputs, j .if3 .spans)
+    (c .if4 .s, c .if4 .unscoped, c .if4 .inputs, c .if4 .spans)
 third-walk m c =
-    let start = c .before .before .before .before .before .before .before .before .before .before .before .before .before .before .before .before .before in
+    let start = c .before .before .before .before .before .before .before .before .before .before .before .before .before .before .before .before .before .before .before in
     let a = start .args in
-    guarded-list (λ n. LoopWalk (a .tables .now) (a .outer .now) n true) (walk-none _ _ (start .pre .1 .0) true) _ _ _ _ _
-    (λ w. (_, _, w .2 .ensures, w .2 .kept .1 .1 .1 .1 .1 .0, w .5, w .6)) (λ w. (w .0 .left, w .1, w .2)) (c .if4 .came)
+    guarded (Walked (a .tables .now) (a .outer .now) (a .locals .now)) (walked-none _ _ _ (start .pre .1 .0)) _ _ _
+    (λ w. (_, (w .4 .ensures, w .4 .kept .1 .1 .1 .1 .1 .1 .1 .1 .0), λ i. (w .10 i, w .7 i, w .8 i, w .9 i))) (λ w. (w .0 .left, λ i. (w .4 i, w .1 i, w .2 i, w .3 i))) (c .if4 .came)
 
-third-kept : (m : ℕ) (c : lts.Joined4 (known m) (here m) gather-loop-vars.Post) → length (c .if4 .spans) ≡ length (c .before .before .before .before .before .before .before .before .before .before .before .before .before .before .before .before .before .args .spans .now)
-third-kept m c = third-walk m c .1 ∙ second-kept m (c .before .before)
+third-long : (m : ℕ) (c : lts.Joined4 (known m) (here m) gather-loop-vars.Post)
+    → Long (c .if4 .unscoped) (c .if4 .inputs) (c .if4 .spans) (c .before .before .before .before .before .before .before .before .before .before .before .before .before .before .before .before .before .before .before .args .spans .now)
+third-long m c =
+    let l = second-long m (c .before .before) in
+    let w = third-walk m c in
+    (w .0 .unscoped-long ∙ l .0, w .0 .inputs-long ∙ l .1, w .1 ∙ l .2)
 
 -- The turn of a row, with the walk over the rest of its chain.
-turned : (m : ℕ) (c : lts.Joined4 (known m) (here m) gather-loop-vars.Post) (s : Scope) (l : List ℕ)
-    → let n = c .before .before .before .before .before .before .before .before .before .before in
+turned : (m : ℕ) (c : lts.Joined4 (known m) (here m) gather-loop-vars.Post) (g : Bool) (v j l : List ℕ)
+    → let n = c .before .before .before .before .before .before .before .before .before .before .before .before in
     let a = n .before .before .before .before .before .before .before .args in
-    LoopWalk (a .tables .now) (a .outer .now) (n .next-of .result) true (c .if4 .s) (c .if4 .spans) s l
-    → LoopWalk (a .tables .now) (a .outer .now) (a .row) (a .rest) (a .scope) (a .spans .now) s l
-turned m c s l rest =
-    let n = c .before .before .before .before .before .before .before .before .before .before in
+    LoopWalk (a .tables .now) (a .outer .now) (n .next-of .result) true (scopeIn (a .locals .now) (c .if4 .unscoped) (c .if4 .inputs) (c .if4 .s)) (c .if4 .spans) (scopeIn (a .locals .now) v j g) l
+    → LoopWalk (a .tables .now) (a .outer .now) (a .row) (a .rest) (scopeIn (a .locals .now) (a .unscoped .now) (a .inputs .now) (a .uses)) (a .spans .now) (scopeIn (a .locals .now) v j g) l
+turned m c g v j l rest =
+    let step = c .before .before .before .before .before .before .before .before in
+    let n = step .before .before .before .before in
     let r = n .before .before in
     let start = r .before .before .before .before .before in
     walk-turn _ _ (start .pre .1 .0) _ (r .before .if1 .left) (start .pre .1 .2) (start .args .rest) _ (row-is m r) _ (n .before .kids-of .ensures) _ (n .next-of .ensures)
-    _ _ _ _ _ _ _ _ _ _ _ _ (c .before .before .before .before .before .before .before .before .loop-step .ensures) (first-walk m (c .before .before .before .before) .0) (second-walk m (c .before .before) .0) (third-walk m c .0) rest
+    _ _ _ _ _ _ _ _ _ _ _ _ (step .loop-step .ensures .done) (first-walk m (c .before .before .before .before) .0 .done) (second-walk m (c .before .before) .0 .done) (third-walk m c .0 .done) rest
 
 same-length : (m : ℕ) → lts.Need-same-length (known m) (here m) gather-loop-vars.Post
-same-length m c = third-kept m (c .before)
+same-length m c = third-long m (c .before) .2
 
 returns-2 : (m : ℕ) → lts.Need-returns-2 (known m) (here m) gather-loop-vars.Post
 returns-2 m c =
-    let start = c .before .before .before .before .before .before .before .before .before .before .before .before .before .before .before .before .before .before in
+    let j = c .before in
+    let start = j .before .before .before .before .before .before .before .before .before .before .before .before .before .before .before .before .before .before .before in
     let a = start .args in
-    let if4 = c .before .if4 in
-    turned m (c .before) _ _
-    (subst (λ (n : ℕ). LoopWalk (a .tables .now) (a .outer .now) n true (if4 .s) (if4 .spans) (if4 .s) (if4 .spans))
-    (sym (c .if5 .taken)) (walk-none _ _ (start .pre .1 .0) true (if4 .s) (if4 .spans)))
+    let l = third-long m j in
+    let s = scopeIn (a .locals .now) (j .if4 .unscoped) (j .if4 .inputs) (j .if4 .s) in
+    record {
+      unscoped-long = l .0 ∙ sym (start .pre .1 .3);
+      inputs-long = l .1 ∙ sym (start .pre .1 .4);
+      done = turned m j _ _ _ _
+          (subst (λ (n : ℕ). LoopWalk (a .tables .now) (a .outer .now) n true s (j .if4 .spans) s (j .if4 .spans))
+          (sym (c .if5 .taken)) (walk-none _ _ (start .pre .1 .0) true s (j .if4 .spans)));
+    }
 
 next-requires : (m : ℕ) → lts.Need-gather-loop-vars-requires-4 (known m) (here m) gather-loop-vars.Post
 next-requires m c κs =
-    let n = c .before .before .before .before .before .before .before .before .before .before .before .before in
+    let j = c .before .before .before .before in
+    let n = j .before .before .before .before .before .before .before .before .before .before .before .before in
     let pre = n .before .before .before .before .before .before .before .pre .1 in
     let k = ready m n .next in
-    (rw (n .next-of .ensures) (k .0), (pre .0, pre .1, rw (n .next-of .ensures) (k .1), omega (arith, pre .3, third-kept m (c .before .before))))
+    let l = third-long m j in
+    (rw (n .next-of .ensures) (k .0), (pre .0, pre .1, rw (n .next-of .ensures) (k .1), l .0, l .1, omega (arith, pre .5, l .2)))
 
 same-length-2 : (m : ℕ) → lts.Need-same-length-2 (known m) (here m) gather-loop-vars.Post
-same-length-2 m c = c .before .before .gather-loop-vars4 .kept .1 .1 .1 .1 .1 .0 ∙ third-kept m (c .before .before .before .before .before)
+same-length-2 m c = c .before .before .gather-loop-vars4 .kept .1 .1 .1 .1 .1 .1 .1 .1 .0 ∙ third-long m (c .before .before .before .before .before .before .before) .2
 
 returns-3 : (m : ℕ) → lts.Need-returns-3 (known m) (here m) gather-loop-vars.Post
-returns-3 m c = turned m (c .before .before .before .before .before) _ _ (c .before .before .gather-loop-vars4 .ensures)
+returns-3 m c =
+    let last = c .before .before .gather-loop-vars4 .ensures in
+    let j = c .before .before .before .before .before .before .before in
+    let pre = j .before .before .before .before .before .before .before .before .before .before .before .before .before .before .before .before .before .before .before .pre .1 in
+    let l = third-long m j in
+    record {
+      unscoped-long = last .unscoped-long ∙ l .0 ∙ sym (pre .3);
+      inputs-long = last .inputs-long ∙ l .1 ∙ sym (pre .4);
+      done = turned m j _ _ _ _ (last .done);
+    }
 
 pub +gather-loop-vars-spec : {M : Type 1} → statement M
 +gather-loop-vars-spec = close μ λ m.

@@ -1,4 +1,5 @@
--- Inputs first, then indexes.
+-- The two walks, one after the other.
+use mathlib.Core.Path.{_∙_}
 use borrow.Author.Needs.{needs}
 use Rattle.gather.specs.Vars.{read}
 use Rattle.gather.proofs.vars.gather_read.Statement.{statement}
@@ -8,15 +9,21 @@ gather-input-vars-requires : tie.Need-gather-input-vars-requires
 gather-input-vars-requires c κs = search needs
 
 gather-loop-vars-requires : tie.Need-gather-loop-vars-requires
-gather-loop-vars-requires c κs = search needs
+gather-loop-vars-requires c κs =
+    let walk = c .before .before .before .before in
+    let asked = gather-input-vars-requires (walk .before) (walk .gather-input-vars .lifetimes) in
+    let pre = walk .before .before .before .before .before .before .before .before .before .pre in
+    (pre .0, pre .1, pre .2, asked .3, walk .gather-input-vars .ensures .long ∙ asked .4, pre .3)
 
 same-length : tie.Need-same-length
 same-length c = search needs
 
 returns : tie.Need-returns
 returns c =
-    let a = c .before .before .before .before .before .before .before .before .args in
-    read (a .tables .now) (a .outer .now) (a .row) (a .rest) _ _ _ _ _ (c .before .before .before .before .gather-input-vars .ensures) (c .before .before .gather-loop-vars .ensures)
+    let loops = c .before .before in
+    let walk = loops .before .before .before .before .before in
+    let start = walk .before .before .before .before .before .before .before .before .before in
+    read _ _ (start .args .row) (start .args .rest) (start .args .scope) _ _ _ _ (walk .gather-input-vars .ensures .done _) (loops .gather-loop-vars .ensures .done)
 
 pub gather-read-spec : {M : Type 1} → statement M
 gather-read-spec =

@@ -1,14 +1,16 @@
 -- The walk goes on to later rows only, and what the calls on the way append is what a row's turn appends.
-use mathlib.Core.Path.{_≡_, _∙_}
+use mathlib.Core.Path.{_≡_, refl, _∙_}
+use mathlib.Core.List.{List}
 use Prim.Native.Nat.{ℕ, _<_}
 use native.Mathlib.Omega.{arith}
+use lib.ListN.{length}
 use borrow.Author.Needs.{needs}
 use borrow.Fn.Kinds.{In}
 use borrow.Fn.PlainCycle.{Measures, is, falls, and}
 use Rattle.trees.specs.Sheet.{rowAt, row-fields}
-use Rattle.gather.specs.Walking.{remains, row-low, low-name}
+use Rattle.gather.specs.Walking.{remains, row-low, low-name, guarded-list}
 use Rattle.used.specs.Assigned.{LeafCalls, leaf-calls}
-use Rattle.used.specs.Index.{index-none, leaf-fits, inner-fits, next-fits, index-turn}
+use Rattle.used.specs.Index.{IndexDefined, index-none, leaf-fits, inner-fits, next-fits, index-turn}
 use Rattle.used.proofs.index.define_index.Reads as define-index
 use Rattle.used.proofs.index.define_index.Kinds as kinds
 use Rattle.used.proofs.index.+define_index.Lts-define_index as lts
@@ -81,11 +83,11 @@ ready m c =
 
 inner-requires : (m : ℕ) → lts.Need-define-index-requires (known m) (here m) define-index.Post
 inner-requires m c κs =
-    let n = c .before .before .before .before .before in
+    let d = c .before .before .before .before in
+    let n = d .before .before in
     let r = n .before .before in
     let pre = r .before .before .before .before .pre .1 in
-    let k = ready m n .inner in
-    let d = c .before .before .before in (
+    let k = ready m n .inner in (
       k .0,
       (
         pre .0,
@@ -95,34 +97,68 @@ inner-requires m c κs =
       ),
     )
 
-next-requires : (m : ℕ) → lts.Need-define-index-requires-2 (known m) (here m) define-index.Post
-next-requires m c κs =
-    let n = c .before .before .before .before .before .before .before .before .before in
+-- What the row is made of, walked where there is something.
+inner-walk : (m : ℕ) (c : lts.Joined2 (known m) (here m) define-index.Post)
+    → let d = c .before .before .before in
+    let n = d .before .before in
+    let a = n .before .before .before .before .before .before .args in
+    IndexDefined (a .tables .now) (a .width) (a .scope) (a .statement) (n .before .pattern-of .result) (a .used) (d .define-leaf .last .1 .1 .1 .1 .1 .0) (c .if2 .definitions)
+    (d .define-leaf .result) (c .if2 .n)
+    × (length (c .if2 .definitions) ≡ length (d .define-leaf .last .1 .1 .1 .1 .1 .0))
+inner-walk m c =
+    let start = c .before .before .before .before .before .before .before .before .before .before .before in
+    let a = start .args in
+    guarded-list (λ i x l y r. IndexDefined (a .tables .now) (a .width) (a .scope) (a .statement) i (a .used) l r x y) (λ x l. index-none _ _ _ (start .pre .1 .0) _ refl _ _ l x) _ _ _ _ _
+    (λ w. (_, _, w .2 .ensures, w .2 .kept .1 .1 .1 .1 .1 .1 .0, w .5, w .6)) (λ w. (w .0 .left, w .1, w .2)) (c .if2 .came)
+
+kept : (m : ℕ) (c : lts.Joined2 (known m) (here m) define-index.Post)
+    → length (c .if2 .definitions) ≡ length (c .before .before .before .before .before .before .before .before .before .before .before .args .definitions .now)
+kept m c = inner-walk m c .1 ∙ c .before .before .before .define-leaf .kept .1 .1 .1 .1 .1 .0
+
+-- The turn of a row, with the walk over the rest of its chain.
+turned : (m : ℕ) (c : lts.Joined2 (known m) (here m) define-index.Post) (y : ℕ) (l : List ℕ)
+    → let n = c .before .before .before .before .before in
+    let a = n .before .before .before .before .before .before .args in
+    IndexDefined (a .tables .now) (a .width) (a .scope) (a .statement) (n .next-of .result) (a .used) (c .if2 .definitions) l (c .if2 .n) y
+    → IndexDefined (a .tables .now) (a .width) (a .scope) (a .statement) (a .row) (a .used) (a .definitions .now) l (a .count) y
+turned m c y l rest =
+    let d = c .before .before .before in
+    let n = d .before .before in
     let r = n .before .before in
     let pre = r .before .before .before .before .pre .1 in
-    let k = ready m n .next in
-    let d = c .before .before .before .before .before .before .before in
-    let i = c .before .before .before in (
+    index-turn _ _ _ (pre .0) _ (r .before .if1 .left) (pre .1) _ (row-is m r) _ (n .before .pattern-of .ensures) _ (n .next-of .ensures)
+    _ _ _ _ _ _ _ _ _ _ (d .define-leaf .ensures) (inner-walk m c .0) rest
+
+same-length : (m : ℕ) → lts.Need-same-length (known m) (here m) define-index.Post
+same-length m c = kept m (c .before)
+
+returns-2 : (m : ℕ) → lts.Need-returns-2 (known m) (here m) define-index.Post
+returns-2 m c =
+    let pre = c .before .before .before .before .before .before .before .before .before .before .before .before .pre .1 in
+    turned m (c .before) _ _ (index-none _ _ _ (pre .0) _ (c .if3 .taken) _ _ _ _)
+
+next-requires : (m : ℕ) → lts.Need-define-index-requires-2 (known m) (here m) define-index.Post
+next-requires m c κs =
+    let j = c .before .before in
+    let d = j .before .before .before in
+    let n = d .before .before in
+    let r = n .before .before in
+    let pre = r .before .before .before .before .pre .1 in
+    let k = ready m n .next in (
       k .0,
       (
         pre .0,
         k .1,
         next-fits _ _ _ (pre .0) _ (r .before .if1 .left) (pre .1) _ (row-is m r) _ (n .before .pattern-of .ensures) _ (n .next-of .ensures)
-            _ _ _ _ (pre .2) _ _ _ (d .define-leaf .ensures) _ _ (i .define-index .ensures) _
-            (omega (arith, d .define-leaf .kept .1 .1 .1 .1 .1 .0, i .define-index .kept .1 .1 .1 .1 .1 .1 .0)),
+            _ _ _ _ (pre .2) _ _ _ (d .define-leaf .ensures) _ _ (inner-walk m j .0) _ (kept m j),
       ),
     )
 
-same-length : (m : ℕ) → lts.Need-same-length (known m) (here m) define-index.Post
-same-length m c = search needs
+same-length-2 : (m : ℕ) → lts.Need-same-length-2 (known m) (here m) define-index.Post
+same-length-2 m c = c .before .before .define-index2 .kept .1 .1 .1 .1 .1 .1 .0 ∙ kept m (c .before .before .before .before .before)
 
-returns-2 : (m : ℕ) → lts.Need-returns-2 (known m) (here m) define-index.Post
-returns-2 m c =
-    let n = c .before .before .before .before .before .before .before .before .before .before .before .before in
-    let r = n .before .before in
-    let pre = r .before .before .before .before .pre .1 in
-    index-turn _ _ _ (pre .0) _ (r .before .if1 .left) (pre .1) _ (row-is m r) _ (n .before .pattern-of .ensures) _ (n .next-of .ensures)
-    _ _ _ _ _ _ _ _ _ _ (c .before .before .before .before .before .before .before .before .before .before .define-leaf .ensures) (c .before .before .before .before .before .before .define-index .ensures) (c .before .before .define-index2 .ensures)
+returns-3 : (m : ℕ) → lts.Need-returns-3 (known m) (here m) define-index.Post
+returns-3 m c = turned m (c .before .before .before .before .before) _ _ (c .before .before .define-index2 .ensures)
 
 pub +define-index-spec : {M : Type 1} → statement M
 +define-index-spec = close μ λ m.
@@ -133,6 +169,8 @@ pub +define-index-spec : {M : Type 1} → statement M
     (next-of-requires m)
     (leaf-requires m)
     (inner-requires m)
-    (next-requires m)
     (same-length m)
     (returns-2 m)
+    (next-requires m)
+    (same-length-2 m)
+    (returns-3 m)
