@@ -11,6 +11,7 @@ pub mod Asks
 pub mod Does
 pub mod ComprRows
 pub mod ComprWalk
+pub mod Guards
 pub mod StmtSteps
 pub mod LiteralSteps
 pub mod AllUsed

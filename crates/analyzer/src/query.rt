@@ -71,7 +71,7 @@ const EXPR: u16 = 3;
 const EVERY: u16 = 5;
 
 // `process_comprs`: the comprehensions of the expression at a row, with the rest of its chain if `rest`. Each query is analysed once, and
-// what it takes from around it rises.
+// what it takes from around it rises. A call on no row would only copy the progress, so none is made.
 fn process_comprs(
     tables: &[u16],
     inner: &[u32],
@@ -105,9 +105,18 @@ fn process_comprs(
         width,
     );
     let mut s = after_compr(w, p, fault, firsts, work);
-    s = process_comprs(tables, inner, k.first, true, levels, s, firsts, work);
-    s = process_comprs(tables, inner, k.second, true, levels, s, firsts, work);
-    s = process_comprs(tables, inner, k.third, true, levels, s, firsts, work);
+    if k.first != 0 {
+        s = process_comprs(tables, inner, k.first, true, levels, s, firsts, work);
+    }
+    if k.second != 0 {
+        s = process_comprs(tables, inner, k.second, true, levels, s, firsts, work);
+    }
+    if k.third != 0 {
+        s = process_comprs(tables, inner, k.third, true, levels, s, firsts, work);
+    }
+    if next == 0 {
+        return s;
+    }
     process_comprs(tables, inner, next, true, levels, s, firsts, work)
 }
 
@@ -136,8 +145,12 @@ fn use_expr(
     }
     let own = u.names;
     let mut s = u.progress;
-    s = process_comprs(tables, inner, comprs, rest, levels, s, firsts, work);
-    s = process_comprs(tables, inner, mods, true, levels, s, firsts, work);
+    if comprs != 0 {
+        s = process_comprs(tables, inner, comprs, rest, levels, s, firsts, work);
+    }
+    if mods != 0 {
+        s = process_comprs(tables, inner, mods, true, levels, s, firsts, work);
+    }
     let names = all_used(tables, s, own, comprs, rest, context, work);
     Using {
         progress: s,
@@ -196,28 +209,35 @@ fn process_pairs(
     let b = row_at(tables, right);
     let pair = pair_of(tables, left, right, a, b);
     let mut s = differ(pair, b, p);
-    s = assign_pair(
-        tables,
-        inner,
-        pair.left,
-        pair.right,
-        check,
-        context,
-        s,
-        firsts,
-        work,
-    );
-    s = process_pairs(
-        tables,
-        inner,
-        pair.lefts,
-        pair.rights,
-        check,
-        context,
-        s,
-        firsts,
-        work,
-    );
+    if pair.left != 0 {
+        s = assign_pair(
+            tables,
+            inner,
+            pair.left,
+            pair.right,
+            check,
+            context,
+            s,
+            firsts,
+            work,
+        );
+    }
+    if pair.lefts != 0 {
+        s = process_pairs(
+            tables,
+            inner,
+            pair.lefts,
+            pair.rights,
+            check,
+            context,
+            s,
+            firsts,
+            work,
+        );
+    }
+    if a.next == 0 {
+        return s;
+    }
     process_pairs(
         tables,
         inner,
@@ -254,7 +274,12 @@ fn process_non_var(
     let u = use_vars(tables, none, statement, row, false, p, firsts, work);
     let comprs = u.comprs;
     let mut s = fail_if_some(p.count, u.progress);
-    s = process_comprs(tables, inner, comprs, false, levels, s, firsts, work);
+    if comprs != 0 {
+        s = process_comprs(tables, inner, comprs, false, levels, s, firsts, work);
+    }
+    if mods == 0 {
+        return s;
+    }
     process_comprs(tables, inner, mods, true, levels, s, firsts, work)
 }
 
@@ -277,8 +302,16 @@ fn process_non_vars(
     let w = row_at(tables, row);
     let items = pattern_of(w);
     let other = non_var(tables, p, row, w);
-    let mut s = process_non_var(tables, inner, other, context, p, firsts, work);
-    s = process_non_vars(tables, inner, items, context, s, firsts, work);
+    let mut s = p;
+    if other != 0 {
+        s = process_non_var(tables, inner, other, context, p, firsts, work);
+    }
+    if items != 0 {
+        s = process_non_vars(tables, inner, items, context, s, firsts, work);
+    }
+    if w.next == 0 {
+        return s;
+    }
     process_non_vars(tables, inner, w.next as usize, context, s, firsts, work)
 }
 
@@ -534,25 +567,30 @@ pub fn analyze_query(
     );
     let open = opened(s);
     enclose(outer, open.scope, &spans, &mut inner);
-    let mut t = process_comprs(
-        tables,
-        &inner,
-        key,
-        true,
-        levels - 1,
-        open,
-        &mut firsts,
-        work,
-    );
-    t = process_comprs(
-        tables,
-        &inner,
-        value,
-        true,
-        levels - 1,
-        t,
-        &mut firsts,
-        work,
-    );
+    let mut t = open;
+    if key != 0 {
+        t = process_comprs(
+            tables,
+            &inner,
+            key,
+            true,
+            levels - 1,
+            open,
+            &mut firsts,
+            work,
+        );
+    }
+    if value != 0 {
+        t = process_comprs(
+            tables,
+            &inner,
+            value,
+            true,
+            levels - 1,
+            t,
+            &mut firsts,
+            work,
+        );
+    }
     finish(tables, query, s.scope, t, &spans, work)
 }

@@ -86,10 +86,14 @@ fn other_used(
     let none = Names::empty();
     let by = used_names(tables, scope, none, row, false, names);
     let own = comprs_used(tables, scope, work, row, false, by, width);
+    if mods == 0 {
+        return own;
+    }
     comprs_used(tables, scope, work, mods, true, own, width)
 }
 
-// The parts of the pattern at a row, with the rest of its chain, that are no variables.
+// The parts of the pattern at a row, with the rest of its chain, that are no variables. A call on no row would only copy the progress, so
+// none is made.
 fn leaves_used(
     tables: &[u16],
     p: Progress,
@@ -108,8 +112,16 @@ fn leaves_used(
     let items = pattern_of(w);
     let other = non_var(tables, p, row, w);
     let width = p.width;
-    let mut s = other_used(tables, p.scope, other, mods, work, names, width);
-    s = leaves_used(tables, p, items, mods, work, s);
+    let mut s = names;
+    if other != 0 {
+        s = other_used(tables, p.scope, other, mods, work, names, width);
+    }
+    if items != 0 {
+        s = leaves_used(tables, p, items, mods, work, s);
+    }
+    if w.next == 0 {
+        return s;
+    }
     leaves_used(tables, p, w.next as usize, mods, work, s)
 }
 

@@ -6,9 +6,11 @@ use borrow.Fn.Kinds.{In}
 use borrow.Fn.PlainCycle.{Measures, is, falls, and}
 use mathlib.Core.Bool.{true}
 use Rattle.trees.specs.Sheet.{rowAt, row-fields}
-use Rattle.gather.specs.Walking.{Falls, remains, row-low, low-name, pattern-calls}
+use Rattle.names.specs.declared.Names.{Names}
+use Rattle.gather.specs.Walking.{Falls, remains, row-low, low-name, pattern-calls, guarded}
+use Rattle.analyzer.specs.AllUsed.{OtherUsed, LeavesUsed}
 use Rattle.analyzer.specs.Patterns.{non-var-low}
-use Rattle.analyzer.specs.PatternUses.{leaves-used-none, leaves-used-turn}
+use Rattle.analyzer.specs.PatternUses.{other-none, leaves-used-none, leaves-used-turn}
 use Rattle.analyzer.proofs.used_by.leaves_used.Reads as leaves-used
 use Rattle.analyzer.proofs.used_by.leaves_used.Kinds as kinds
 use Rattle.analyzer.proofs.used_by.+leaves_used.Lts-leaves_used as lts
@@ -68,9 +70,10 @@ non-var-requires m c κs =
 
 other-requires : (m : ℕ) → lts.Need-other-used-requires (known m) (here m) leaves-used.Post
 other-requires m c κs =
-    let start = c .before .before .before .before .before .before in
+    let n = c .before in
+    let start = n .before .before .before .before .before .before in
     let pre = start .pre .1 in
-    (pre .0, non-var-low (start .args .tables .now) (start .args .p .scope) _ (c .before .before .row-at .result) _ (c .non-var .ensures) _ (pre .1), pre .2, pre .3)
+    (pre .0, non-var-low (start .args .tables .now) (start .args .p .scope) _ (n .before .before .row-at .result) _ (n .non-var .ensures) _ (pre .1), pre .2, pre .3)
 
 ready : (m : ℕ) (c : lts.After-pattern-of (known m) (here m) leaves-used.Post)
     → let t = c .before .before .before .before .before .args .tables .now in
@@ -82,28 +85,59 @@ ready m c =
 
 items-requires : (m : ℕ) → lts.Need-leaves-used-requires (known m) (here m) leaves-used.Post
 items-requires m c κs =
-    let p = c .before .before in
+    let p = c .before .before .before in
     let pre = p .before .before .before .before .before .pre .1 in
     let k = ready m p .0 in
     (k .0, (pre .0, k .1, pre .2, pre .3))
+
+-- The row itself and the parts of a pattern, each walked where there is one.
+other-walk : (m : ℕ) (c : lts.Joined2 (known m) (here m) leaves-used.Post)
+    → let a = c .before .before .before .before .before .before .before .args in
+    OtherUsed (a .tables .now) (a .p .width) (a .p .scope) (c .before .non-var .result) (a .mods) (a .work .now) (a .names) (c .if2 .s)
+other-walk m c =
+    let a = c .before .before .before .before .before .before .before .args in
+    guarded (λ n. OtherUsed (a .tables .now) (a .p .width) (a .p .scope) n (a .mods) (a .work .now)) (other-none (a .tables .now) (a .p .width) (a .p .scope) (a .work .now) 0 refl (a .mods)) _ _ _
+    (λ w. (_, w .1 .ensures, w .2)) (λ w. (w .0 .left, w .1)) (c .if2 .came)
+
+items-walk : (m : ℕ) (c : lts.Joined3 (known m) (here m) leaves-used.Post)
+    → let a = c .before .before .before .before .before .before .before .before .args in
+    LeavesUsed (a .tables .now) (a .p .width) (a .p .scope) (c .before .before .before .pattern-of .result) (a .mods) (a .work .now) (c .before .if2 .s) (c .if3 .s)
+items-walk m c =
+    let start = c .before .before .before .before .before .before .before .before in
+    let a = start .args in
+    guarded (λ n. LeavesUsed (a .tables .now) (a .p .width) (a .p .scope) n (a .mods) (a .work .now)) (leaves-used-none (a .tables .now) (a .p .width) (a .p .scope) (a .work .now) (start .pre .1 .0) 0 refl (a .mods)) _ _ _
+    (λ w. (_, w .1 .ensures, w .2)) (λ w. (w .0 .left, w .1)) (c .if3 .came)
+
+-- The turn of a row, with the walk over the rest of its chain.
+turned : (m : ℕ) (c : lts.Joined3 (known m) (here m) leaves-used.Post) (b : Names)
+    → let a = c .before .before .before .before .before .before .before .before .args in
+    LeavesUsed (a .tables .now) (a .p .width) (a .p .scope) (c .before .before .before .before .row-at .result .next) (a .mods) (a .work .now) (c .if3 .s) b
+    → LeavesUsed (a .tables .now) (a .p .width) (a .p .scope) (a .row) (a .mods) (a .work .now) (a .names) b
+turned m c b rest =
+    let n = c .before .before in
+    let r = n .before .before in
+    let start = r .before .before .before .before in
+    leaves-used-turn _ (start .args .p .width) (start .args .p .scope) (start .args .work .now) (start .pre .1 .0) _ (r .before .if1 .left) (start .pre .1 .1) _ (row-is m r) _ (n .before .pattern-of .ensures) _
+    (n .non-var .ensures) (start .args .mods) _ _ _ _ (other-walk m (c .before)) (items-walk m c) rest
+
+returns-2 : (m : ℕ) → lts.Need-returns-2 (known m) (here m) leaves-used.Post
+returns-2 m c =
+    let start = c .before .before .before .before .before .before .before .before .before .before in
+    let a = start .args in
+    turned m (c .before .before) _ (leaves-used-none (a .tables .now) (a .p .width) (a .p .scope) (a .work .now) (start .pre .1 .0) _ (c .if4 .taken) (a .mods) _)
 
 cast-next : (m : ℕ) → lts.Need-cast-leaves-used (known m) (here m) leaves-used.Post
 cast-next m c = search needs
 
 next-requires : (m : ℕ) → lts.Need-leaves-used-requires-2 (known m) (here m) leaves-used.Post
 next-requires m c κs =
-    let p = c .before .before .before .before in
+    let p = c .before .before .before .before .before .before in
     let pre = p .before .before .before .before .before .pre .1 in
     let k = ready m p .1 in
     (k .0, (pre .0, k .1, pre .2, pre .3))
 
-returns-2 : (m : ℕ) → lts.Need-returns-2 (known m) (here m) leaves-used.Post
-returns-2 m c =
-    let n = c .before .before .before .before in
-    let r = n .before .before in
-    let start = r .before .before .before .before in
-    leaves-used-turn _ (start .args .p .width) (start .args .p .scope) (start .args .work .now) (start .pre .1 .0) _ (r .before .if1 .left) (start .pre .1 .1) _ (row-is m r) _ (n .before .pattern-of .ensures) _
-    (n .non-var .ensures) (start .args .mods) _ _ _ _ (c .before .before .before .other-used .ensures) (c .before .before .leaves-used .ensures) (c .leaves-used2 .ensures)
+returns-3 : (m : ℕ) → lts.Need-returns-3 (known m) (here m) leaves-used.Post
+returns-3 m c = turned m (c .before .before .before .before) _ (c .leaves-used2 .ensures)
 
 pub +leaves-used-spec : {M : Type 1} → statement M
 +leaves-used-spec = close μ λ m.
@@ -114,6 +148,7 @@ pub +leaves-used-spec : {M : Type 1} → statement M
     (non-var-requires m)
     (other-requires m)
     (items-requires m)
+    (returns-2 m)
     (cast-next m)
     (next-requires m)
-    (returns-2 m)
+    (returns-3 m)

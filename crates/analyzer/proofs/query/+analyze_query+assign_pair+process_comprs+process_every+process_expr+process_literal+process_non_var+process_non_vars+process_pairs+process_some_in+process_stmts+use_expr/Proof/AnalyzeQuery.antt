@@ -1,11 +1,17 @@
 -- `analyze_query`: what is known at each place (`begins`, `starts`, `encloses`) is all that the calls and the end ask for (OneQuery.antt).
-use mathlib.Core.Path.{sym, _∙_}
+use mathlib.Core.Path.{sym}
+use mathlib.Core.Bool.{true}
+use mathlib.Core.List.{List}
 use Prim.Native.Nat.{ℕ, _-_}
 use native.Mathlib.Omega.{arith}
 use lib.ListN.{replicate}
 use borrow.Author.Needs.{needs}
 use Rattle.rows.specs.Zeros.{zero-at}
+use Rattle.trees.specs.Traverse.{comprs}
+use Rattle.gather.specs.Exprs.{exprBy}
 use Rattle.analyzer.specs.Asks.{Begun}
+use Rattle.analyzer.specs.Does.{DoesComprs}
+use Rattle.analyzer.specs.Guards.{Keeps, walked-comprs, last-comprs}
 use Rattle.analyzer.specs.OneQuery.{stmts-below, comprs-below, does-none, does-nothing, begun-of, Started, row-high, asks-stmts, Enclosed, asks-key, asks-value, room-last, based-last, does-query}
 use Rattle.analyzer.proofs.finish.begun.Reads as begun-reads
 use Rattle.analyzer.proofs.finish.finish.Reads as finish-reads
@@ -152,79 +158,107 @@ pub slice-aggregate-process-comprs : (m : ℕ) → analyze-query-lts.Need-slice-
 slice-aggregate-process-comprs m c = search needs
 
 pub sub-process-comprs : (m : ℕ) → analyze-query-lts.Need-sub-process-comprs (known m) (analyze-query-at m) analyze-query.Post
-sub-process-comprs m c = omega (arith, c .before .before .before .before .before .before .before .before .before .before .before .before .before .before .before .before .before .before .if2 .left)
+sub-process-comprs m c = omega (arith, c .before .before .before .before .before .before .before .before .before .before .before .before .before .before .before .before .before .before .before .if2 .left)
 
 pub slice-aggregate-process-comprs-2 : (m : ℕ) → analyze-query-lts.Need-slice-aggregate-process-comprs-2 (known m) (analyze-query-at m) analyze-query.Post
 slice-aggregate-process-comprs-2 m c = search needs
 
 pub process-comprs-requires : (m : ℕ) → analyze-query-lts.Need-process-comprs-requires (known m) (analyze-query-at m) analyze-query.Post
 process-comprs-requires m c κs =
-    let start = c .before .before .before .before .before .before .before .before .before .before .before .before .before .before .before .before .before .before .before .before .before .before .before .before .before in
-    let pre = start .pre .1 in
-    let b = begins m (c .before .before .before .before .before .before .before .before .before .before .before .before .before .before .before .before .before .before .before .before) in
-    let did = c .before .before .before .before .before .before .before .before .before .before .before .process-stmts in (
-      comprs-below _ (pre .0) _ m (c .before .before .before .before .before .before .before .before .before .before .before .before .before .before .before .before .before .before .before .before .if2 .left) (start .pre .0) _,
+    let e = c .before .before .before .before .before in
+    let some = e .before .before .before .before .before .before .before .before .before .before .before .before .before .before .before .before in
+    let start = some .before .before .before .before .before in
+    let pre = start .pre .1 in (
+      comprs-below _ (pre .0) _ m (some .if2 .left) (start .pre .0) _,
       (
         pre .0,
-        omega (arith, c .before .before .before .before .enclose .kept .1 .1 .1 .0),
-        omega (arith, did .kept .1 .1 .1 .1 .1 .1 .1 .0),
-        b .key-low,
-        asks-key _ _ _ _ _ _ _ _ _ _ _ _ _ _ (encloses m (c .before .before .before .before)),
+        omega (arith, e .enclose .kept .1 .1 .1 .0),
+        omega (arith, e .before .before .before .before .before .before .before .process-stmts .kept .1 .1 .1 .1 .1 .1 .1 .0),
+        begins m some .key-low,
+        asks-key _ _ _ _ _ _ _ _ _ _ _ _ _ _ (encloses m e),
       ),
     )
+
+-- The comprehensions of the outputs, each walked where there is a row.
+key-walk : (m : ℕ) (c : analyze-query-lts.Joined3 (known m) (analyze-query-at m) analyze-query.Post) →
+    let e = c .before .before in
+    let did = e .before .before .before .before .before .before .before .process-stmts in
+    let a = e .before .before .before .before .before .before .before .before .before .before .before .before .before .before .before .before .before .before .before .before .before .args in
+    Keeps (DoesComprs (a .tables .now) (e .enclose .last .1 .1 .1 .0) (comprs (exprBy (a .tables .now) true (a .key))) (a .levels - 1))
+    (e .before .before .before .opened .result) (did .last .1 .1 .1 .1 .1 .1 .1 .0) (did .last .1 .1 .1 .1 .1 .1 .1 .1 .0) (c .if3 .t) (c .if3 .firsts) (c .if3 .work)
+key-walk m c =
+    let start = c .before .before .before .before .before .before .before .before .before .before .before .before .before .before .before .before .before .before .before .before .before .before .before in
+    walked-comprs _ _ _ (start .pre .1 .0) true _ _ _ _ _ _ _
+    (λ w. (_, _, _, (w .4 .ensures, w .4 .kept .1 .1 .1 .1 .1 .1 .0, w .4 .kept .1 .1 .1 .1 .1 .1 .1 .0), w .9, w .8, w .10))
+    (λ w. (w .0 .left, w .2, w .1, w .3)) (c .if3 .came)
 
 pub slice-aggregate-process-comprs-3 : (m : ℕ) → analyze-query-lts.Need-slice-aggregate-process-comprs-3 (known m) (analyze-query-at m) analyze-query.Post
 slice-aggregate-process-comprs-3 m c = search needs
 
 pub sub-process-comprs-2 : (m : ℕ) → analyze-query-lts.Need-sub-process-comprs-2 (known m) (analyze-query-at m) analyze-query.Post
-sub-process-comprs-2 m c = omega (arith, c .before .before .before .before .before .before .before .before .before .before .before .before .before .before .before .before .before .before .before .before .before .before .before .before .before .if2 .left)
+sub-process-comprs-2 m c = omega (arith, c .before .before .before .before .before .before .before .before .before .before .before .before .before .before .before .before .before .before .before .before .if2 .left)
 
 pub slice-aggregate-process-comprs-4 : (m : ℕ) → analyze-query-lts.Need-slice-aggregate-process-comprs-4 (known m) (analyze-query-at m) analyze-query.Post
-slice-aggregate-process-comprs-4 m c = search needs
+slice-aggregate-process-comprs-4 m c =
+    let j3 = c .before .before .before in
+    omega (arith, key-walk m j3 .1, j3 .before .before .before .before .before .before .before .before .before .process-stmts .kept .1 .1 .1 .1 .1 .1 .1 .0)
 
 pub process-comprs-requires-2 : (m : ℕ) → analyze-query-lts.Need-process-comprs-requires-2 (known m) (analyze-query-at m) analyze-query.Post
 process-comprs-requires-2 m c κs =
-    let start = c .before .before .before .before .before .before .before .before .before .before .before .before .before .before .before .before .before .before .before .before .before .before .before .before .before .before .before .before .before .before .before .before in
-    let pre = start .pre .1 in
-    let b = begins m (c .before .before .before .before .before .before .before .before .before .before .before .before .before .before .before .before .before .before .before .before .before .before .before .before .before .before .before) in
-    let did = c .before .before .before .before .before .before .process-comprs in (
-      comprs-below _ (pre .0) _ m (c .before .before .before .before .before .before .before .before .before .before .before .before .before .before .before .before .before .before .before .before .before .before .before .before .before .before .before .if2 .left) (start .pre .0) _,
+    let j3 = c .before .before .before .before in
+    let e = j3 .before .before in
+    let some = e .before .before .before .before .before .before .before .before .before .before .before .before .before .before .before .before in
+    let start = some .before .before .before .before .before in
+    let pre = start .pre .1 in (
+      comprs-below _ (pre .0) _ m (some .if2 .left) (start .pre .0) _,
       (
         pre .0,
-        omega (arith, c .before .before .before .before .before .before .before .before .before .before .before .enclose .kept .1 .1 .1 .0),
-        omega (arith, did .kept .1 .1 .1 .1 .1 .1 .0, c .before .before .before .before .before .before .before .before .before .before .before .before .before .before .before .before .before .before .process-stmts .kept .1 .1 .1 .1 .1 .1 .1 .0),
-        b .value-low,
-        asks-value _ _ _ _ _ _ _ _ _ _ _ _ _ _ (encloses m (c .before .before .before .before .before .before .before .before .before .before .before)) _ _ _ (did .ensures),
+        omega (arith, e .enclose .kept .1 .1 .1 .0),
+        omega (arith, key-walk m j3 .1, e .before .before .before .before .before .before .before .process-stmts .kept .1 .1 .1 .1 .1 .1 .1 .0),
+        begins m some .value-low,
+        asks-value _ _ _ _ _ _ _ _ _ _ _ _ _ _ (encloses m e) _ _ _ (key-walk m j3 .0),
       ),
     )
 
+value-walk : (m : ℕ) (c : analyze-query-lts.Joined4 (known m) (analyze-query-at m) analyze-query.Post) →
+    let e = c .before .before .before in
+    let a = e .before .before .before .before .before .before .before .before .before .before .before .before .before .before .before .before .before .before .before .before .before .args in
+    (gs : List ℕ) × DoesComprs (a .tables .now) (e .enclose .last .1 .1 .1 .0) (comprs (exprBy (a .tables .now) true (a .value))) (a .levels - 1)
+    (c .before .if3 .t) (c .before .if3 .firsts) (c .before .if3 .work) (c .if4 .t) gs (c .if4 .work)
+value-walk m c =
+    let start = c .before .before .before .before .before .before .before .before .before .before .before .before .before .before .before .before .before .before .before .before .before .before .before .before in
+    last-comprs _ _ _ (start .pre .1 .0) true _ _ _ _ _ _
+    (λ w. (_, _, _, w .4 .ensures, w .8, w .9)) (λ w. (w .0 .left, w .1, w .2)) (c .if4 .came)
+
 pub slice-aggregate-finish : (m : ℕ) → analyze-query-lts.Need-slice-aggregate-finish (known m) (analyze-query-at m) analyze-query.Post
-slice-aggregate-finish m c = sym (c .before .before .before .before .before .before .before .before .before .before .before .before .before .before .before .before .before .before .before .before .before .before .before .before .before .before .before .before .before .before .gather-local-vars .kept .1 .1 .1 .1 .1 .0)
+slice-aggregate-finish m c = sym (c .before .before .before .before .before .before .before .before .before .before .before .before .before .before .before .before .before .before .gather-local-vars .kept .1 .1 .1 .1 .1 .0)
 
 pub finish-requires : (m : ℕ) → analyze-query-lts.Need-finish-requires (known m) (analyze-query-at m) analyze-query.Post
 finish-requires m c κs =
-    let pre = c .before .before .before .before .before .before .before .before .before .before .before .before .before .before .before .before .before .before .before .before .before .before .before .before .before .before .before .before .before .before .before .before .before .before .before .before .before .before .pre .1 in
-    let b = begins m (c .before .before .before .before .before .before .before .before .before .before .before .before .before .before .before .before .before .before .before .before .before .before .before .before .before .before .before .before .before .before .before .before .before) in
-    let x = encloses m (c .before .before .before .before .before .before .before .before .before .before .before .before .before .before .before .before .before) in
-    let key = c .before .before .before .before .before .before .before .before .before .before .before .before .process-comprs .ensures in
-    let value = c .before .before .before .before .before .process-comprs2 .ensures in (
-      pre .0,
+    let j4 = c .before .before in
+    let e = j4 .before .before .before in
+    let some = e .before .before .before .before .before .before .before .before .before .before .before .before .before .before .before .before in
+    let b = begins m some in
+    let x = encloses m e in
+    let key = key-walk m (j4 .before) .0 in
+    let value = value-walk m j4 .1 in (
+      some .before .before .before .before .before .pre .1 .0,
       b .from,
       b .to,
-      omega (arith, c .before .before .before .before .before .before .before .before .before .before .before .before .before .before .before .before .before .before .before .before .before .before .before .before .before .before .before .before .before .before .before .gather-local-vars .kept .1 .1 .1 .1 .1 .0),
+      omega (arith, e .before .before .before .before .before .before .before .before .before .before .before .before .before .before .gather-local-vars .kept .1 .1 .1 .1 .1 .0),
       room-last _ _ _ _ _ _ _ _ _ _ _ _ _ _ x _ _ _ key _ _ _ value,
       based-last _ _ _ _ _ _ _ _ _ _ _ _ _ _ x _ _ _ key _ _ _ value,
     )
 
 pub same-length : (m : ℕ) → analyze-query-lts.Need-same-length (known m) (analyze-query-at m) analyze-query.Post
 same-length m c =
-    c .before .before .finish .kept .1 .1 .1 .1 .1 .0
-    ∙ c .before .before .before .before .before .before .before .before .process-comprs2 .kept .1 .1 .1 .1 .1 .1 .1 .0
-    ∙ c .before .before .before .before .before .before .before .before .before .before .before .before .before .before .before .process-comprs .kept .1 .1 .1 .1 .1 .1 .1 .0
-    ∙ c .before .before .before .before .before .before .before .before .before .before .before .before .before .before .before .before .before .before .before .before .before .before .before .before .before .before .before .process-stmts .kept .1 .1 .1 .1 .1 .1 .1 .1 .0
+    let j4 = c .before .before .before .before .before in
+    let did = j4 .before .before .before .before .before .before .before .before .before .before .process-stmts in
+    omega (arith, c .before .before .finish .kept .1 .1 .1 .1 .1 .0, value-walk m j4 .1 .grown .long, key-walk m (j4 .before) .2, did .kept .1 .1 .1 .1 .1 .1 .1 .1 .0)
 
 pub returns-3 : (m : ℕ) → analyze-query-lts.Need-returns-3 (known m) (analyze-query-at m) analyze-query.Post
 returns-3 m c =
-    let some = c .before .before .before .before .before .before .before .before .before .before .before .before .before .before .before .before .before .before .before .before .before .before .before .before .before .before .before .before .before .before .before .before .before .before .before .before .if2 .left in
-    does-query _ _ _ _ _ _ _ _ _ _ _ _ _ _ (encloses m (c .before .before .before .before .before .before .before .before .before .before .before .before .before .before .before .before .before .before .before .before)) _ _ _ (c .before .before .before .before .before .before .before .before .before .before .before .before .before .before .before .process-comprs .ensures) _ _ _
-    (c .before .before .before .before .before .before .before .before .process-comprs2 .ensures) _ (omega (arith, some)) _ _ (c .before .before .finish .ensures)
+    let j4 = c .before .before .before .before .before in
+    let e = j4 .before .before .before in
+    does-query _ _ _ _ _ _ _ _ _ _ _ _ _ _ (encloses m e) _ _ _ (key-walk m (j4 .before) .0) _ _ _
+    (value-walk m j4 .1) _ (omega (arith, e .before .before .before .before .before .before .before .before .before .before .before .before .before .before .before .before .if2 .left)) _ _ (c .before .before .finish .ensures)

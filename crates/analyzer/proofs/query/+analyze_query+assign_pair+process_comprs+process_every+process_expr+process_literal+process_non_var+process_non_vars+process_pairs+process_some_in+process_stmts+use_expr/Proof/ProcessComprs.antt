@@ -1,5 +1,7 @@
 -- `process_comprs`: the walk goes on to later rows only, and to the query of a comprehension with the levels that are left.
 use mathlib.Core.Path.{_≡_, refl, ap, _∙_}
+use mathlib.Core.Bool.{true}
+use mathlib.Core.List.{List}
 use Prim.Native.Nat.{ℕ, _+_, _*_, _≤_}
 use native.Mathlib.Omega.{arith}
 use lib.ListN.{length}
@@ -7,11 +9,15 @@ use borrow.Author.Needs.{needs}
 use Rattle.widths.specs.Widths as Widths
 use Rattle.blocks.specs.Layout.{answers}
 use Rattle.trees.specs.Sheet.{rowAt, row-fields}
+use Rattle.trees.specs.Traverse.{comprs}
+use Rattle.gather.specs.Exprs.{exprBy}
 use Rattle.gather.specs.Walking.{remains, Falls, Calls, row-low, calls}
+use Rattle.frame.specs.declared.Progress.{Progress}
 use Rattle.frame.specs.Tails.{whole, whole-length}
 use Rattle.comprs.specs.Queries.{QueryIn, row-query}
 use Rattle.analyzer.specs.Does.{DoesComprs}
 use Rattle.analyzer.specs.ComprWalk.{does-none, ownCompr, room-at, query-asks, own-does, first-asks, second-asks, third-asks, next-asks, turn-does}
+use Rattle.analyzer.specs.Guards.{Keeps, walked-comprs}
 use Rattle.analyzer.proofs.query.analyze_query.Reads as analyze-query
 use Rattle.analyzer.proofs.query.process_comprs.Reads as process-comprs
 use Rattle.branches.proofs.kids_of.Reads as kids-of-reads
@@ -152,14 +158,20 @@ after-compr-requires m c κs =
       query-in m r,
     )
 
+-- What work holds once the query is analysed.
+abbrev analysed : (m : ℕ) → process-comprs-lts.After-analyze-query (known m) (process-comprs-at m) process-comprs.Post → List ℕ
+analysed m q =
+    let r = q .before .before .before .before .before .before .before .before .before .before in
+    let a = r .before .before .before .before .before .before .args in
+    whole (a .p .width) (a .work .now) _ (room m r _ (rows-are m (q .before .before .before .before .before))) (q .analyze-query .last .1 .1 .1 .1 .1 .1 .0) (q .analyze-query .kept .1 .1 .1 .1 .1 .1 .0)
+
 -- The row's own turn.
 own : (m : ℕ) (c : process-comprs-lts.After-after-compr (known m) (process-comprs-at m) process-comprs.Post)
     → let q = c .before .before .before .before .before in
     let r = q .before .before .before .before .before .before .before .before .before .before in
     let a = r .before .before .before .before .before .before .args in
     DoesComprs (a .tables .now) (a .inner .now) (ownCompr (a .tables .now) (a .row) (r .row-at .result)) (a .levels) (a .p) (a .firsts .now) (a .work .now)
-    (c .after-compr .result) (c .after-compr .last .1 .1 .1 .0)
-    (whole (a .p .width) (a .work .now) _ (room m r _ (rows-are m (q .before .before .before .before .before))) (q .analyze-query .last .1 .1 .1 .1 .1 .1 .0) (q .analyze-query .kept .1 .1 .1 .1 .1 .1 .0))
+    (c .after-compr .result) (c .after-compr .last .1 .1 .1 .0) (analysed m q)
 own m c =
     let q = c .before .before .before .before .before in
     let r = q .before .before .before .before .before .before .before .before .before .before in
@@ -179,7 +191,7 @@ ready m c =
 
 pub process-comprs-requires : (m : ℕ) → process-comprs-lts.Need-process-comprs-requires (known m) (process-comprs-at m) process-comprs.Post
 process-comprs-requires m c κs =
-    let a = c .before .before .before .before in
+    let a = c .before .before .before .before .before .before in
     let n = a .before .before .before .before .before .before .before .before .before .before .before .before .before in
     let r = n .before .before in
     let start = r .before .before .before .before .before .before in
@@ -196,10 +208,24 @@ process-comprs-requires m c κs =
       ),
     )
 
+-- The three parts, each walked where there is one.
+first-walk : (m : ℕ) (c : process-comprs-lts.Joined2 (known m) (process-comprs-at m) process-comprs.Post)
+    → let a = c .before .before .before .before in
+    let n = a .before .before .before .before .before .before .before .before .before .before .before .before .before in
+    let x = n .before .before .before .before .before .before .before .before .args in
+    Keeps (DoesComprs (x .tables .now) (x .inner .now) (comprs (exprBy (x .tables .now) true (n .before .kids-of .result .first))) (x .levels))
+    (a .after-compr .result) (a .after-compr .last .1 .1 .1 .0) (analysed m (a .before .before .before .before .before)) (c .if2 .s) (c .if2 .firsts) (c .if2 .work)
+first-walk m c =
+    let a = c .before .before .before .before in
+    let start = a .before .before .before .before .before .before .before .before .before .before .before .before .before .before .before .before .before .before .before .before .before in
+    walked-comprs _ _ _ (start .pre .1 .0) true _ _ _ (analysed m (a .before .before .before .before .before)) _ _ _
+    (λ w. (_, _, _, (w .3 .ensures, w .3 .kept .1 .1 .1 .1 .1 .1 .0, w .3 .kept .1 .1 .1 .1 .1 .1 .1 .0), w .8, w .9, w .10))
+    (λ w. (w .0 .left, w .1, w .2, w .3)) (c .if2 .came)
+
 pub process-comprs-requires-2 : (m : ℕ) → process-comprs-lts.Need-process-comprs-requires-2 (known m) (process-comprs-at m) process-comprs.Post
 process-comprs-requires-2 m c κs =
-    let d1 = c .before .before .before .before .before .before in
-    let a = d1 .before .before .before .before .before in
+    let j2 = c .before .before .before .before in
+    let a = j2 .before .before .before .before in
     let n = a .before .before .before .before .before .before .before .before .before .before .before .before .before in
     let r = n .before .before in
     let start = r .before .before .before .before .before .before in
@@ -209,18 +235,30 @@ process-comprs-requires-2 m c κs =
       (
         pre .0,
         pre .1,
-        omega (arith, pre .2, a .after-compr .kept .1 .1 .1 .0, d1 .process-comprs .kept .1 .1 .1 .1 .1 .1 .0),
+        omega (arith, pre .2, a .after-compr .kept .1 .1 .1 .0, first-walk m j2 .1),
         k .1,
         second-asks _ (pre .0) _ _ (r .before .if1 .left) (pre .3) _ (row-is m r) _ _ _ (pre .4) (start .args .levels) (start .args .rest) _ (n .before .kids-of .ensures) _ (n .next-of .ensures)
-            _ _ _ (own m a) _ _ _ (d1 .process-comprs .ensures),
+            _ _ _ (own m a) _ _ _ (first-walk m j2 .0),
       ),
     )
 
+second-walk : (m : ℕ) (c : process-comprs-lts.Joined3 (known m) (process-comprs-at m) process-comprs.Post)
+    → let a = c .before .before .before .before .before .before in
+    let n = a .before .before .before .before .before .before .before .before .before .before .before .before .before in
+    let x = n .before .before .before .before .before .before .before .before .args in
+    Keeps (DoesComprs (x .tables .now) (x .inner .now) (comprs (exprBy (x .tables .now) true (n .before .kids-of .result .second))) (x .levels))
+    (c .before .before .if2 .s) (c .before .before .if2 .firsts) (c .before .before .if2 .work) (c .if3 .s) (c .if3 .firsts) (c .if3 .work)
+second-walk m c =
+    let start = c .before .before .before .before .before .before .before .before .before .before .before .before .before .before .before .before .before .before .before .before .before .before .before .before .before .before .before in
+    walked-comprs _ _ _ (start .pre .1 .0) true _ _ _ _ _ _ _
+    (λ w. (_, _, _, (w .3 .ensures, w .3 .kept .1 .1 .1 .1 .1 .1 .0, w .3 .kept .1 .1 .1 .1 .1 .1 .1 .0), w .8, w .9, w .10))
+    (λ w. (w .0 .left, w .1, w .2, w .3)) (c .if3 .came)
+
 pub process-comprs-requires-3 : (m : ℕ) → process-comprs-lts.Need-process-comprs-requires-3 (known m) (process-comprs-at m) process-comprs.Post
 process-comprs-requires-3 m c κs =
-    let d2 = c .before .before .before .before .before .before in
-    let d1 = d2 .before .before .before .before .before .before .before in
-    let a = d1 .before .before .before .before .before in
+    let j3 = c .before .before .before .before in
+    let j2 = j3 .before .before in
+    let a = j2 .before .before .before .before in
     let n = a .before .before .before .before .before .before .before .before .before .before .before .before .before in
     let r = n .before .before in
     let start = r .before .before .before .before .before .before in
@@ -230,19 +268,72 @@ process-comprs-requires-3 m c κs =
       (
         pre .0,
         pre .1,
-        omega (arith, pre .2, a .after-compr .kept .1 .1 .1 .0, d1 .process-comprs .kept .1 .1 .1 .1 .1 .1 .0, d2 .process-comprs2 .kept .1 .1 .1 .1 .1 .1 .0),
+        omega (arith, pre .2, a .after-compr .kept .1 .1 .1 .0, first-walk m j2 .1, second-walk m j3 .1),
         k .1,
         third-asks _ (pre .0) _ _ (r .before .if1 .left) (pre .3) _ (row-is m r) _ _ _ (pre .4) (start .args .levels) (start .args .rest) _ (n .before .kids-of .ensures) _ (n .next-of .ensures)
-            _ _ _ (own m a) _ _ _ (d1 .process-comprs .ensures) _ _ _ (d2 .process-comprs2 .ensures),
+            _ _ _ (own m a) _ _ _ (first-walk m j2 .0) _ _ _ (second-walk m j3 .0),
       ),
     )
 
+third-walk : (m : ℕ) (c : process-comprs-lts.Joined4 (known m) (process-comprs-at m) process-comprs.Post)
+    → let a = c .before .before .before .before .before .before .before .before in
+    let n = a .before .before .before .before .before .before .before .before .before .before .before .before .before in
+    let x = n .before .before .before .before .before .before .before .before .args in
+    Keeps (DoesComprs (x .tables .now) (x .inner .now) (comprs (exprBy (x .tables .now) true (n .before .kids-of .result .third))) (x .levels))
+    (c .before .before .if3 .s) (c .before .before .if3 .firsts) (c .before .before .if3 .work) (c .if4 .s) (c .if4 .firsts) (c .if4 .work)
+third-walk m c =
+    let start = c .before .before .before .before .before .before .before .before .before .before .before .before .before .before .before .before .before .before .before .before .before .before .before .before .before .before .before .before .before in
+    walked-comprs _ _ _ (start .pre .1 .0) true _ _ _ _ _ _ _
+    (λ w. (_, _, _, (w .3 .ensures, w .3 .kept .1 .1 .1 .1 .1 .1 .0, w .3 .kept .1 .1 .1 .1 .1 .1 .1 .0), w .8, w .9, w .10))
+    (λ w. (w .0 .left, w .1, w .2, w .3)) (c .if4 .came)
+
+-- The lengths of the lists are those at the start.
+kept : (m : ℕ) (c : process-comprs-lts.Joined4 (known m) (process-comprs-at m) process-comprs.Post)
+    → let x = c .before .before .before .before .before .before .before .before .before .before .before .before .before .before .before .before .before .before .before .before .before .before .before .before .before .before .before .before .before .args in
+    (length (c .if4 .firsts) ≡ length (x .firsts .now)) × (length (c .if4 .work) ≡ length (x .work .now))
+kept m c =
+    let j3 = c .before .before in
+    let j2 = j3 .before .before in
+    let a = j2 .before .before .before .before in
+    let w1 = first-walk m j2 in
+    let w2 = second-walk m j3 in
+    let w3 = third-walk m c in
+    (omega (arith, a .after-compr .kept .1 .1 .1 .0, w1 .1, w2 .1, w3 .1), omega (arith, own m a .grown .long, w1 .2, w2 .2, w3 .2))
+
+-- The turn of a row, with the walk over the rest of its chain.
+turned : (m : ℕ) (c : process-comprs-lts.Joined4 (known m) (process-comprs-at m) process-comprs.Post) (s : Progress) (fs w : List ℕ)
+    → let n = c .before .before .before .before .before .before .before .before .before .before .before .before .before .before .before .before .before .before .before .before .before in
+    let x = n .before .before .before .before .before .before .before .before .args in
+    DoesComprs (x .tables .now) (x .inner .now) (comprs (exprBy (x .tables .now) true (n .next-of .result))) (x .levels) (c .if4 .s) (c .if4 .firsts) (c .if4 .work) s fs w
+    → DoesComprs (x .tables .now) (x .inner .now) (comprs (exprBy (x .tables .now) (x .rest) (x .row))) (x .levels) (x .p) (x .firsts .now) (x .work .now) s fs w
+turned m c s fs w rest =
+    let j3 = c .before .before in
+    let j2 = j3 .before .before in
+    let a = j2 .before .before .before .before in
+    let n = a .before .before .before .before .before .before .before .before .before .before .before .before .before in
+    let r = n .before .before in
+    let start = r .before .before .before .before .before .before in
+    let pre = start .pre .1 in
+    turn-does _ (pre .0) _ _ (r .before .if1 .left) (pre .3) _ (row-is m r) _ _ _ (pre .4) (start .args .levels) (start .args .rest) _ (n .before .kids-of .ensures) _ (n .next-of .ensures)
+    _ _ _ (own m a) _ _ _ (first-walk m j2 .0) _ _ _ (second-walk m j3 .0) _ _ _ (third-walk m c .0) _ _ _ rest
+
+pub same-length : (m : ℕ) → process-comprs-lts.Need-same-length (known m) (process-comprs-at m) process-comprs.Post
+same-length m c = kept m (c .before) .0
+
+pub same-length-2 : (m : ℕ) → process-comprs-lts.Need-same-length-2 (known m) (process-comprs-at m) process-comprs.Post
+same-length-2 m c = kept m (c .before) .1
+
+pub returns-2 : (m : ℕ) → process-comprs-lts.Need-returns-2 (known m) (process-comprs-at m) process-comprs.Post
+returns-2 m c =
+    let start = c .before .before .before .before .before .before .before .before .before .before .before .before .before .before .before .before .before .before .before .before .before .before .before .before .before .before .before .before .before .before in
+    turned m (c .before) _ _ _ (does-none _ _ _ (start .pre .1 .0) _ (c .if5 .taken) true _ _ _)
+
 pub process-comprs-requires-4 : (m : ℕ) → process-comprs-lts.Need-process-comprs-requires-4 (known m) (process-comprs-at m) process-comprs.Post
 process-comprs-requires-4 m c κs =
-    let d3 = c .before .before .before .before .before .before in
-    let d2 = d3 .before .before .before .before .before .before .before in
-    let d1 = d2 .before .before .before .before .before .before .before in
-    let a = d1 .before .before .before .before .before in
+    let j4 = c .before .before .before in
+    let j3 = j4 .before .before in
+    let j2 = j3 .before .before in
+    let a = j2 .before .before .before .before in
     let n = a .before .before .before .before .before .before .before .before .before .before .before .before .before in
     let r = n .before .before in
     let start = r .before .before .before .before .before .before in
@@ -253,55 +344,24 @@ process-comprs-requires-4 m c κs =
       (
         pre .0,
         pre .1,
-        omega (arith, pre .2, a .after-compr .kept .1 .1 .1 .0, d1 .process-comprs .kept .1 .1 .1 .1 .1 .1 .0, d2 .process-comprs2 .kept .1 .1 .1 .1 .1 .1 .0, d3 .process-comprs3 .kept .1 .1 .1 .1 .1 .1 .0),
+        omega (arith, pre .2, kept m j4 .0),
         low .1,
         next-asks _ (pre .0) _ _ (r .before .if1 .left) (pre .3) _ (row-is m r) _ _ _ (pre .4) (start .args .levels) (start .args .rest) _ (n .before .kids-of .ensures) _ (n .next-of .ensures)
-            _ _ _ (own m a) _ _ _ (d1 .process-comprs .ensures) _ _ _ (d2 .process-comprs2 .ensures) _ _ _ (d3 .process-comprs3 .ensures),
+            _ _ _ (own m a) _ _ _ (first-walk m j2 .0) _ _ _ (second-walk m j3 .0) _ _ _ (third-walk m j4 .0),
       ),
     )
 
-pub same-length : (m : ℕ) → process-comprs-lts.Need-same-length (known m) (process-comprs-at m) process-comprs.Post
-same-length m c =
+pub same-length-3 : (m : ℕ) → process-comprs-lts.Need-same-length-3 (known m) (process-comprs-at m) process-comprs.Post
+same-length-3 m c =
     let d4 = c .before .before .before .before in
-    let d3 = d4 .before .before .before .before .before .before .before in
-    let d2 = d3 .before .before .before .before .before .before .before in
-    let d1 = d2 .before .before .before .before .before .before .before in
-    let a = d1 .before .before .before .before .before in
-    omega (
-      arith,
-      a .after-compr .kept .1 .1 .1 .0,
-      d1 .process-comprs .kept .1 .1 .1 .1 .1 .1 .0,
-      d2 .process-comprs2 .kept .1 .1 .1 .1 .1 .1 .0,
-      d3 .process-comprs3 .kept .1 .1 .1 .1 .1 .1 .0,
-      d4 .process-comprs4 .kept .1 .1 .1 .1 .1 .1 .0,
-    )
+    d4 .process-comprs4 .kept .1 .1 .1 .1 .1 .1 .0 ∙ kept m (d4 .before .before .before .before) .0
 
-pub same-length-2 : (m : ℕ) → process-comprs-lts.Need-same-length-2 (known m) (process-comprs-at m) process-comprs.Post
-same-length-2 m c =
+pub same-length-4 : (m : ℕ) → process-comprs-lts.Need-same-length-4 (known m) (process-comprs-at m) process-comprs.Post
+same-length-4 m c =
     let d4 = c .before .before .before .before in
-    let d3 = d4 .before .before .before .before .before .before .before in
-    let d2 = d3 .before .before .before .before .before .before .before in
-    let d1 = d2 .before .before .before .before .before .before .before in
-    let a = d1 .before .before .before .before .before in
-    omega (
-      arith,
-      own m a .grown .long,
-      d1 .process-comprs .kept .1 .1 .1 .1 .1 .1 .1 .0,
-      d2 .process-comprs2 .kept .1 .1 .1 .1 .1 .1 .1 .0,
-      d3 .process-comprs3 .kept .1 .1 .1 .1 .1 .1 .1 .0,
-      d4 .process-comprs4 .kept .1 .1 .1 .1 .1 .1 .1 .0,
-    )
+    d4 .process-comprs4 .kept .1 .1 .1 .1 .1 .1 .1 .0 ∙ kept m (d4 .before .before .before .before) .1
 
-pub returns-2 : (m : ℕ) → process-comprs-lts.Need-returns-2 (known m) (process-comprs-at m) process-comprs.Post
-returns-2 m c =
+pub returns-3 : (m : ℕ) → process-comprs-lts.Need-returns-3 (known m) (process-comprs-at m) process-comprs.Post
+returns-3 m c =
     let d4 = c .before .before .before .before in
-    let d3 = d4 .before .before .before .before .before .before .before in
-    let d2 = d3 .before .before .before .before .before .before .before in
-    let d1 = d2 .before .before .before .before .before .before .before in
-    let a = d1 .before .before .before .before .before in
-    let n = a .before .before .before .before .before .before .before .before .before .before .before .before .before in
-    let r = n .before .before in
-    let start = r .before .before .before .before .before .before in
-    let pre = start .pre .1 in
-    turn-does _ (pre .0) _ _ (r .before .if1 .left) (pre .3) _ (row-is m r) _ _ _ (pre .4) (start .args .levels) (start .args .rest) _ (n .before .kids-of .ensures) _ (n .next-of .ensures)
-    _ _ _ (own m a) _ _ _ (d1 .process-comprs .ensures) _ _ _ (d2 .process-comprs2 .ensures) _ _ _ (d3 .process-comprs3 .ensures) _ _ _ (d4 .process-comprs4 .ensures)
+    turned m (d4 .before .before .before .before) _ _ _ (d4 .process-comprs4 .ensures)

@@ -1,12 +1,21 @@
 -- `process_non_var`.
-use mathlib.Core.Path.{_∙_}
-use mathlib.Core.Bool.{false}
+use mathlib.Core.Path.{_≡_, _∙_}
+use mathlib.Core.Bool.{true, false}
+use mathlib.Core.List.{List}
 use Prim.Native.Nat.{ℕ}
 use native.Mathlib.Omega.{arith}
+use lib.ListN.{length}
 use borrow.Author.Needs.{needs}
+use Rattle.trees.specs.Traverse.{comprs}
+use Rattle.gather.specs.Exprs.{exprBy}
 use Rattle.gather.specs.Walking.{few-remain}
 use Rattle.using.specs.UsesMods.{listed-none}
+use Rattle.frame.specs.declared.Progress.{Progress}
+use Rattle.analyzer.specs.Asks.{otherAt}
+use Rattle.analyzer.specs.Does.{DoesComprs, DoesOthers}
 use Rattle.analyzer.specs.ComprRows.{at-low}
+use Rattle.analyzer.specs.ComprWalk.{does-none}
+use Rattle.analyzer.specs.Guards.{Keeps, walked-comprs}
 use Rattle.analyzer.specs.NonVarSteps.{non-var-none, asks-use, asks-own, asks-mods, non-var-does}
 use Rattle.analyzer.proofs.query.process_comprs.Reads as process-comprs
 use Rattle.analyzer.proofs.query.process_non_var.Reads as process-non-var
@@ -55,7 +64,7 @@ fail-if-some-requires m c κs = search needs
 
 pub process-comprs-requires : (m : ℕ) → process-non-var-lts.Need-process-comprs-requires (known m) (process-non-var-at m) process-non-var.Post
 process-comprs-requires m c κs =
-    let failed = c .before .before in
+    let failed = c .before .before .before in
     let used = failed .before .before .before .before .before in
     let none = used .before .before .before in
     let else = none .before in
@@ -73,10 +82,56 @@ process-comprs-requires m c κs =
       ),
     )
 
+-- Its comprehensions, walked where there is a row.
+own-walk : (m : ℕ) (c : process-non-var-lts.Joined2 (known m) (process-non-var-at m) process-non-var.Post)
+    → let failed = c .before in
+    let used = failed .before .before .before .before .before in
+    let a = used .before .before .before .before .before .before .before .before .before .args in
+    Keeps (DoesComprs (a .tables .now) (a .inner .now) (comprs (exprBy (a .tables .now) false (used .use-vars .result .comprs))) (a .context .levels))
+    (failed .fail-if-some .result) (used .use-vars .last .1 .1 .1 .1 .1 .1 .0) (used .use-vars .last .1 .1 .1 .1 .1 .1 .1 .0) (c .if2 .s) (c .if2 .firsts) (c .if2 .work)
+own-walk m c =
+    let start = c .before .before .before .before .before .before .before .before .before .before .before .before .before .before .before in
+    walked-comprs _ _ _ (start .pre .1 .0) false _ _ _ _ _ _ _
+    (λ w. (_, _, _, (w .3 .ensures, w .3 .kept .1 .1 .1 .1 .1 .1 .0, w .3 .kept .1 .1 .1 .1 .1 .1 .1 .0), w .8, w .9, w .10))
+    (λ w. (w .0 .left, w .1, w .2, w .3)) (c .if2 .came)
+
+-- The lengths of the lists are those at the start.
+kept : (m : ℕ) (c : process-non-var-lts.Joined2 (known m) (process-non-var-at m) process-non-var.Post)
+    → let a = c .before .before .before .before .before .before .before .before .before .before .before .before .before .before .before .args in
+    (length (c .if2 .firsts) ≡ length (a .firsts .now)) × (length (c .if2 .work) ≡ length (a .work .now))
+kept m c =
+    let used = c .before .before .before .before .before .before in
+    (own-walk m c .1 ∙ used .use-vars .kept .1 .1 .1 .1 .1 .1 .0, own-walk m c .2 ∙ used .use-vars .kept .1 .1 .1 .1 .1 .1 .1 .0)
+
+-- The whole, with the comprehensions of the modifiers.
+done : (m : ℕ) (c : process-non-var-lts.Joined2 (known m) (process-non-var-at m) process-non-var.Post) (s : Progress) (fs w : List ℕ)
+    → let a = c .before .before .before .before .before .before .before .before .before .before .before .before .before .before .before .args in
+    DoesComprs (a .tables .now) (a .inner .now) (comprs (exprBy (a .tables .now) true (a .context .mods))) (a .context .levels) (c .if2 .s) (c .if2 .firsts) (c .if2 .work) s fs w
+    → DoesOthers (a .tables .now) (a .inner .now) (otherAt (a .tables .now) (a .row)) (a .context) (a .p) (a .firsts .now) (a .work .now) s fs w
+done m c s fs w mods =
+    let failed = c .before in
+    let used = failed .before .before .before .before .before in
+    let none = used .before .before .before in
+    let else = none .before in
+    let a = else .before .before .before .before .before .args in
+    non-var-does (a .tables .now) (a .inner .now) (a .row) (else .if1 .left) (a .context) (a .p) (a .firsts .now) (a .work .now) _ (none .empty .ensures) _ _ _
+    (used .use-vars .ensures) _ (failed .fail-if-some .ensures) _ _ _ (own-walk m c .0) _ _ _ mods
+
+pub same-length : (m : ℕ) → process-non-var-lts.Need-same-length (known m) (process-non-var-at m) process-non-var.Post
+same-length m c = kept m (c .before) .0
+
+pub same-length-2 : (m : ℕ) → process-non-var-lts.Need-same-length-2 (known m) (process-non-var-at m) process-non-var.Post
+same-length-2 m c = kept m (c .before) .1
+
+pub returns-2 : (m : ℕ) → process-non-var-lts.Need-returns-2 (known m) (process-non-var-at m) process-non-var.Post
+returns-2 m c =
+    let start = c .before .before .before .before .before .before .before .before .before .before .before .before .before .before .before .before in
+    done m (c .before) _ _ _ (does-none _ _ _ (start .pre .1 .0) _ (c .if3 .taken) true _ _ _)
+
 pub process-comprs-requires-2 : (m : ℕ) → process-non-var-lts.Need-process-comprs-requires-2 (known m) (process-non-var-at m) process-non-var.Post
 process-comprs-requires-2 m c κs =
-    let own = c .before .before .before .before .before .before in
-    let failed = own .before .before .before in
+    let j2 = c .before .before .before in
+    let failed = j2 .before in
     let used = failed .before .before .before .before .before in
     let none = used .before .before .before in
     let else = none .before in
@@ -87,35 +142,24 @@ process-comprs-requires-2 m c κs =
       (
         pre .0,
         pre .1,
-        omega (arith, pre .2, used .use-vars .kept .1 .1 .1 .1 .1 .1 .0, own .process-comprs .kept .1 .1 .1 .1 .1 .1 .0),
+        omega (arith, pre .2, kept m j2 .0),
         pre .4 .mods-low,
         asks-mods (a .tables .now) (a .inner .now) (a .row) (else .if1 .left) (a .context) (a .p) (a .firsts .now) (a .work .now) _ (none .empty .ensures) _ _ _
-            (used .use-vars .ensures) _ (failed .fail-if-some .ensures) _ _ _ (own .process-comprs .ensures) (pre .4),
+            (used .use-vars .ensures) _ (failed .fail-if-some .ensures) _ _ _ (own-walk m j2 .0) (pre .4),
       ),
     )
 
-pub same-length : (m : ℕ) → process-non-var-lts.Need-same-length (known m) (process-non-var-at m) process-non-var.Post
-same-length m c =
+pub same-length-3 : (m : ℕ) → process-non-var-lts.Need-same-length-3 (known m) (process-non-var-at m) process-non-var.Post
+same-length-3 m c =
     let mods = c .before .before .before .before in
-    let own = mods .before .before .before .before .before .before .before in
-    let used = own .before .before .before .before .before .before .before .before in
-    mods .process-comprs2 .kept .1 .1 .1 .1 .1 .1 .0 ∙ own .process-comprs .kept .1 .1 .1 .1 .1 .1 .0 ∙ used .use-vars .kept .1 .1 .1 .1 .1 .1 .0
+    mods .process-comprs2 .kept .1 .1 .1 .1 .1 .1 .0 ∙ kept m (mods .before .before .before .before) .0
 
-pub same-length-2 : (m : ℕ) → process-non-var-lts.Need-same-length-2 (known m) (process-non-var-at m) process-non-var.Post
-same-length-2 m c =
+pub same-length-4 : (m : ℕ) → process-non-var-lts.Need-same-length-4 (known m) (process-non-var-at m) process-non-var.Post
+same-length-4 m c =
     let mods = c .before .before .before .before in
-    let own = mods .before .before .before .before .before .before .before in
-    let used = own .before .before .before .before .before .before .before .before in
-    mods .process-comprs2 .kept .1 .1 .1 .1 .1 .1 .1 .0 ∙ own .process-comprs .kept .1 .1 .1 .1 .1 .1 .1 .0 ∙ used .use-vars .kept .1 .1 .1 .1 .1 .1 .1 .0
+    mods .process-comprs2 .kept .1 .1 .1 .1 .1 .1 .1 .0 ∙ kept m (mods .before .before .before .before) .1
 
-pub returns-2 : (m : ℕ) → process-non-var-lts.Need-returns-2 (known m) (process-non-var-at m) process-non-var.Post
-returns-2 m c =
+pub returns-3 : (m : ℕ) → process-non-var-lts.Need-returns-3 (known m) (process-non-var-at m) process-non-var.Post
+returns-3 m c =
     let mods = c .before .before .before .before in
-    let own = mods .before .before .before .before .before .before .before in
-    let failed = own .before .before .before in
-    let used = failed .before .before .before .before .before in
-    let none = used .before .before .before in
-    let else = none .before in
-    let a = else .before .before .before .before .before .args in
-    non-var-does (a .tables .now) (a .inner .now) (a .row) (else .if1 .left) (a .context) (a .p) (a .firsts .now) (a .work .now) _ (none .empty .ensures) _ _ _
-    (used .use-vars .ensures) _ (failed .fail-if-some .ensures) _ _ _ (own .process-comprs .ensures) _ _ _ (mods .process-comprs2 .ensures)
+    done m (mods .before .before .before .before) _ _ _ (mods .process-comprs2 .ensures)

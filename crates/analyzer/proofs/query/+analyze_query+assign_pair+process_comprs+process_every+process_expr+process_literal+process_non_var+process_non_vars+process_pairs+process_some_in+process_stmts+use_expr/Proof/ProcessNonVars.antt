@@ -1,12 +1,19 @@
 -- `process_non_vars`.
 use mathlib.Core.Path.{_≡_, refl, _∙_}
 use mathlib.Core.Bool.{true}
+use mathlib.Core.List.{List}
 use Prim.Native.Nat.{ℕ}
 use native.Mathlib.Omega.{arith}
+use lib.ListN.{length}
 use borrow.Author.Needs.{needs}
 use Rattle.trees.specs.Sheet.{rowAt, row-fields}
 use Rattle.gather.specs.Walking.{Falls, remains, row-low, low-name, pattern-calls}
+use Rattle.frame.specs.declared.Progress.{Progress}
+use Rattle.analyzer.specs.Asks.{otherAt}
+use Rattle.analyzer.specs.Does.{DoesOthers, DoesNonVars}
+use Rattle.analyzer.specs.Guards.{Keeps, guarded-lists}
 use Rattle.analyzer.specs.Patterns.{non-var-low}
+use Rattle.analyzer.specs.NonVarSteps.{non-var-none}
 use Rattle.analyzer.specs.PatternSteps.{non-vars-do-none, asks-other, asks-parts, asks-rest, non-vars-do}
 use Rattle.analyzer.proofs.query.process_non_var.Reads as process-non-var
 use Rattle.analyzer.proofs.query.process_non_vars.Reads as process-non-vars
@@ -70,7 +77,7 @@ non-var-requires m c κs =
 
 pub process-non-var-requires : (m : ℕ) → process-non-vars-lts.Need-process-non-var-requires (known m) (process-non-vars-at m) process-non-vars.Post
 process-non-var-requires m c κs =
-    let n = c .before .before in
+    let n = c .before .before .before in
     let parts = n .before in
     let found = parts .before in
     let else = found .before in
@@ -88,10 +95,22 @@ process-non-var-requires m c κs =
       ),
     )
 
+-- The row itself and the parts of a pattern, each processed where there is one.
+one-done : (m : ℕ) (c : process-non-vars-lts.Joined2 (known m) (process-non-vars-at m) process-non-vars.Post)
+    → let a = c .before .before .before .before .before .before .before .before .before .args in
+    Keeps (DoesOthers (a .tables .now) (a .inner .now) (otherAt (a .tables .now) (c .before .non-var .result)) (a .context))
+    (a .p) (a .firsts .now) (a .work .now) (c .if2 .s) (c .if2 .firsts) (c .if2 .work)
+one-done m c =
+    let a = c .before .before .before .before .before .before .before .before .before .args in
+    guarded-lists (λ r. DoesOthers (a .tables .now) (a .inner .now) (otherAt (a .tables .now) r) (a .context))
+    (non-var-none (a .tables .now) (a .inner .now) 0 refl (a .context)) _ _ _ _ _ _ _
+    (λ w. (_, _, _, (w .3 .ensures, w .3 .kept .1 .1 .1 .1 .1 .0, w .3 .kept .1 .1 .1 .1 .1 .1 .0), w .8, w .9, w .10))
+    (λ w. (w .0 .left, w .1, w .2, w .3)) (c .if2 .came)
+
 pub process-non-vars-requires : (m : ℕ) → process-non-vars-lts.Need-process-non-vars-requires (known m) (process-non-vars-at m) process-non-vars.Post
 process-non-vars-requires m c κs =
-    let one = c .before .before .before .before .before .before in
-    let n = one .before .before .before in
+    let j2 = c .before .before .before in
+    let n = j2 .before in
     let parts = n .before in
     let found = parts .before in
     let else = found .before in
@@ -103,22 +122,75 @@ process-non-vars-requires m c κs =
       (
         pre .0,
         pre .1,
-        omega (arith, pre .2, one .process-non-var .kept .1 .1 .1 .1 .1 .0),
+        omega (arith, pre .2, one-done m j2 .1),
         k .1,
         asks-parts (a .tables .now) (pre .0) (a .inner .now) (a .row) (else .if1 .left) (pre .3) (found .row-at .result) (row-is m found)
             _ (parts .pattern-of .ensures) (a .context) (a .p) _ (n .non-var .ensures) (a .firsts .now) (a .work .now) _ _ _
-            (one .process-non-var .ensures) (pre .4),
+            (one-done m j2 .0) (pre .4),
       ),
     )
+
+parts-done : (m : ℕ) (c : process-non-vars-lts.Joined3 (known m) (process-non-vars-at m) process-non-vars.Post)
+    → let parts = c .before .before .before in
+    let a = parts .before .before .before .before .before .before .before .args in
+    Keeps (DoesNonVars (a .tables .now) (a .inner .now) (parts .pattern-of .result) (a .context))
+    (c .before .if2 .s) (c .before .if2 .firsts) (c .before .if2 .work) (c .if3 .s) (c .if3 .firsts) (c .if3 .work)
+parts-done m c =
+    let start = c .before .before .before .before .before .before .before .before .before .before in
+    let a = start .args in
+    guarded-lists (λ r. DoesNonVars (a .tables .now) (a .inner .now) r (a .context))
+    (non-vars-do-none (a .tables .now) (start .pre .1 .0) (a .inner .now) 0 refl (a .context)) _ _ _ _ _ _ _
+    (λ w. (_, _, _, (w .3 .ensures, w .3 .kept .1 .1 .1 .1 .1 .0, w .3 .kept .1 .1 .1 .1 .1 .1 .0), w .8, w .9, w .10))
+    (λ w. (w .0 .left, w .1, w .2, w .3)) (c .if3 .came)
+
+-- The lengths of the lists are those at the start.
+kept : (m : ℕ) (c : process-non-vars-lts.Joined3 (known m) (process-non-vars-at m) process-non-vars.Post)
+    → let a = c .before .before .before .before .before .before .before .before .before .before .args in
+    (length (c .if3 .firsts) ≡ length (a .firsts .now)) × (length (c .if3 .work) ≡ length (a .work .now))
+kept m c =
+    let one = one-done m (c .before) in
+    let parts = parts-done m c in
+    (parts .1 ∙ one .1, parts .2 ∙ one .2)
+
+-- The whole, with the rest of the chain.
+done : (m : ℕ) (c : process-non-vars-lts.Joined3 (known m) (process-non-vars-at m) process-non-vars.Post) (s : Progress) (fs w : List ℕ)
+    → let found = c .before .before .before .before in
+    let a = found .before .before .before .before .before .before .args in
+    DoesNonVars (a .tables .now) (a .inner .now) (found .row-at .result .next) (a .context) (c .if3 .s) (c .if3 .firsts) (c .if3 .work) s fs w
+    → DoesNonVars (a .tables .now) (a .inner .now) (a .row) (a .context) (a .p) (a .firsts .now) (a .work .now) s fs w
+done m c s fs w last =
+    let j2 = c .before in
+    let n = j2 .before in
+    let parts = n .before in
+    let found = parts .before in
+    let else = found .before in
+    let start = else .before .before .before .before .before in
+    let a = start .args in
+    let pre = start .pre .1 in
+    non-vars-do (a .tables .now) (pre .0) (a .inner .now) (a .row) (else .if1 .left) (pre .3) (found .row-at .result) (row-is m found)
+    _ (parts .pattern-of .ensures) (a .context) (a .p) _ (n .non-var .ensures) (a .firsts .now) (a .work .now) _ _ _
+    (one-done m j2 .0) _ _ _ (parts-done m c .0) _ _ _ last
+
+pub same-length : (m : ℕ) → process-non-vars-lts.Need-same-length (known m) (process-non-vars-at m) process-non-vars.Post
+same-length m c = kept m (c .before .before) .0
+
+pub same-length-2 : (m : ℕ) → process-non-vars-lts.Need-same-length-2 (known m) (process-non-vars-at m) process-non-vars.Post
+same-length-2 m c = kept m (c .before .before) .1
+
+pub returns-2 : (m : ℕ) → process-non-vars-lts.Need-returns-2 (known m) (process-non-vars-at m) process-non-vars.Post
+returns-2 m c =
+    let start = c .before .before .before .before .before .before .before .before .before .before .before .before in
+    let a = start .args in
+    done m (c .before .before) _ _ _ (non-vars-do-none (a .tables .now) (start .pre .1 .0) (a .inner .now) _ (c .if4 .taken) (a .context) _ _ _)
 
 pub cast-process-non-vars : (m : ℕ) → process-non-vars-lts.Need-cast-process-non-vars (known m) (process-non-vars-at m) process-non-vars.Post
 cast-process-non-vars m c = search needs
 
 pub process-non-vars-requires-2 : (m : ℕ) → process-non-vars-lts.Need-process-non-vars-requires-2 (known m) (process-non-vars-at m) process-non-vars.Post
 process-non-vars-requires-2 m c κs =
-    let two = c .before .before .before .before .before .before .before in
-    let one = two .before .before .before .before .before .before .before in
-    let n = one .before .before .before in
+    let j3 = c .before .before .before .before .before in
+    let j2 = j3 .before in
+    let n = j2 .before in
     let parts = n .before in
     let found = parts .before in
     let else = found .before in
@@ -130,40 +202,25 @@ process-non-vars-requires-2 m c κs =
       (
         pre .0,
         pre .1,
-        omega (arith, pre .2, one .process-non-var .kept .1 .1 .1 .1 .1 .0, two .process-non-vars .kept .1 .1 .1 .1 .1 .0),
+        omega (arith, pre .2, kept m j3 .0),
         k .1,
         asks-rest (a .tables .now) (pre .0) (a .inner .now) (a .row) (else .if1 .left) (pre .3) (found .row-at .result) (row-is m found)
             _ (parts .pattern-of .ensures) (a .context) (a .p) _ (n .non-var .ensures) (a .firsts .now) (a .work .now) _ _ _
-            (one .process-non-var .ensures) _ _ _ (two .process-non-vars .ensures) (pre .4),
+            (one-done m j2 .0) _ _ _ (parts-done m j3 .0) (pre .4),
       ),
     )
 
-pub same-length : (m : ℕ) → process-non-vars-lts.Need-same-length (known m) (process-non-vars-at m) process-non-vars.Post
-same-length m c =
+pub same-length-3 : (m : ℕ) → process-non-vars-lts.Need-same-length-3 (known m) (process-non-vars-at m) process-non-vars.Post
+same-length-3 m c =
     let last = c .before .before .before .before in
-    let two = last .before .before .before .before .before .before .before .before in
-    let one = two .before .before .before .before .before .before .before in
-    last .process-non-vars2 .kept .1 .1 .1 .1 .1 .0 ∙ two .process-non-vars .kept .1 .1 .1 .1 .1 .0 ∙ one .process-non-var .kept .1 .1 .1 .1 .1 .0
+    last .process-non-vars2 .kept .1 .1 .1 .1 .1 .0 ∙ kept m (last .before .before .before .before .before .before) .0
 
-pub same-length-2 : (m : ℕ) → process-non-vars-lts.Need-same-length-2 (known m) (process-non-vars-at m) process-non-vars.Post
-same-length-2 m c =
+pub same-length-4 : (m : ℕ) → process-non-vars-lts.Need-same-length-4 (known m) (process-non-vars-at m) process-non-vars.Post
+same-length-4 m c =
     let last = c .before .before .before .before in
-    let two = last .before .before .before .before .before .before .before .before in
-    let one = two .before .before .before .before .before .before .before in
-    last .process-non-vars2 .kept .1 .1 .1 .1 .1 .1 .0 ∙ two .process-non-vars .kept .1 .1 .1 .1 .1 .1 .0 ∙ one .process-non-var .kept .1 .1 .1 .1 .1 .1 .0
+    last .process-non-vars2 .kept .1 .1 .1 .1 .1 .1 .0 ∙ kept m (last .before .before .before .before .before .before) .1
 
-pub returns-2 : (m : ℕ) → process-non-vars-lts.Need-returns-2 (known m) (process-non-vars-at m) process-non-vars.Post
-returns-2 m c =
+pub returns-3 : (m : ℕ) → process-non-vars-lts.Need-returns-3 (known m) (process-non-vars-at m) process-non-vars.Post
+returns-3 m c =
     let last = c .before .before .before .before in
-    let two = last .before .before .before .before .before .before .before .before in
-    let one = two .before .before .before .before .before .before .before in
-    let n = one .before .before .before in
-    let parts = n .before in
-    let found = parts .before in
-    let else = found .before in
-    let start = else .before .before .before .before .before in
-    let a = start .args in
-    let pre = start .pre .1 in
-    non-vars-do (a .tables .now) (pre .0) (a .inner .now) (a .row) (else .if1 .left) (pre .3) (found .row-at .result) (row-is m found)
-    _ (parts .pattern-of .ensures) (a .context) (a .p) _ (n .non-var .ensures) (a .firsts .now) (a .work .now) _ _ _
-    (one .process-non-var .ensures) _ _ _ (two .process-non-vars .ensures) _ _ _ (last .process-non-vars2 .ensures)
+    done m (last .before .before .before .before .before .before) _ _ _ (last .process-non-vars2 .ensures)

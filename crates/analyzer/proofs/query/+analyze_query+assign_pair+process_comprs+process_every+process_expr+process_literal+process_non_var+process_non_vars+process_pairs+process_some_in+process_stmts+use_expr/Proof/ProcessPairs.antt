@@ -1,12 +1,18 @@
 -- `process_pairs`.
-use mathlib.Core.Path.{_≡_, _∙_}
+use mathlib.Core.Path.{_≡_, refl, _∙_}
+use mathlib.Core.List.{List}
 use Prim.Native.Nat.{ℕ}
 use native.Mathlib.Omega.{arith}
+use lib.ListN.{length}
 use borrow.Author.Needs.{needs}
 use Rattle.trees.specs.Sheet.{rowAt, row-fields}
 use Rattle.gather.specs.Walking.{row-low, first-low}
 use Rattle.laws.specs.Pairs.{pairings-left, pairings-right}
-use Rattle.analyzer.specs.PairTurns.{no-pairs}
+use Rattle.frame.specs.declared.Progress.{Progress}
+use Rattle.analyzer.specs.Asks.{pairAt, pairsAt}
+use Rattle.analyzer.specs.Does.{DoesPairs}
+use Rattle.analyzer.specs.Guards.{Keeps, guarded-lists}
+use Rattle.analyzer.specs.PairTurns.{no-pairs, pair-none}
 use Rattle.analyzer.specs.PairRows.{Split, split, asks-pair, asks-parts, asks-rest, pairs-does}
 use Rattle.analyzer.proofs.query.assign_pair.Reads as assign-pair
 use Rattle.analyzer.proofs.query.process_pairs.Reads as process-pairs
@@ -30,27 +36,23 @@ known m = (
   process-pairs.Post,
 )
 
--- src/query.rt:177:9
 pub returns : (m : ℕ) → process-pairs-lts.Need-returns (known m) (process-pairs-at m) process-pairs.Post
 returns m c =
     let start = c .before .before .before .before .before in
     let a = start .args in
     no-pairs _ _ (a .check) (a .context) _ _ _ _ (pairings-left _ (start .pre .1 .0) (a .left) (a .right) (c .if1 .taken))
 
--- src/query.rt:180:9
 pub returns-2 : (m : ℕ) → process-pairs-lts.Need-returns-2 (known m) (process-pairs-at m) process-pairs.Post
 returns-2 m c =
     let start = c .before .before .before .before .before .before in
     let a = start .args in
     no-pairs _ _ (a .check) (a .context) _ _ _ _ (pairings-right _ (start .pre .1 .0) (a .left) (a .right) (c .if2 .taken))
 
--- src/query.rt:182:9
 pub row-at-requires : (m : ℕ) → process-pairs-lts.Need-row-at-requires (known m) (process-pairs-at m) process-pairs.Post
 row-at-requires m c κs =
     let pre = c .before .before .before .before .before .before .pre .1 in
     (pre .0 .room, row-low _ (pre .0) _ (c .before .if1 .left) (pre .3))
 
--- src/query.rt:183:9
 pub row-at-requires-2 : (m : ℕ) → process-pairs-lts.Need-row-at-requires-2 (known m) (process-pairs-at m) process-pairs.Post
 row-at-requires-2 m c κs =
     let pre = c .before .before .before .before .before .before .before .pre .1 in
@@ -63,7 +65,6 @@ left-is m c = c .row-at .ensures ∙ row-fields _ _
 right-is : (m : ℕ) (c : process-pairs-lts.After-row-at2 (known m) (process-pairs-at m) process-pairs.Post) → c .row-at2 .result ≡ rowAt (c .before .before .before .before .before .before .before .before .args .tables .now) (c .before .before .before .before .before .before .before .before .args .right)
 right-is m c = c .row-at2 .ensures ∙ row-fields _ _
 
--- src/query.rt:184:9
 pub pair-of-requires : (m : ℕ) → process-pairs-lts.Need-pair-of-requires (known m) (process-pairs-at m) process-pairs.Post
 pair-of-requires m c κs =
     let left = c .before in
@@ -83,14 +84,12 @@ parts m c =
     split _ (pre .0) _ (left .before .before .if1 .left) (pre .3) _ (left .before .if2 .left) (pre .4) _ _ (left-is m left) (right-is m right) _
     (c .pair-of .ensures)
 
--- src/query.rt:185:9
 pub differ-requires : (m : ℕ) → process-pairs-lts.Need-differ-requires (known m) (process-pairs-at m) process-pairs.Post
 differ-requires m c κs = search needs
 
--- src/query.rt:186:5
 pub assign-pair-requires : (m : ℕ) → process-pairs-lts.Need-assign-pair-requires (known m) (process-pairs-at m) process-pairs.Post
 assign-pair-requires m c κs =
-    let differ = c .before .before in
+    let differ = c .before .before .before .before in
     let start = differ .before .before .before .before .before .before .before .before .before .before in
     let pre = start .pre .1 in
     let s = parts m (differ .before) in (
@@ -105,11 +104,25 @@ assign-pair-requires m c κs =
       ),
     )
 
--- src/query.rt:197:5
+-- The pair itself and the pairs of two arrays, each processed where there is one.
+one-done : (m : ℕ) (c : process-pairs-lts.Joined3 (known m) (process-pairs-at m) process-pairs.Post)
+    → let differ = c .before .before in
+    let pair = differ .before .pair-of .result in
+    let a = differ .before .before .before .before .before .before .before .before .before .before .args in
+    Keeps (DoesPairs (a .tables .now) (a .inner .now) (pairAt (a .tables .now) (pair .left) (pair .right)) (a .check) (a .context))
+    (differ .differ .result) (a .firsts .now) (a .work .now) (c .if3 .s) (c .if3 .firsts) (c .if3 .work)
+one-done m c =
+    let right = c .before .before .before .pair-of .result .right in
+    let a = c .before .before .before .before .before .before .before .before .before .before .before .before .args in
+    guarded-lists (λ l. DoesPairs (a .tables .now) (a .inner .now) (pairAt (a .tables .now) l right) (a .check) (a .context))
+    (λ p fs w. pair-none (a .tables .now) (a .inner .now) 0 right (a .check) (a .context) p fs w refl) _ _ _ _ _ _ _
+    (λ w. (_, _, _, (w .3 .ensures, w .3 .kept .1 .1 .1 .1 .1 .1 .1 .0, w .3 .kept .1 .1 .1 .1 .1 .1 .1 .1 .0), w .8, w .9, w .10))
+    (λ w. (w .0 .left, w .1, w .2, w .3)) (c .if3 .came)
+
 pub process-pairs-requires : (m : ℕ) → process-pairs-lts.Need-process-pairs-requires (known m) (process-pairs-at m) process-pairs.Post
 process-pairs-requires m c κs =
-    let one = c .before .before .before .before .before .before in
-    let differ = one .before .before .before in
+    let j3 = c .before .before .before .before in
+    let differ = j3 .before .before in
     let start = differ .before .before .before .before .before .before .before .before .before .before in
     let pre = start .pre .1 in
     let s = parts m (differ .before) in (
@@ -117,27 +130,76 @@ process-pairs-requires m c κs =
       (
         pre .0,
         pre .1,
-        omega (arith, pre .2, one .assign-pair .kept .1 .1 .1 .1 .1 .1 .1 .0),
+        omega (arith, pre .2, one-done m j3 .1),
         s .lefts-fall .1,
         s .rights-low,
-        asks-parts _ _ _ _ (start .args .check) _ _ _ _ (pre .5) _ _ _ s _ (differ .differ .ensures) _ _ _ (one .assign-pair .ensures),
+        asks-parts _ _ _ _ (start .args .check) _ _ _ _ (pre .5) _ _ _ s _ (differ .differ .ensures) _ _ _ (one-done m j3 .0),
       ),
     )
 
--- src/query.rt:211:9
+below-done : (m : ℕ) (c : process-pairs-lts.Joined4 (known m) (process-pairs-at m) process-pairs.Post)
+    → let j3 = c .before .before in
+    let pair = j3 .before .before .before .pair-of .result in
+    let a = j3 .before .before .before .before .before .before .before .before .before .before .before .before .args in
+    Keeps (DoesPairs (a .tables .now) (a .inner .now) (pairsAt (a .tables .now) (pair .lefts) (pair .rights)) (a .check) (a .context))
+    (j3 .if3 .s) (j3 .if3 .firsts) (j3 .if3 .work) (c .if4 .s) (c .if4 .firsts) (c .if4 .work)
+below-done m c =
+    let j3 = c .before .before in
+    let rights = j3 .before .before .before .pair-of .result .rights in
+    let start = j3 .before .before .before .before .before .before .before .before .before .before .before .before in
+    let a = start .args in
+    guarded-lists (λ l. DoesPairs (a .tables .now) (a .inner .now) (pairsAt (a .tables .now) l rights) (a .check) (a .context))
+    (λ p fs w. no-pairs _ _ (a .check) (a .context) p fs w _ (pairings-left _ (start .pre .1 .0) 0 rights refl)) _ _ _ _ _ _ _
+    (λ w. (_, _, _, (w .3 .ensures, w .3 .kept .1 .1 .1 .1 .1 .1 .1 .0, w .3 .kept .1 .1 .1 .1 .1 .1 .1 .1 .0), w .8, w .9, w .10))
+    (λ w. (w .0 .left, w .1, w .2, w .3)) (c .if4 .came)
+
+-- The lengths of the lists are those at the start.
+kept : (m : ℕ) (c : process-pairs-lts.Joined4 (known m) (process-pairs-at m) process-pairs.Post)
+    → let a = c .before .before .before .before .before .before .before .before .before .before .before .before .before .before .args in
+    (length (c .if4 .firsts) ≡ length (a .firsts .now)) × (length (c .if4 .work) ≡ length (a .work .now))
+kept m c =
+    let one = one-done m (c .before .before) in
+    let below = below-done m c in
+    (below .1 ∙ one .1, below .2 ∙ one .2)
+
+-- The whole, with the rest of both chains.
+done : (m : ℕ) (c : process-pairs-lts.Joined4 (known m) (process-pairs-at m) process-pairs.Post) (s : Progress) (fs w : List ℕ)
+    → let right = c .before .before .before .before .before .before in
+    let a = c .before .before .before .before .before .before .before .before .before .before .before .before .before .before .args in
+    DoesPairs (a .tables .now) (a .inner .now) (pairsAt (a .tables .now) (right .before .row-at .result .next) (right .row-at2 .result .next)) (a .check) (a .context)
+    (c .if4 .s) (c .if4 .firsts) (c .if4 .work) s fs w
+    → DoesPairs (a .tables .now) (a .inner .now) (pairsAt (a .tables .now) (a .left) (a .right)) (a .check) (a .context) (a .p) (a .firsts .now) (a .work .now) s fs w
+done m c s fs w behind =
+    let j3 = c .before .before in
+    let differ = j3 .before .before in
+    let start = differ .before .before .before .before .before .before .before .before .before .before in
+    let pre = start .pre .1 in
+    pairs-does _ _ _ _ (start .args .check) _ _ _ _ (pre .5) _ _ _ (parts m (differ .before)) _ (differ .differ .ensures) _ _ _ (one-done m j3 .0) _ _ _
+    (below-done m c .0) _ _ _ behind
+
+pub same-length : (m : ℕ) → process-pairs-lts.Need-same-length (known m) (process-pairs-at m) process-pairs.Post
+same-length m c = kept m (c .before .before) .0
+
+pub same-length-2 : (m : ℕ) → process-pairs-lts.Need-same-length-2 (known m) (process-pairs-at m) process-pairs.Post
+same-length-2 m c = kept m (c .before .before) .1
+
+pub returns-3 : (m : ℕ) → process-pairs-lts.Need-returns-3 (known m) (process-pairs-at m) process-pairs.Post
+returns-3 m c =
+    let start = c .before .before .before .before .before .before .before .before .before .before .before .before .before .before .before .before in
+    let a = start .args in
+    done m (c .before .before) _ _ _ (no-pairs _ _ (a .check) (a .context) _ _ _ _ (pairings-left _ (start .pre .1 .0) _ _ (c .if5 .taken)))
+
 pub cast-process-pairs : (m : ℕ) → process-pairs-lts.Need-cast-process-pairs (known m) (process-pairs-at m) process-pairs.Post
 cast-process-pairs m c = search needs
 
--- src/query.rt:212:9
 pub cast-process-pairs-2 : (m : ℕ) → process-pairs-lts.Need-cast-process-pairs-2 (known m) (process-pairs-at m) process-pairs.Post
 cast-process-pairs-2 m c = search needs
 
--- src/query.rt:208:5
 pub process-pairs-requires-2 : (m : ℕ) → process-pairs-lts.Need-process-pairs-requires-2 (known m) (process-pairs-at m) process-pairs.Post
 process-pairs-requires-2 m c κs =
-    let below = c .before .before .before .before .before .before .before .before in
-    let one = below .before .before .before .before .before .before .before in
-    let differ = one .before .before .before in
+    let j4 = c .before .before .before .before .before .before in
+    let j3 = j4 .before .before in
+    let differ = j3 .before .before in
     let start = differ .before .before .before .before .before .before .before .before .before .before in
     let pre = start .pre .1 in
     let s = parts m (differ .before) in (
@@ -145,33 +207,24 @@ process-pairs-requires-2 m c κs =
       (
         pre .0,
         pre .1,
-        omega (arith, pre .2, one .assign-pair .kept .1 .1 .1 .1 .1 .1 .1 .0, below .process-pairs .kept .1 .1 .1 .1 .1 .1 .1 .0),
+        omega (arith, pre .2, kept m j4 .0),
         s .next-falls .1,
         s .next-low,
-        asks-rest _ _ _ _ (start .args .check) _ _ _ _ (pre .5) _ _ _ s _ (differ .differ .ensures) _ _ _ (one .assign-pair .ensures) _ _ _
-            (below .process-pairs .ensures),
+        asks-rest _ _ _ _ (start .args .check) _ _ _ _ (pre .5) _ _ _ s _ (differ .differ .ensures) _ _ _ (one-done m j3 .0) _ _ _ (below-done m j4 .0),
       ),
     )
 
--- src/query.rt:162:1
-pub same-length : (m : ℕ) → process-pairs-lts.Need-same-length (known m) (process-pairs-at m) process-pairs.Post
-same-length m c =
-    let below = c .before .before .before .before .before .before .before .before .before .before .before .before .before in
-    omega (arith, c .before .before .before .before .process-pairs2 .kept .1 .1 .1 .1 .1 .1 .1 .0, below .process-pairs .kept .1 .1 .1 .1 .1 .1 .1 .0, below .before .before .before .before .before .before .before .assign-pair .kept .1 .1 .1 .1 .1 .1 .1 .0)
-
--- src/query.rt:162:1
-pub same-length-2 : (m : ℕ) → process-pairs-lts.Need-same-length-2 (known m) (process-pairs-at m) process-pairs.Post
-same-length-2 m c =
-    let below = c .before .before .before .before .before .before .before .before .before .before .before .before .before in
-    omega (arith, c .before .before .before .before .process-pairs2 .kept .1 .1 .1 .1 .1 .1 .1 .1 .0, below .process-pairs .kept .1 .1 .1 .1 .1 .1 .1 .1 .0, below .before .before .before .before .before .before .before .assign-pair .kept .1 .1 .1 .1 .1 .1 .1 .1 .0)
-
--- src/query.rt:162:1
-pub returns-3 : (m : ℕ) → process-pairs-lts.Need-returns-3 (known m) (process-pairs-at m) process-pairs.Post
-returns-3 m c =
+pub same-length-3 : (m : ℕ) → process-pairs-lts.Need-same-length-3 (known m) (process-pairs-at m) process-pairs.Post
+same-length-3 m c =
     let behind = c .before .before .before .before in
-    let below = behind .before .before .before .before .before .before .before .before .before in
-    let one = below .before .before .before .before .before .before .before in
-    let differ = one .before .before .before in
-    let start = differ .before .before .before .before .before .before .before .before .before .before in
-    pairs-does _ _ _ _ _ _ _ _ _ (start .pre .1 .5) _ _ _ (parts m (differ .before)) _ (differ .differ .ensures) _ _ _ (one .assign-pair .ensures) _ _ _
-    (below .process-pairs .ensures) _ _ _ (behind .process-pairs2 .ensures)
+    behind .process-pairs2 .kept .1 .1 .1 .1 .1 .1 .1 .0 ∙ kept m (behind .before .before .before .before .before .before .before) .0
+
+pub same-length-4 : (m : ℕ) → process-pairs-lts.Need-same-length-4 (known m) (process-pairs-at m) process-pairs.Post
+same-length-4 m c =
+    let behind = c .before .before .before .before in
+    behind .process-pairs2 .kept .1 .1 .1 .1 .1 .1 .1 .1 .0 ∙ kept m (behind .before .before .before .before .before .before .before) .1
+
+pub returns-4 : (m : ℕ) → process-pairs-lts.Need-returns-4 (known m) (process-pairs-at m) process-pairs.Post
+returns-4 m c =
+    let behind = c .before .before .before .before in
+    done m (behind .before .before .before .before .before .before .before) _ _ _ (behind .process-pairs2 .ensures)

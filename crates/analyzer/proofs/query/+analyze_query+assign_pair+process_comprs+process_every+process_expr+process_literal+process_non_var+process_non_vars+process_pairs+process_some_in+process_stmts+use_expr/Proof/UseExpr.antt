@@ -1,13 +1,18 @@
 -- `use_expr`: the uses, then the comprehensions of the expression and of the modifiers, which are one list.
 use mathlib.Core.Path.{sym, _∙_}
+use mathlib.Core.Bool.{true}
 use Prim.Native.Nat.{ℕ}
 use native.Mathlib.Omega.{arith}
 use lib.Dec.{eqb}
 use borrow.Author.Needs.{needs}
 use borrow.Author.Tests.{eqb-true}
 use Rattle.basics.specs.Truth.{and-left, and-right}
+use Rattle.trees.specs.Traverse.{comprs}
+use Rattle.gather.specs.Exprs.{exprBy}
 use Rattle.gather.specs.Walking.{few-remain}
+use Rattle.analyzer.specs.Does.{DoesComprs}
 use Rattle.analyzer.specs.ComprRows.{at-low}
+use Rattle.analyzer.specs.Guards.{Keeps, walked-comprs}
 use Rattle.analyzer.specs.UseExprs.{use-ready, use-room, own-asks, mods-asks, does-use, does-without}
 use Rattle.analyzer.proofs.query.process_comprs.Reads as process-comprs
 use Rattle.analyzer.proofs.query.use_expr.Reads as use-expr
@@ -62,7 +67,7 @@ returns m c =
 
 pub process-comprs-requires : (m : ℕ) → use-expr-lts.Need-process-comprs-requires (known m) (use-expr-at m) use-expr.Post
 process-comprs-requires m c κs =
-    let u = c .before .before .before .before .before .before .before .before .before .before in
+    let u = c .before .before .before .before .before .before .before .before .before .before .before in
     let start = u .before .before .before .before .before .before .before in
     let pre = start .pre .1 in (
       omega (arith, start .pre .0, few-remain _ (pre .0) (u .use-vars .result .comprs)),
@@ -75,53 +80,76 @@ process-comprs-requires m c κs =
       ),
     )
 
+-- The comprehensions, each walked where there is a row.
+own-walk : (m : ℕ) (c : use-expr-lts.Joined2 (known m) (use-expr-at m) use-expr.Post)
+    → let u = c .before .before .before .before .before .before .before .before .before in
+    let x = u .before .before .before .before .before .before .before .args in
+    Keeps (DoesComprs (x .tables .now) (x .inner .now) (comprs (exprBy (x .tables .now) (x .rest) (u .use-vars .result .comprs))) (x .context .levels))
+    (u .use-vars .result .progress) (u .use-vars .last .1 .1 .1 .1 .1 .1 .0) (u .use-vars .last .1 .1 .1 .1 .1 .1 .1 .0) (c .if2 .s) (c .if2 .firsts) (c .if2 .work)
+own-walk m c =
+    let start = c .before .before .before .before .before .before .before .before .before .before .before .before .before .before .before .before in
+    walked-comprs _ _ _ (start .pre .1 .0) (start .args .rest) _ _ _ _ _ _ _
+    (λ w. (_, _, _, (w .3 .ensures, w .3 .kept .1 .1 .1 .1 .1 .1 .0, w .3 .kept .1 .1 .1 .1 .1 .1 .1 .0), w .8, w .9, w .10))
+    (λ w. (w .0 .left, w .1, w .2, w .3)) (c .if2 .came)
+
 pub process-comprs-requires-2 : (m : ℕ) → use-expr-lts.Need-process-comprs-requires-2 (known m) (use-expr-at m) use-expr.Post
 process-comprs-requires-2 m c κs =
-    let d = c .before .before .before .before .before .before in
-    let u = d .before .before .before .before .before .before .before .before .before .before .before in
+    let j2 = c .before .before .before in
+    let u = j2 .before .before .before .before .before .before .before .before .before in
     let start = u .before .before .before .before .before .before .before in
     let pre = start .pre .1 in (
       omega (arith, start .pre .0, few-remain _ (pre .0) (start .args .context .mods)),
       (
         pre .0,
         pre .1,
-        omega (arith, pre .2, u .use-vars .kept .1 .1 .1 .1 .1 .1 .0, d .process-comprs .kept .1 .1 .1 .1 .1 .1 .0),
+        omega (arith, pre .2, u .use-vars .kept .1 .1 .1 .1 .1 .1 .0, own-walk m j2 .1),
         pre .5 .mods-low,
-        mods-asks _ _ _ _ (start .args .rest) _ _ _ _ (pre .5) (pre .4) _ _ _ (u .use-vars .ensures) _ _ _ (d .process-comprs .ensures),
+        mods-asks _ _ _ _ (start .args .rest) _ _ _ _ (pre .5) (pre .4) _ _ _ (u .use-vars .ensures) _ _ _ (own-walk m j2 .0),
       ),
     )
 
+mods-walk : (m : ℕ) (c : use-expr-lts.Joined3 (known m) (use-expr-at m) use-expr.Post)
+    → let u = c .before .before .before .before .before .before .before .before .before .before in
+    let x = u .before .before .before .before .before .before .before .args in
+    Keeps (DoesComprs (x .tables .now) (x .inner .now) (comprs (exprBy (x .tables .now) true (x .context .mods))) (x .context .levels))
+    (c .before .if2 .s) (c .before .if2 .firsts) (c .before .if2 .work) (c .if3 .s) (c .if3 .firsts) (c .if3 .work)
+mods-walk m c =
+    let start = c .before .before .before .before .before .before .before .before .before .before .before .before .before .before .before .before .before in
+    walked-comprs _ _ _ (start .pre .1 .0) true _ _ _ _ _ _ _
+    (λ w. (_, _, _, (w .3 .ensures, w .3 .kept .1 .1 .1 .1 .1 .1 .0, w .3 .kept .1 .1 .1 .1 .1 .1 .1 .0), w .8, w .9, w .10))
+    (λ w. (w .0 .left, w .1, w .2, w .3)) (c .if3 .came)
+
 pub all-used-requires : (m : ℕ) → use-expr-lts.Need-all-used-requires (known m) (use-expr-at m) use-expr.Post
 all-used-requires m c κs =
-    let e = c .before .before .before .before .before in
-    let d = e .before .before .before .before .before .before .before in
-    let u = d .before .before .before .before .before .before .before .before .before .before .before in
+    let j3 = c .before in
+    let j2 = j3 .before in
+    let u = j2 .before .before .before .before .before .before .before .before .before in
     let start = u .before .before .before .before .before .before .before in
     let pre = start .pre .1 in (
       pre .0,
       at-low _ (start .args .rest) _ _ (u .use-vars .ensures .comprs) (pre .3),
       pre .5 .mods-low,
-      use-room _ _ _ _ (start .args .rest) _ _ _ _ (pre .5) (pre .4) _ _ _ (u .use-vars .ensures) _ _ _ (d .process-comprs .ensures) _ _ _ (e .process-comprs2 .ensures),
+      use-room _ _ _ _ (start .args .rest) _ _ _ _ (pre .5) (pre .4) _ _ _ (u .use-vars .ensures) _ _ _ (own-walk m j2 .0) _ _ _ (mods-walk m j3 .0),
     )
 
 pub same-length-3 : (m : ℕ) → use-expr-lts.Need-same-length-3 (known m) (use-expr-at m) use-expr.Post
 same-length-3 m c =
-    let e = c .before .before .before .before .before .before in
-    let d = e .before .before .before .before .before .before .before in
-    let u = d .before .before .before .before .before .before .before .before .before .before .before in
-    omega (arith, u .use-vars .kept .1 .1 .1 .1 .1 .1 .0, d .process-comprs .kept .1 .1 .1 .1 .1 .1 .0, e .process-comprs2 .kept .1 .1 .1 .1 .1 .1 .0)
+    let j3 = c .before .before in
+    let j2 = j3 .before in
+    let u = j2 .before .before .before .before .before .before .before .before .before in
+    omega (arith, u .use-vars .kept .1 .1 .1 .1 .1 .1 .0, own-walk m j2 .1, mods-walk m j3 .1)
 
 pub same-length-4 : (m : ℕ) → use-expr-lts.Need-same-length-4 (known m) (use-expr-at m) use-expr.Post
 same-length-4 m c =
-    let e = c .before .before .before .before .before .before in
-    let d = e .before .before .before .before .before .before .before in
-    let u = d .before .before .before .before .before .before .before .before .before .before .before in
-    omega (arith, u .use-vars .kept .1 .1 .1 .1 .1 .1 .1 .0, d .process-comprs .kept .1 .1 .1 .1 .1 .1 .1 .0, e .process-comprs2 .kept .1 .1 .1 .1 .1 .1 .1 .0)
+    let j3 = c .before .before in
+    let j2 = j3 .before in
+    let u = j2 .before .before .before .before .before .before .before .before .before in
+    omega (arith, u .use-vars .kept .1 .1 .1 .1 .1 .1 .1 .0, own-walk m j2 .2, mods-walk m j3 .2)
 
 pub returns-2 : (m : ℕ) → use-expr-lts.Need-returns-2 (known m) (use-expr-at m) use-expr.Post
 returns-2 m c =
-    let e = c .before .before .before .before .before .before in
-    let d = e .before .before .before .before .before .before .before in
-    let u = d .before .before .before .before .before .before .before .before .before .before .before in
+    let j3 = c .before .before in
+    let j2 = j3 .before in
+    let u = j2 .before .before .before .before .before .before .before .before .before in
     let start = u .before .before .before .before .before .before .before in
-    does-use _ _ _ _ (start .args .rest) _ _ _ _ _ _ _ (u .use-vars .ensures) _ _ _ (d .process-comprs .ensures) _ _ _ (e .process-comprs2 .ensures) _ (c .all-used .ensures)
+    does-use _ _ _ _ (start .args .rest) _ _ _ _ _ _ _ (u .use-vars .ensures) _ _ _ (own-walk m j2 .0) _ _ _ (mods-walk m j3 .0) _ (c .all-used .ensures)
