@@ -53,10 +53,14 @@ pub record Written (n count : ℕ) (order reached : List ℕ) : Type 0 where
 -- since the last placing.
 pub record Holds (defs : List Definition) (n : ℕ) (s : State) (order reached : List ℕ) : Type 0 where
   pub written : Written n (s .count) order reached
-  pub knows : (x : ℕ) → member (s .known .words) x ≡ known (ready defs) (defines defs) (orderOf s order) x
   pub taken : (i : ℕ) → member (s .placed .words) i ≡ elem i (orderOf s order)
   pub rests : (i : ℕ) → member (s .placed .words) i ≡ true → member (s .idle .words) i ≡ true
   pub idles : (i : ℕ) → member (s .idle .words) i ≡ true → takeable (ready defs) (defines defs) n (orderOf s order) i ≡ false
+
+-- The words have the names that the statements of an order define.
+pub record Knows (defs : List Definition) (words o : List ℕ) : Type 0 where
+  pub long : length words ≡ 8
+  pub has : (x : ℕ) → member words x ≡ known (ready defs) (defines defs) o x
 
 -- Statement i, one of n, waits for a try: it has definitions, and is not placed.
 pub record Waiting (defs : List Definition) (n : ℕ) (s : State) (i : ℕ) : Type 0 where

@@ -2,6 +2,7 @@
 
 use names::CAPACITY;
 use names::Names;
+use names::WORDS;
 use names::statements::STATEMENTS;
 use names::statements::Statements;
 use rows::CELLS;
@@ -17,12 +18,11 @@ ghost use Rattle.turns.specs.Orders.{turnOrder, followedOrder, roundOrder, plac
 ghost use Rattle.widths.specs.Widths.{row};
 ghost use Rattle.rows.specs.Rows.{definitions};
 ghost use Rattle.rows.specs.Masks.{Masked};
-ghost use Rattle.place.specs.State.{Sound, Indexed, NextTry, orderOf, Holds, Waiting, After};
+ghost use Rattle.place.specs.State.{Sound, Indexed, NextTry, orderOf, Holds, Knows, Waiting, After};
 
-// What is placed so far. The order is in a lent buffer, and a mark for each statement placed is in another.
+// What is placed so far. The order is in a lent buffer, and a mark for each statement placed is in another. The names that these define are in
+// lent words: in the state they would be copied at each call.
 pub struct State {
-    // The names that the statements placed define.
-    pub known: Names,
     // The statements placed.
     pub placed: Statements,
     // The same with those whose try failed since the last placing: a try of these would fail.
@@ -38,6 +38,7 @@ pub fn attempt(
     links: &[u16; CELLS],
     n: usize,
     i: usize,
+    known: &mut [u64; WORDS],
     state: State,
     order: &mut [u16],
     reached: &mut [u16],
@@ -45,19 +46,18 @@ pub fn attempt(
     requires { ⌜ Sound (row width) (now rows) (now links) n ⌝ }
     requires { ⌜ Waiting (definitions (row width) (now rows)) n state i ⌝ }
     requires { ⌜ Holds (definitions (row width) (now rows)) n state (now order) (now reached) ⌝ }
+    requires { ⌜ Knows (definitions (row width) (now rows)) (now known) (orderOf state (now order)) ⌝ }
     ensures { λ r. ⌜ (let defs = definitions (row width) (now (rows .entry)) in
         let o = orderOf state (now (order .entry)) in
-        After defs n (pick (ready defs) (defines defs) n o i) r (now (order .exit)) (now (reached .exit))) ⌝ }
+        After defs n (pick (ready defs) (defines defs) n o i) r (now (order .exit)) (now (reached .exit))
+        × Knows defs (now (known .exit)) (orderOf r (now (order .exit)))) ⌝ }
 {
-    let known = state.known;
     let placed = state.placed;
     let idle = state.idle;
     let count = state.count;
-    let tried = resolve::try_statement(width, rows, links, i, known);
-    if !tried.resolved {
+    if !resolve::try_statement(width, rows, links, i, known) {
         let failed = idle.insert(i);
         return State {
-            known,
             placed,
             idle: failed,
             count,
@@ -65,10 +65,8 @@ pub fn attempt(
     }
     order[count] = i as u16;
     reached[i] = 1;
-    let more = tried.known;
     let all = placed.insert(i);
     State {
-        known: more,
         placed: all,
         idle: all,
         count: count + 1,
@@ -90,21 +88,24 @@ pub fn take_turn(
     masks: &[u64; MASKS],
     n: usize,
     name: usize,
+    known: &mut [u64; WORDS],
     state: State,
     order: &mut [u16],
     reached: &mut [u16],
 ) -> State
     requires { ⌜ (name < 512) × Indexed (row width) (now rows) (now links) (now masks) n ⌝ }
     requires { ⌜ Holds (definitions (row width) (now rows)) n state (now order) (now reached) ⌝ }
+    requires { ⌜ Knows (definitions (row width) (now rows)) (now known) (orderOf state (now order)) ⌝ }
     ensures { λ r. ⌜ (let defs = definitions (row width) (now (rows .entry)) in
         let o = orderOf state (now (order .entry)) in
-        After defs n (turnOrder defs n name o) r (now (order .exit)) (now (reached .exit))) ⌝ }
+        After defs n (turnOrder defs n name o) r (now (order .exit)) (now (reached .exit))
+        × Knows defs (now (known .exit)) (orderOf r (now (order .exit)))) ⌝ }
 {
     let own = rows::statements_of(masks, name);
     let mut at = state;
     let mut i = next_try(own, at.idle, 0);
     while i < STATEMENTS {
-        at = attempt(width, rows, links, n, i, at, order, reached);
+        at = attempt(width, rows, links, n, i, known, at, order, reached);
         i = next_try(own, at.idle, i + 1);
     }
     at
@@ -118,23 +119,37 @@ pub fn take_followed(
     masks: &[u64; MASKS],
     n: usize,
     name: usize,
+    known: &mut [u64; WORDS],
     state: State,
     order: &mut [u16],
     reached: &mut [u16],
 ) -> State
     requires { ⌜ (name < 512) × Indexed (row width) (now rows) (now links) (now masks) n ⌝ }
     requires { ⌜ Holds (definitions (row width) (now rows)) n state (now order) (now reached) ⌝ }
+    requires { ⌜ Knows (definitions (row width) (now rows)) (now known) (orderOf state (now order)) ⌝ }
     ensures { λ r. ⌜ (let defs = definitions (row width) (now (rows .entry)) in
         let o = orderOf state (now (order .entry)) in
-        After defs n (followedOrder defs n o name) r (now (order .exit)) (now (reached .exit))) ⌝ }
+        After defs n (followedOrder defs n o name) r (now (order .exit)) (now (reached .exit))
+        × Knows defs (now (known .exit)) (orderOf r (now (order .exit)))) ⌝ }
 {
     let before = state.count;
-    let own = take_turn(width, rows, links, masks, n, name, state, order, reached);
+    let own = take_turn(
+        width,
+        rows,
+        links,
+        masks,
+        n,
+        name,
+        known,
+        state,
+        order,
+        reached,
+    );
     let after = own.count;
     if after == before {
         return own;
     }
-    take_turn(width, rows, links, masks, n, 0, own, order, reached)
+    take_turn(width, rows, links, masks, n, 0, known, own, order, reached)
 }
 
 // A round: the turn of each name that a statement defines, ascending.
@@ -145,6 +160,7 @@ pub fn take_round(
     masks: &[u64; MASKS],
     defined: Names,
     n: usize,
+    known: &mut [u64; WORDS],
     state: State,
     order: &mut [u16],
     reached: &mut [u16],
@@ -152,14 +168,32 @@ pub fn take_round(
     requires { ⌜ Sound (row width) (now rows) (now links) n ⌝ }
     requires { ⌜ Masked (row width) (now rows) (now masks) (defined .words) ⌝ }
     requires { ⌜ Holds (definitions (row width) (now rows)) n state (now order) (now reached) ⌝ }
+    requires { ⌜ Knows (definitions (row width) (now rows)) (now known) (orderOf state (now order)) ⌝ }
     ensures { λ r. ⌜ (let defs = definitions (row width) (now (rows .entry)) in
         let o = orderOf state (now (order .entry)) in
-        After defs n (roundOrder defs n (range 0 512) o) r (now (order .exit)) (now (reached .exit))) ⌝ }
+        After defs n (roundOrder defs n (range 0 512) o) r (now (order .exit)) (now (reached .exit))
+        × Knows defs (now (known .exit)) (orderOf r (now (order .exit)))) ⌝ }
 {
     let mut at = state;
     let mut name = defined.next(0);
     while name < CAPACITY {
-        at = take_followed(width, rows, links, masks, n, name, at, order, reached);
+        // Most names have nothing to try, and a call copies the state.
+        let own = rows::statements_of(masks, name);
+        let idle = at.idle;
+        if next_try(own, idle, 0) < STATEMENTS {
+            at = take_followed(
+                width,
+                rows,
+                links,
+                masks,
+                n,
+                name,
+                known,
+                at,
+                order,
+                reached,
+            );
+        }
         name = defined.next(name + 1);
     }
     at
@@ -184,17 +218,39 @@ pub fn place_all(
     ensures { λ r. ⌜ (let defs = definitions (row width) (now (rows .entry)) in
         After defs n (placedOrder defs n 512) r (now (order .exit)) (now (reached .exit))) ⌝ }
 {
+    let mut known: [u64; WORDS] = [0; WORDS];
     let none = Statements::empty();
     let start = State {
-        known: Names::empty(),
         placed: none,
         idle: none,
         count: 0,
     };
-    let mut at = take_turn(width, rows, links, masks, n, 0, start, order, reached);
+    let mut at = take_turn(
+        width,
+        rows,
+        links,
+        masks,
+        n,
+        0,
+        &mut known,
+        start,
+        order,
+        reached,
+    );
     while at.count < n {
         let before = at.count;
-        at = take_round(width, rows, links, masks, defined, n, at, order, reached);
+        at = take_round(
+            width,
+            rows,
+            links,
+            masks,
+            defined,
+            n,
+            &mut known,
+            at,
+            order,
+            reached,
+        );
         let after = at.count;
         if after == before {
             break;

@@ -34,7 +34,8 @@ pub record Passes (w : ℕ) (ws : List ℕ) (s : ℕ) (start seen : List ℕ) (w
 pub record Grows (start seen : List ℕ) (grew : Bool) : Type 0 where
   pub fresh : grew ≡ not (all (member start) (members seen))
 
--- What `try_statement` answers: do the definitions of statement s resolve from the names known; and if so, what is known then.
+-- What `try_statement` answers: do the definitions of statement s resolve from the names known; if so, what is known then, and if not, the same.
 pub record Tries (w : ℕ) (ws : List ℕ) (s : ℕ) (known : List ℕ) (resolved : Bool) (after : List ℕ) : Type 0 where
   pub says : resolved ≡ resolves (member known) (ofStatement s (definitions w ws))
   pub knows : resolved ≡ true → (x : ℕ) → member after x ≡ (defines (definitions w ws) s x || member known x)
+  pub stays : resolved ≡ false → after ≡ known

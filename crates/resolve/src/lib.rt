@@ -1,6 +1,5 @@
 // Whether the definitions of a statement resolve from the names known.
 
-use names::Names;
 use names::WORDS;
 use names::add;
 use names::has;
@@ -59,38 +58,29 @@ pub fn pass(
     Passed { waiting, grew }
 }
 
-// Whether a statement's definitions resolve, and if so the names known with those that it defines.
-pub struct Tried {
-    pub resolved: bool,
-    pub known: Names,
-}
-
-// Passes until none waits, or one finds nothing more.
+// Passes until none waits, or one finds nothing more: the names known get those that the statement defines where all resolve, and stay as they
+// are where not.
 pub fn try_statement(
     width: Width,
     rows: &[u64],
     links: &[u16; CELLS],
     statement: usize,
-    known: Names,
-) -> Tried
+    known: &mut [u64; WORDS],
+) -> bool
     requires { ⌜ (statement < 128) × Linked (row width) (now rows) (now links) ⌝ }
     requires { ⌜ ((k : ℕ) → k < rowCount (row width) (now rows) → varAt (row width) (now rows) k < 512) ⌝ }
-    ensures { λ r. ⌜ Tries (row width) (now (rows .entry)) statement (known .words) (r .resolved) (r .known .words) ⌝ }
+    requires { ⌜ length (now known) ≡ 8 ⌝ }
+    ensures { λ r. ⌜ (length (now (known .exit)) ≡ 8) × Tries (row width) (now (rows .entry)) statement (now (known .entry)) r (now (known .exit)) ⌝ }
 {
-    let mut seen = known.words;
+    let mut seen = *known;
     loop {
         let p = pass(width, rows, links, statement, &mut seen);
         if !p.waiting {
-            return Tried {
-                resolved: true,
-                known: Names { words: seen },
-            };
+            *known = seen;
+            return true;
         }
         if !p.grew {
-            return Tried {
-                resolved: false,
-                known,
-            };
+            return false;
         }
     }
 }

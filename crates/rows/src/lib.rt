@@ -1,6 +1,7 @@
 // A list of definitions as rows of words, and its two indexes: the rows of each statement, and the statements of each name.
 
 use names::Names;
+use names::WORDS;
 use names::statements::Statements;
 use widths::Width;
 use widths::next_at;
@@ -93,11 +94,11 @@ pub fn mask(width: Width, rows: &[u64], masks: &mut [u64; MASKS]) -> Names
 {
     let row = width.row();
     let count = rows.len() / row;
-    let mut defined = Names::empty();
+    let mut words: [u64; WORDS] = [0; WORDS];
     for k in 0..count {
         let name = rows[row * k + 1] as usize;
         add_to_mask(masks, name, rows[row * k] as usize);
-        defined = defined.insert(name);
+        names::add(&mut words, name);
     }
-    defined
+    Names { words }
 }

@@ -7,56 +7,56 @@ use borrow.Author.Needs.{needs}
 use Rattle.turns.specs.Orders.{placedOrder}
 use Rattle.rows.specs.Rows.{definitions}
 use Rattle.widths.specs.Widths.{row}
-use Rattle.place.specs.StateLaws.{begins}
+use Rattle.place.specs.State.{orderOf, Knows}
+use Rattle.place.specs.StateLaws.{begins, knows-none}
 use Rattle.place.specs.Rounding.{masked-indexed}
 use Rattle.place.specs.Placing.{Placing, placing-first, placing-full, placing-last, placing-next, placing-less}
 use Rattle.place.proofs.place_all.Statement.{statement}
 use Rattle.place.proofs.place_all.Tie as tie
 
 abbrev Inv-loop : tie.InvT-loop
-Inv-loop width rows links masks defined n order₀ reached₀ at₀ order reached at =
+Inv-loop width rows links masks defined n order₀ reached₀ known₀ at₀ order reached known at =
     (length order ≡ length order₀) × (length reached ≡ length reached₀)
     × Placing (definitions (row width) rows) n (placedOrder (definitions (row width) rows) n 512) at order reached
+    × Knows (definitions (row width) rows) known (orderOf at order)
 
 abbrev μ-loop : tie.MeasureT-loop
-μ-loop width rows links masks defined n order₀ reached₀ at₀ order reached at = n - at .count
+μ-loop width rows links masks defined n order₀ reached₀ known₀ at₀ order reached known at = n - at .count
 
 empty-requires : tie.Need-empty-requires Inv-loop μ-loop
 empty-requires c κs = search needs
 
-empty-requires-2 : tie.Need-empty-requires-2 Inv-loop μ-loop
-empty-requires-2 c κs = search needs
-
 take-turn-requires : tie.Need-take-turn-requires Inv-loop μ-loop
 take-turn-requires c κs =
-    let known = c .before .before .empty2 in
     let none = c .before .before .before .empty in
     let pre = c .before .before .before .before .before .before .before .pre in
     let blank = pre .1 .1 in
-    ((omega arith, masked-indexed (pre .0) (pre .1 .0)), begins _ (known .result) (none .result) (known .ensures) (none .ensures) (blank .0) (blank .1 .0) (blank .1 .1))
+    ((omega arith, masked-indexed (pre .0) (pre .1 .0)), (begins _ (none .result) (none .ensures) (blank .0) (blank .1 .0) (blank .1 .1), knows-none _))
 
 loop-holds : tie.Need-loop-holds Inv-loop μ-loop
-loop-holds c = (refl, refl, placing-first (c .before .before .before .before .take-turn .ensures))
+loop-holds c =
+    (refl, refl, placing-first (c .before .before .before .before .take-turn .ensures .0), c .before .before .before .before .take-turn .ensures .1)
 
 take-round-requires : tie.Need-take-round-requires Inv-loop μ-loop
 take-round-requires c κs =
-    let loop = c .before .before .before .before in
+    let loop = c .before .before .before .before .before in
     let pre = loop .before .before .before .before .before .before .before .before .before .before .before .before .before .pre in
-    (pre .0, (pre .1 .0, loop .loop .inv .2 .holds))
+    (pre .0, (pre .1 .0, (loop .loop .inv .2 .holds, loop .loop .inv .3)))
 
 loop-less : tie.Need-loop-less Inv-loop μ-loop
 loop-less c =
     let round = c .before .before .before .before .before in
-    let loop = round .before .before .before .before .before .loop in
-    placing-less (loop .inv .2) (round .take-round .ensures) (c .if2 .left)
+    let loop = round .before .before .before .before .before .before .loop in
+    placing-less (loop .inv .2) (round .take-round .ensures .0) (c .if2 .left)
 
 loop-again : tie.Need-loop-again Inv-loop μ-loop
 loop-again c =
     let round = c .before .before .before .before .before in
-    let loop = round .before .before .before .before .before .loop in (
-      round .take-round .kept .1 .1 .1 .1 .1 .1 .1 .0 ∙ loop .inv .0,
-      round .take-round .kept .1 .1 .1 .1 .1 .1 .1 .1 .0 ∙ loop .inv .1,
-      placing-next (loop .inv .2) (round .take-round .ensures) (c .if2 .left),
+    let loop = round .before .before .before .before .before .before .loop in (
+      round .take-round .kept .1 .1 .1 .1 .1 .1 .1 .1 .0 ∙ loop .inv .0,
+      round .take-round .kept .1 .1 .1 .1 .1 .1 .1 .1 .1 .0 ∙ loop .inv .1,
+      placing-next (loop .inv .2) (round .take-round .ensures .0) (c .if2 .left),
+      round .take-round .ensures .1,
     )
 
 same-length : tie.Need-same-length Inv-loop μ-loop
@@ -77,8 +77,8 @@ same-length-4 c = search needs
 returns-2 : tie.Need-returns-2 Inv-loop μ-loop
 returns-2 c =
     let round = c .before .before .before .before .before in
-    let loop = round .before .before .before .before .before .loop in
-    placing-last (loop .inv .2) (round .take-round .ensures) (c .if2 .taken)
+    let loop = round .before .before .before .before .before .before .loop in
+    placing-last (loop .inv .2) (round .take-round .ensures .0) (c .if2 .taken)
 
 pub place-all-spec : {M : Type 1} → statement M
 place-all-spec =
@@ -87,7 +87,6 @@ place-all-spec =
     Inv-loop
     μ-loop
     empty-requires
-    empty-requires-2
     take-turn-requires
     loop-holds
     take-round-requires
