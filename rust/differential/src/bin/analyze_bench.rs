@@ -3,7 +3,8 @@
 //!
 //! Each sheet is timed by itself, over many calls, the better of several runs counting; a class has
 //! the geometric mean of the sheets' ratios. *In turn* is the ratio of the times for all sheets one
-//! after the other, so that no branch is foreseen from the call before. Only sheets with an answer
+//! after the other, so that no branch is foreseen from the call before: each sheet's least of several
+//! rounds over all sheets, summed up. Only sheets with an answer
 //! count. The proved call zeroes its buffers, reads, checks and writes within its time; two more
 //! columns say what of that is spared the original: *reading*, the reader's own call on the sheet, and
 //! *zeroing*, as much zeroing as the whole call does. *Narrow* is the printing program's call on the
@@ -227,31 +228,38 @@ fn times(buffers: &mut Buffers, sheet: &Timed) -> Times {
     }
 }
 
-/// The least of several rounds over all sheets, in each of which the three take turns.
+/// The time of each sheet, the least of several rounds over all sheets, summed up. In a round the three
+/// take turns.
 fn in_turn(buffers: &mut Buffers, sheets: &[Timed]) -> Times {
-    let sum = |prepare: fn(&Timed), call: &mut dyn FnMut(&Timed)| {
-        let mut sum = 0.0;
-        for sheet in sheets {
-            prepare(sheet);
-            let started = Instant::now();
-            call(sheet);
-            sum += started.elapsed().as_nanos() as f64;
-        }
-        sum
-    };
-    let nothing = |_: &Timed| ();
-    let builtins = |sheet: &Timed| sheet.built.supply_builtins();
-    let mut least = Times {
-        proved: f64::MAX,
-        narrow: f64::MAX,
-        original: f64::MAX,
-    };
+    let mut proved = vec![f64::MAX; sheets.len()];
+    let mut narrow = proved.clone();
+    let mut original_alone = proved.clone();
     for _ in 0..20 {
-        least.proved = sum(nothing, &mut |sheet| buffers.proved(sheet)).min(least.proved);
-        least.narrow = sum(nothing, &mut |sheet| buffers.narrow(sheet)).min(least.narrow);
-        least.original = sum(builtins, &mut original).min(least.original);
+        round(sheets, &mut proved, |_| (), |sheet| buffers.proved(sheet));
+        round(sheets, &mut narrow, |_| (), |sheet| buffers.narrow(sheet));
+        let builtins = |sheet: &Timed| sheet.built.supply_builtins();
+        round(sheets, &mut original_alone, builtins, original);
     }
-    least
+    Times {
+        proved: proved.iter().sum(),
+        narrow: narrow.iter().sum(),
+        original: original_alone.iter().sum(),
+    }
+}
+
+/// One call on each sheet in turn; the least time of each is kept.
+fn round(
+    sheets: &[Timed],
+    least: &mut [f64],
+    prepare: impl Fn(&Timed),
+    mut call: impl FnMut(&Timed),
+) {
+    for (sheet, least) in sheets.iter().zip(least) {
+        prepare(sheet);
+        let started = Instant::now();
+        call(sheet);
+        *least = least.min(started.elapsed().as_nanos() as f64);
+    }
 }
 
 fn report(label: &str, sheets: &[Timed]) {
