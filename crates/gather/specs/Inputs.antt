@@ -41,8 +41,8 @@ fold-vars f s (e ∷ ts) = go (isVar (rowOf e)) (fold-vars f (f s (rowOf e)) ts)
     go true h k = h
     go false h k = k
 
--- What is done to a scope is done to its parts in lent words, whatever its locals are: the flag and the inputs change.
-pub record InParts (does : Scope → Scope → Type 0) (u i : List ℕ) (f : Bool) (j : List ℕ) (g : Bool) : Type 0 where
+-- What is done to a scope is done to its parts in lent words, whatever its locals are: the flag and the inputs change, these in as many words.
+pub record InputParts (does : Scope → Scope → Type 0) (u i : List ℕ) (f : Bool) (j : List ℕ) (g : Bool) : Type 0 where
   pub long : length j ≡ length i
   pub done : (l : Names) → does (scopeOf l u i f) (scopeOf l u j g)
 
@@ -64,13 +64,13 @@ module _ (t outer : List ℕ) where
   -- ---- the same of a scope's parts in lent words
 
   abbrev pub InputVarIn : Row → List ℕ → List ℕ → Bool → List ℕ → Bool → Type 0
-  InputVarIn w = InParts (InputVar w)
+  InputVarIn w = InputParts (InputVar w)
 
   abbrev pub InputStepIn : Row → List ℕ → List ℕ → Bool → List ℕ → Bool → Type 0
-  InputStepIn w = InParts (InputStep w)
+  InputStepIn w = InputParts (InputStep w)
 
   abbrev pub InputWalkIn : ℕ → Bool → List ℕ → List ℕ → Bool → List ℕ → Bool → Type 0
-  InputWalkIn row rest = InParts (InputWalk row rest)
+  InputWalkIn row rest = InputParts (InputWalk row rest)
 
   -- ---- the ways out of `input_var`
 

@@ -29,8 +29,8 @@ use Rattle.gather.specs.Assigned.{AssignWalk}
 abbrev pub scopeIn : List ℕ → List ℕ → List ℕ → Bool → Scope
 scopeIn o u i f = scopeOf (record { words = o }) u i f
 
--- What is done to a scope is done to its parts in lent words: the locals stay.
-pub record InParts (does : Scope → List ℕ → Scope → List ℕ → Type 0) (o u i : List ℕ) (f : Bool) (l v j : List ℕ) (g : Bool) (m : List ℕ) : Type 0 where
+-- What is done to a scope is done to its parts in lent words: the locals stay, and the sets that change have as many words as before.
+pub record LoopParts (does : Scope → List ℕ → Scope → List ℕ → Type 0) (o u i : List ℕ) (f : Bool) (l v j : List ℕ) (g : Bool) (m : List ℕ) : Type 0 where
   pub unscoped-long : length v ≡ length u
   pub inputs-long : length j ≡ length i
   pub done : does (scopeIn o u i f) l (scopeIn o v j g) m
@@ -87,13 +87,13 @@ module _ (t outer : List ℕ) where
   -- ---- the same of a scope's parts in lent words
 
   abbrev pub IndexWalkIn : ℕ → List ℕ → List ℕ → List ℕ → Bool → List ℕ → List ℕ → List ℕ → Bool → List ℕ → Type 0
-  IndexWalkIn row = InParts (AssignWalk t outer row true false)
+  IndexWalkIn row = LoopParts (AssignWalk t outer row true false)
 
   abbrev pub LoopStepIn : Row → List ℕ → List ℕ → List ℕ → Bool → List ℕ → List ℕ → List ℕ → Bool → List ℕ → Type 0
-  LoopStepIn w = InParts (LoopStep w)
+  LoopStepIn w = LoopParts (LoopStep w)
 
   abbrev pub LoopWalkIn : ℕ → Bool → List ℕ → List ℕ → List ℕ → Bool → List ℕ → List ℕ → List ℕ → Bool → List ℕ → Type 0
-  LoopWalkIn row rest = InParts (LoopWalk row rest)
+  LoopWalkIn row rest = LoopParts (LoopWalk row rest)
 
   -- ---- the ways out of `loop_step`
 
