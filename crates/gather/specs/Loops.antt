@@ -37,6 +37,12 @@ pub record LoopParts (does : Scope → List ℕ → Scope → List ℕ → Type 
 
 -- ---- a pattern that does not shadow keeps the locals
 
+-- Steps that each keep the locals keep them.
+pub steps-keep : (f : spec.Scope → Row → spec.Scope) → ((s : spec.Scope) (w : Row) → f s w .locals ≡ s .locals)
+    → (rows : List Row) (s : spec.Scope) → foldl f s rows .locals ≡ s .locals
+steps-keep f keeps [] s = refl
+steps-keep f keeps (w ∷ rows) s = steps-keep f keeps rows (f s w) ∙ keeps s w
+
 module _ (sheet : Sheet) (parents : List spec.Scope) where
   var-keeps : (s : spec.Scope) (w : Row) → assignVar sheet parents false s w .locals ≡ s .locals
   unfolding assignVar addInput addUnscoped useInput
@@ -47,13 +53,9 @@ module _ (sheet : Sheet) (parents : List spec.Scope) where
       go false true = refl
       go false false = refl
 
-  vars-keep : (rows : List Row) (s : spec.Scope) → foldl (assignVar sheet parents false) s rows .locals ≡ s .locals
-  vars-keep [] s = refl
-  vars-keep (w ∷ rows) s = vars-keep rows (assignVar sheet parents false s w) ∙ var-keeps s w
-
   assigned-keeps : (e : Tree) (s : spec.Scope) → gatherAssignedVars sheet parents false e s .locals ≡ s .locals
   unfolding gatherAssignedVars
-  assigned-keeps e s = vars-keep (vars (leaves e)) s
+  assigned-keeps e s = steps-keep (assignVar sheet parents false) var-keeps (vars (leaves e)) s
 
 module _ (t outer : List ℕ) where
   -- So the scope that it hands back may have the locals that there were.

@@ -1,7 +1,7 @@
 -- An expression that is read, and one whose variables are bound.
 use mathlib.Core.Path.{_≡_, refl, sym, _∙_, subst}
 use mathlib.Core.Bool.{Bool, true, false, cond, not, _&&_}
-use mathlib.Core.List.{List, [], _∷_, foldl}
+use mathlib.Core.List.{List}
 use mathlib.Core.Option.{some}
 use Prim.Native.Nat.{ℕ, _+_, _*_, _≤_}
 use lib.ListN.{getD}
@@ -20,7 +20,7 @@ use Rattle.gather.specs.Spans.{SpanWord, Steps}
 use Rattle.gather.specs.Exprs.{exprBy, none-is, row-is, first-is, second-is}
 use Rattle.gather.specs.Inputs.{InputWalk}
 use Rattle.gather.specs.Assigned.{AssignWalk}
-use Rattle.gather.specs.Loops.{LoopWalk}
+use Rattle.gather.specs.Loops.{LoopWalk, steps-keep}
 
 -- ---- gathering inputs keeps the locals
 
@@ -34,13 +34,9 @@ module _ (sheet : Sheet) (parents : List spec.Scope) where
       go false true = refl
       go false false = refl
 
-  inputs-keep : (rows : List Row) (s : spec.Scope) → foldl (inputVar sheet parents) s rows .locals ≡ s .locals
-  inputs-keep [] s = refl
-  inputs-keep (w ∷ rows) s = inputs-keep rows (inputVar sheet parents s w) ∙ input-keeps s w
-
   gather-keeps : (e : Tree) (s : spec.Scope) → gatherInputVars sheet parents e s .locals ≡ s .locals
   unfolding gatherInputVars
-  gather-keeps e s = inputs-keep (vars (traverse e)) s
+  gather-keeps e s = steps-keep (inputVar sheet parents) input-keeps (vars (traverse e)) s
 
 module _ (t outer : List ℕ) where
   -- The expression at a row, with the rest of its chain if `rest`.

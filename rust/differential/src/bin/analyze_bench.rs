@@ -4,11 +4,11 @@
 //! Each sheet is timed by itself, over many calls, the better of several runs counting; a class has
 //! the geometric mean of the sheets' ratios. *In turn* is the ratio of the times for all sheets one
 //! after the other, so that no branch is foreseen from the call before: each sheet's least of several
-//! rounds over all sheets, summed up. Only sheets with an answer
-//! count. The proved call zeroes its buffers, reads, checks and writes within its time; two more
-//! columns say what of that is spared the original: *reading*, the reader's own call on the sheet, and
-//! *zeroing*, as much zeroing as the whole call does. *Narrow* is the printing program's call on the
-//! same sheets, with its ratios to the original; sheets with 128 names or more have none.
+//! rounds over all sheets, summed up. Only sheets with an answer count. The proved call zeroes its
+//! buffers, reads, checks and writes within its time; two more columns say what of that is spared the
+//! original: *reading*, the reader's own call on the sheet, and *zeroing*, as much zeroing as the whole
+//! call does. *Narrow* is the printing program's call on the same sheets, with its ratios to the
+//! original; sheets with 128 names or more have none.
 //!
 //! Then the growth of all where the original's work multiplies: chains of brackets, and
 //! comprehensions under `with` of an array assignment, nested.

@@ -4,19 +4,15 @@ use Rattle.analyzer.specs.Assigning.{assign-fits, assigns}
 use Rattle.analyzer.proofs.assign.assign.Statement.{statement}
 use Rattle.analyzer.proofs.assign.assign.Tie as tie
 
--- src/assign.rt:33:9
 checked-requires : tie.Need-checked-requires
 checked-requires c κs = search needs
 
--- src/assign.rt:34:9
 empty-requires : tie.Need-empty-requires
 empty-requires c κs = search needs
 
--- src/assign.rt:35:9
 assigned-in-requires : tie.Need-assigned-in-requires
 assigned-in-requires c κs = search needs
 
--- src/assign.rt:36:5
 record-each-requires : tie.Need-record-each-requires
 record-each-requires c κs =
     let asked = c .before .before .before in
@@ -24,11 +20,9 @@ record-each-requires c κs =
     assign-fits _ _ (start .args .check) (start .args .u) _ _ _ (asked .checked .ensures) _ _ (c .before .before .empty .ensures)
     (c .before .assigned-in .ensures) (start .pre .3)
 
--- src/assign.rt:20:1
 same-length : tie.Need-same-length
 same-length c = search needs
 
--- src/assign.rt:20:1
 returns : tie.Need-returns
 returns c =
     let call = c .before .before .before in

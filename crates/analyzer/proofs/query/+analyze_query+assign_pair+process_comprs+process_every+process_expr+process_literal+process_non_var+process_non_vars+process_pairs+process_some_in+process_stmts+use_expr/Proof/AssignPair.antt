@@ -21,17 +21,14 @@ known m = (
   assign-reads.Learnt,
 )
 
--- src/query.rt:152:9
 pub returns : (m : ℕ) → assign-pair-lts.Need-returns (known m) (assign-pair-at m) assign-pair.Post
 returns m c =
     let start = c .before .before .before .before .before in
     pair-none _ _ _ (start .args .right) (start .args .check) (start .args .context) _ _ _ (c .if1 .taken)
 
--- src/query.rt:154:9
 pub empty-requires : (m : ℕ) → assign-pair-lts.Need-empty-requires (known m) (assign-pair-at m) assign-pair.Post
 empty-requires m c κs = search needs
 
--- src/query.rt:155:9
 pub use-expr-requires : (m : ℕ) → assign-pair-lts.Need-use-expr-requires (known m) (assign-pair-at m) assign-pair.Post
 use-expr-requires m c κs =
     let none = c .before .before in
@@ -48,7 +45,6 @@ use-expr-requires m c κs =
       ),
     )
 
--- src/query.rt:156:9
 pub assign-requires : (m : ℕ) → assign-pair-lts.Need-assign-requires (known m) (assign-pair-at m) assign-pair.Post
 assign-requires m c κs =
     let first = c .before .before .before .before .before .before in
@@ -61,7 +57,6 @@ assign-requires m c κs =
       ready-left _ _ _ _ (start .args .check) _ _ _ _ (none .before .if1 .left) (pre .5) _ (none .empty .ensures) _ _ _ (first .use-expr .ensures),
     )
 
--- src/query.rt:157:9
 pub use-expr-requires-2 : (m : ℕ) → assign-pair-lts.Need-use-expr-requires-2 (known m) (assign-pair-at m) assign-pair.Post
 use-expr-requires-2 m c κs =
     let assign = c .before .before .before .before in
@@ -81,7 +76,6 @@ use-expr-requires-2 m c κs =
       ),
     )
 
--- src/query.rt:158:5
 pub assign-requires-2 : (m : ℕ) → assign-pair-lts.Need-assign-requires-2 (known m) (assign-pair-at m) assign-pair.Post
 assign-requires-2 m c κs =
     let again = c .before .before .before .before .before .before in
@@ -97,13 +91,11 @@ assign-requires-2 m c κs =
           (assign .assign .ensures) _ _ _ (again .use-expr2 .ensures),
     )
 
--- src/query.rt:137:1
 pub same-length : (m : ℕ) → assign-pair-lts.Need-same-length (known m) (assign-pair-at m) assign-pair.Post
 same-length m c =
     let again = c .before .before .before .before .before .before .before .before .before in
     omega (arith, again .use-expr2 .kept .1 .1 .1 .1 .1 .1 .1 .0, again .before .before .before .before .before .before .before .before .before .before .before .before .use-expr .kept .1 .1 .1 .1 .1 .1 .1 .0)
 
--- src/query.rt:137:1
 pub same-length-2 : (m : ℕ) → assign-pair-lts.Need-same-length-2 (known m) (assign-pair-at m) assign-pair.Post
 same-length-2 m c =
     let last = c .before .before in
@@ -118,7 +110,6 @@ same-length-2 m c =
       first .use-expr .kept .1 .1 .1 .1 .1 .1 .1 .1 .0,
     )
 
--- src/query.rt:137:1
 pub returns-2 : (m : ℕ) → assign-pair-lts.Need-returns-2 (known m) (assign-pair-at m) assign-pair.Post
 returns-2 m c =
     let last = c .before .before in
