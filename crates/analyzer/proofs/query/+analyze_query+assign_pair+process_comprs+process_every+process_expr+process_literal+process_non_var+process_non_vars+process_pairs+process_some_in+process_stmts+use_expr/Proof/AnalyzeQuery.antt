@@ -11,7 +11,7 @@ use Rattle.trees.specs.Traverse.{comprs}
 use Rattle.gather.specs.Exprs.{exprBy}
 use Rattle.analyzer.specs.Asks.{Begun}
 use Rattle.analyzer.specs.Does.{DoesComprs}
-use Rattle.analyzer.specs.Guards.{Keeps, walked-comprs, last-comprs}
+use Rattle.analyzer.specs.Guards.{KeepsLengths, walked-comprs, last-comprs}
 use Rattle.analyzer.specs.OneQuery.{stmts-below, comprs-below, does-none, does-nothing, begun-of, Started, row-high, asks-stmts, Enclosed, asks-key, asks-value, room-last, based-last, does-query}
 use Rattle.analyzer.proofs.finish.begun.Reads as begun-reads
 use Rattle.analyzer.proofs.finish.finish.Reads as finish-reads
@@ -184,7 +184,7 @@ key-walk : (m : ℕ) (c : analyze-query-lts.Joined3 (known m) (analyze-query-at 
     let e = c .before .before in
     let did = e .before .before .before .before .before .before .before .process-stmts in
     let a = e .before .before .before .before .before .before .before .before .before .before .before .before .before .before .before .before .before .before .before .before .before .args in
-    Keeps (DoesComprs (a .tables .now) (e .enclose .last .1 .1 .1 .0) (comprs (exprBy (a .tables .now) true (a .key))) (a .levels - 1))
+    KeepsLengths (DoesComprs (a .tables .now) (e .enclose .last .1 .1 .1 .0) (comprs (exprBy (a .tables .now) true (a .key))) (a .levels - 1))
     (e .before .before .before .opened .result) (did .last .1 .1 .1 .1 .1 .1 .1 .0) (did .last .1 .1 .1 .1 .1 .1 .1 .1 .0) (c .if3 .t) (c .if3 .firsts) (c .if3 .work)
 key-walk m c =
     let start = c .before .before .before .before .before .before .before .before .before .before .before .before .before .before .before .before .before .before .before .before .before .before .before in

@@ -17,7 +17,7 @@ use Rattle.frame.specs.Tails.{whole, whole-length}
 use Rattle.comprs.specs.Queries.{QueryIn, row-query}
 use Rattle.analyzer.specs.Does.{DoesComprs}
 use Rattle.analyzer.specs.ComprWalk.{does-none, ownCompr, room-at, query-asks, own-does, first-asks, second-asks, third-asks, next-asks, turn-does}
-use Rattle.analyzer.specs.Guards.{Keeps, walked-comprs}
+use Rattle.analyzer.specs.Guards.{KeepsLengths, walked-comprs}
 use Rattle.analyzer.proofs.query.analyze_query.Reads as analyze-query
 use Rattle.analyzer.proofs.query.process_comprs.Reads as process-comprs
 use Rattle.branches.proofs.kids_of.Reads as kids-of-reads
@@ -213,7 +213,7 @@ first-walk : (m : ℕ) (c : process-comprs-lts.Joined2 (known m) (process-comprs
     → let a = c .before .before .before .before in
     let n = a .before .before .before .before .before .before .before .before .before .before .before .before .before in
     let x = n .before .before .before .before .before .before .before .before .args in
-    Keeps (DoesComprs (x .tables .now) (x .inner .now) (comprs (exprBy (x .tables .now) true (n .before .kids-of .result .first))) (x .levels))
+    KeepsLengths (DoesComprs (x .tables .now) (x .inner .now) (comprs (exprBy (x .tables .now) true (n .before .kids-of .result .first))) (x .levels))
     (a .after-compr .result) (a .after-compr .last .1 .1 .1 .0) (analysed m (a .before .before .before .before .before)) (c .if2 .s) (c .if2 .firsts) (c .if2 .work)
 first-walk m c =
     let a = c .before .before .before .before in
@@ -246,7 +246,7 @@ second-walk : (m : ℕ) (c : process-comprs-lts.Joined3 (known m) (process-compr
     → let a = c .before .before .before .before .before .before in
     let n = a .before .before .before .before .before .before .before .before .before .before .before .before .before in
     let x = n .before .before .before .before .before .before .before .before .args in
-    Keeps (DoesComprs (x .tables .now) (x .inner .now) (comprs (exprBy (x .tables .now) true (n .before .kids-of .result .second))) (x .levels))
+    KeepsLengths (DoesComprs (x .tables .now) (x .inner .now) (comprs (exprBy (x .tables .now) true (n .before .kids-of .result .second))) (x .levels))
     (c .before .before .if2 .s) (c .before .before .if2 .firsts) (c .before .before .if2 .work) (c .if3 .s) (c .if3 .firsts) (c .if3 .work)
 second-walk m c =
     let start = c .before .before .before .before .before .before .before .before .before .before .before .before .before .before .before .before .before .before .before .before .before .before .before .before .before .before .before in
@@ -279,7 +279,7 @@ third-walk : (m : ℕ) (c : process-comprs-lts.Joined4 (known m) (process-comprs
     → let a = c .before .before .before .before .before .before .before .before in
     let n = a .before .before .before .before .before .before .before .before .before .before .before .before .before in
     let x = n .before .before .before .before .before .before .before .before .args in
-    Keeps (DoesComprs (x .tables .now) (x .inner .now) (comprs (exprBy (x .tables .now) true (n .before .kids-of .result .third))) (x .levels))
+    KeepsLengths (DoesComprs (x .tables .now) (x .inner .now) (comprs (exprBy (x .tables .now) true (n .before .kids-of .result .third))) (x .levels))
     (c .before .before .if3 .s) (c .before .before .if3 .firsts) (c .before .before .if3 .work) (c .if4 .s) (c .if4 .firsts) (c .if4 .work)
 third-walk m c =
     let start = c .before .before .before .before .before .before .before .before .before .before .before .before .before .before .before .before .before .before .before .before .before .before .before .before .before .before .before .before .before in

@@ -15,7 +15,7 @@ use Rattle.analyzer.specs.Asks.{otherAt}
 use Rattle.analyzer.specs.Does.{DoesComprs, DoesOthers}
 use Rattle.analyzer.specs.ComprRows.{at-low}
 use Rattle.analyzer.specs.ComprWalk.{does-none}
-use Rattle.analyzer.specs.Guards.{Keeps, walked-comprs}
+use Rattle.analyzer.specs.Guards.{KeepsLengths, walked-comprs}
 use Rattle.analyzer.specs.NonVarSteps.{non-var-none, asks-use, asks-own, asks-mods, non-var-does}
 use Rattle.analyzer.proofs.query.process_comprs.Reads as process-comprs
 use Rattle.analyzer.proofs.query.process_non_var.Reads as process-non-var
@@ -87,7 +87,7 @@ own-walk : (m : ℕ) (c : process-non-var-lts.Joined2 (known m) (process-non-var
     → let failed = c .before in
     let used = failed .before .before .before .before .before in
     let a = used .before .before .before .before .before .before .before .before .before .args in
-    Keeps (DoesComprs (a .tables .now) (a .inner .now) (comprs (exprBy (a .tables .now) false (used .use-vars .result .comprs))) (a .context .levels))
+    KeepsLengths (DoesComprs (a .tables .now) (a .inner .now) (comprs (exprBy (a .tables .now) false (used .use-vars .result .comprs))) (a .context .levels))
     (failed .fail-if-some .result) (used .use-vars .last .1 .1 .1 .1 .1 .1 .0) (used .use-vars .last .1 .1 .1 .1 .1 .1 .1 .0) (c .if2 .s) (c .if2 .firsts) (c .if2 .work)
 own-walk m c =
     let start = c .before .before .before .before .before .before .before .before .before .before .before .before .before .before .before in

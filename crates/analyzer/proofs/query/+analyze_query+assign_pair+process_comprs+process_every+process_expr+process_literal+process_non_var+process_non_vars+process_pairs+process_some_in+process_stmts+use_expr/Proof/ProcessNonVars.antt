@@ -11,7 +11,7 @@ use Rattle.gather.specs.Walking.{Falls, remains, row-low, low-name, pattern-cal
 use Rattle.frame.specs.declared.Progress.{Progress}
 use Rattle.analyzer.specs.Asks.{otherAt}
 use Rattle.analyzer.specs.Does.{DoesOthers, DoesNonVars}
-use Rattle.analyzer.specs.Guards.{Keeps, guarded-lists}
+use Rattle.analyzer.specs.Guards.{KeepsLengths, guarded-lists}
 use Rattle.analyzer.specs.Patterns.{non-var-low}
 use Rattle.analyzer.specs.NonVarSteps.{non-var-none}
 use Rattle.analyzer.specs.PatternSteps.{non-vars-do-none, asks-other, asks-parts, asks-rest, non-vars-do}
@@ -98,7 +98,7 @@ process-non-var-requires m c κs =
 -- The row itself and the parts of a pattern, each processed where there is one.
 one-done : (m : ℕ) (c : process-non-vars-lts.Joined2 (known m) (process-non-vars-at m) process-non-vars.Post)
     → let a = c .before .before .before .before .before .before .before .before .before .args in
-    Keeps (DoesOthers (a .tables .now) (a .inner .now) (otherAt (a .tables .now) (c .before .non-var .result)) (a .context))
+    KeepsLengths (DoesOthers (a .tables .now) (a .inner .now) (otherAt (a .tables .now) (c .before .non-var .result)) (a .context))
     (a .p) (a .firsts .now) (a .work .now) (c .if2 .s) (c .if2 .firsts) (c .if2 .work)
 one-done m c =
     let a = c .before .before .before .before .before .before .before .before .before .args in
@@ -133,7 +133,7 @@ process-non-vars-requires m c κs =
 parts-done : (m : ℕ) (c : process-non-vars-lts.Joined3 (known m) (process-non-vars-at m) process-non-vars.Post)
     → let parts = c .before .before .before in
     let a = parts .before .before .before .before .before .before .before .args in
-    Keeps (DoesNonVars (a .tables .now) (a .inner .now) (parts .pattern-of .result) (a .context))
+    KeepsLengths (DoesNonVars (a .tables .now) (a .inner .now) (parts .pattern-of .result) (a .context))
     (c .before .if2 .s) (c .before .if2 .firsts) (c .before .if2 .work) (c .if3 .s) (c .if3 .firsts) (c .if3 .work)
 parts-done m c =
     let start = c .before .before .before .before .before .before .before .before .before .before in

@@ -11,7 +11,7 @@ use Rattle.laws.specs.Pairs.{pairings-left, pairings-right}
 use Rattle.frame.specs.declared.Progress.{Progress}
 use Rattle.analyzer.specs.Asks.{pairAt, pairsAt}
 use Rattle.analyzer.specs.Does.{DoesPairs}
-use Rattle.analyzer.specs.Guards.{Keeps, guarded-lists}
+use Rattle.analyzer.specs.Guards.{KeepsLengths, guarded-lists}
 use Rattle.analyzer.specs.PairTurns.{no-pairs, pair-none}
 use Rattle.analyzer.specs.PairRows.{Split, split, asks-pair, asks-parts, asks-rest, pairs-does}
 use Rattle.analyzer.proofs.query.assign_pair.Reads as assign-pair
@@ -109,7 +109,7 @@ one-done : (m : ℕ) (c : process-pairs-lts.Joined3 (known m) (process-pairs-at 
     → let differ = c .before .before in
     let pair = differ .before .pair-of .result in
     let a = differ .before .before .before .before .before .before .before .before .before .before .args in
-    Keeps (DoesPairs (a .tables .now) (a .inner .now) (pairAt (a .tables .now) (pair .left) (pair .right)) (a .check) (a .context))
+    KeepsLengths (DoesPairs (a .tables .now) (a .inner .now) (pairAt (a .tables .now) (pair .left) (pair .right)) (a .check) (a .context))
     (differ .differ .result) (a .firsts .now) (a .work .now) (c .if3 .s) (c .if3 .firsts) (c .if3 .work)
 one-done m c =
     let right = c .before .before .before .pair-of .result .right in
@@ -141,7 +141,7 @@ below-done : (m : ℕ) (c : process-pairs-lts.Joined4 (known m) (process-pairs-a
     → let j3 = c .before .before in
     let pair = j3 .before .before .before .pair-of .result in
     let a = j3 .before .before .before .before .before .before .before .before .before .before .before .before .args in
-    Keeps (DoesPairs (a .tables .now) (a .inner .now) (pairsAt (a .tables .now) (pair .lefts) (pair .rights)) (a .check) (a .context))
+    KeepsLengths (DoesPairs (a .tables .now) (a .inner .now) (pairsAt (a .tables .now) (pair .lefts) (pair .rights)) (a .check) (a .context))
     (j3 .if3 .s) (j3 .if3 .firsts) (j3 .if3 .work) (c .if4 .s) (c .if4 .firsts) (c .if4 .work)
 below-done m c =
     let j3 = c .before .before in

@@ -12,7 +12,7 @@ use Rattle.gather.specs.Exprs.{exprBy}
 use Rattle.gather.specs.Walking.{few-remain}
 use Rattle.analyzer.specs.Does.{DoesComprs}
 use Rattle.analyzer.specs.ComprRows.{at-low}
-use Rattle.analyzer.specs.Guards.{Keeps, walked-comprs}
+use Rattle.analyzer.specs.Guards.{KeepsLengths, walked-comprs}
 use Rattle.analyzer.specs.UseExprs.{use-ready, use-room, own-asks, mods-asks, does-use, does-without}
 use Rattle.analyzer.proofs.query.process_comprs.Reads as process-comprs
 use Rattle.analyzer.proofs.query.use_expr.Reads as use-expr
@@ -84,7 +84,7 @@ process-comprs-requires m c κs =
 own-walk : (m : ℕ) (c : use-expr-lts.Joined2 (known m) (use-expr-at m) use-expr.Post)
     → let u = c .before .before .before .before .before .before .before .before .before in
     let x = u .before .before .before .before .before .before .before .args in
-    Keeps (DoesComprs (x .tables .now) (x .inner .now) (comprs (exprBy (x .tables .now) (x .rest) (u .use-vars .result .comprs))) (x .context .levels))
+    KeepsLengths (DoesComprs (x .tables .now) (x .inner .now) (comprs (exprBy (x .tables .now) (x .rest) (u .use-vars .result .comprs))) (x .context .levels))
     (u .use-vars .result .progress) (u .use-vars .last .1 .1 .1 .1 .1 .1 .0) (u .use-vars .last .1 .1 .1 .1 .1 .1 .1 .0) (c .if2 .s) (c .if2 .firsts) (c .if2 .work)
 own-walk m c =
     let start = c .before .before .before .before .before .before .before .before .before .before .before .before .before .before .before .before in
@@ -111,7 +111,7 @@ process-comprs-requires-2 m c κs =
 mods-walk : (m : ℕ) (c : use-expr-lts.Joined3 (known m) (use-expr-at m) use-expr.Post)
     → let u = c .before .before .before .before .before .before .before .before .before .before in
     let x = u .before .before .before .before .before .before .before .args in
-    Keeps (DoesComprs (x .tables .now) (x .inner .now) (comprs (exprBy (x .tables .now) true (x .context .mods))) (x .context .levels))
+    KeepsLengths (DoesComprs (x .tables .now) (x .inner .now) (comprs (exprBy (x .tables .now) true (x .context .mods))) (x .context .levels))
     (c .before .if2 .s) (c .before .if2 .firsts) (c .before .if2 .work) (c .if3 .s) (c .if3 .firsts) (c .if3 .work)
 mods-walk m c =
     let start = c .before .before .before .before .before .before .before .before .before .before .before .before .before .before .before .before .before in
