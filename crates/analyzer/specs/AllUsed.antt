@@ -8,11 +8,13 @@ use Rattle.widths.specs.declared.Width.{Width}
 use Rattle.trees.specs.Lists.{concatMap}
 use Rattle.trees.specs.Trees.{Tree, treeAt}
 use Rattle.trees.specs.Traverse.{leaves, comprs}
+use Rattle.scopes.specs.Scopes as spec
 use Rattle.uses.specs.Uses.{usedVars}
 use Rattle.analysis.specs.States.{State}
-use Rattle.analysis.specs.Comprs.{Mods}
-use Rattle.once.specs.Comprs.{allUsed}
+use Rattle.analysis.specs.Ways.{Way}
+use Rattle.analysis.specs.Comprs.{Mods, allUsed}
 use Rattle.analysis.specs.SomeIn.{nonVars}
+use Rattle.once.specs.OnceWay.{Nested, onceWay}
 use Rattle.answer.specs.Stored.{Stored}
 use Rattle.gather.specs.declared.scope.Scope.{Scope}
 use Rattle.gather.specs.Sheets.{sheetAt}
@@ -31,11 +33,11 @@ laterMods cs = record { usedVars = []; comprs = cs }
 
 module _ (t : List ℕ) where
   -- What these parts use, the modifiers' comprehensions with each.
-  abbrev pub partsUse : State → List Tree → List Tree → List ℕ
-  partsUse s cs es = concatMap (λ e. allUsed (sheetAt t) [] (laterMods cs) e s) es
+  abbrev pub partsUse : Way → State → List Tree → List Tree → List ℕ
+  partsUse way s cs es = concatMap (λ e. allUsed (sheetAt t) way [] (laterMods cs) e s) es
 
-  abbrev pub othersUse : State → List Tree → List Tree → List ℕ
-  othersUse s cs es = partsUse s cs (nonVars (sheetAt t) (s .scope) es)
+  abbrev pub othersUse : Way → State → List Tree → List Tree → List ℕ
+  othersUse way s cs es = partsUse way s cs (nonVars (sheetAt t) (s .scope) es)
 
 -- Without comprehensions: the names of the expression and of the modifiers, and nothing else changes.
 pub record WithoutComprs (u : Using) (x : Context) (r : Using) : Type 0 where
@@ -47,20 +49,21 @@ module _ (t : List ℕ) (v : Width) (k : Scope) where
   -- Of every expression that has these comprehensions.
   abbrev pub AllUsed : Names → List Tree → Context → List ℕ → Names → Type 0
   AllUsed names cs x work r =
-      (e : Tree) → comprs e ≡ cs → (m : Mods) → Stands t x m → (l : List ℕ) (s : State) → Sets k (s .scope) → Stored v (answersOf v work) (s .run .schedules)
-      → Holds names (usedVars (sheetAt t) (s .scope) l e) → Holds r (allUsed (sheetAt t) l m e s)
+      (e : Tree) → comprs e ≡ cs → (m : Mods) → Stands t x m → (l : List ℕ) (nested : Nested) (parents : List spec.Scope) (s : State)
+      → Sets k (s .scope) → Stored v (answersOf v work) (s .run .schedules)
+      → Holds names (usedVars (sheetAt t) (s .scope) l e) → Holds r (allUsed (sheetAt t) (onceWay (sheetAt t) nested parents) l m e s)
 
   abbrev pub OtherUsed : ℕ → ℕ → List ℕ → Names → Names → Type 0
   OtherUsed row mods work a b =
-      (s : State) → Sets k (s .scope) → Stored v (answersOf v work) (s .run .schedules)
-      → Adds a (partsUse t s (comprs (treeAt (sheetAt t) mods)) (otherAt t row)) b
+      (nested : Nested) (parents : List spec.Scope) (s : State) → Sets k (s .scope) → Stored v (answersOf v work) (s .run .schedules)
+      → Adds a (partsUse t (onceWay (sheetAt t) nested parents) s (comprs (treeAt (sheetAt t) mods)) (otherAt t row)) b
 
   abbrev pub LeavesUsed : ℕ → ℕ → List ℕ → Names → Names → Type 0
   LeavesUsed row mods work a b =
-      (s : State) → Sets k (s .scope) → Stored v (answersOf v work) (s .run .schedules)
-      → Adds a (othersUse t s (comprs (treeAt (sheetAt t) mods)) (leaves (treeAt (sheetAt t) row))) b
+      (nested : Nested) (parents : List spec.Scope) (s : State) → Sets k (s .scope) → Stored v (answersOf v work) (s .run .schedules)
+      → Adds a (othersUse t (onceWay (sheetAt t) nested parents) s (comprs (treeAt (sheetAt t) mods)) (leaves (treeAt (sheetAt t) row))) b
 
   abbrev pub OthersUsed : ℕ → ℕ → Context → List ℕ → Names → Type 0
   OthersUsed key value x work r =
-      (m : Mods) → Stands t x m → (s : State) → Sets k (s .scope) → Stored v (answersOf v work) (s .run .schedules)
-      → Holds r (othersUse t s (m .comprs) (leaves (treeAt (sheetAt t) key) ++ leaves (treeAt (sheetAt t) value)))
+      (m : Mods) → Stands t x m → (nested : Nested) (parents : List spec.Scope) (s : State)
+      → Sets k (s .scope) → Stored v (answersOf v work) (s .run .schedules) → Holds r (othersUse t (onceWay (sheetAt t) nested parents) s (m .comprs) (leaves (treeAt (sheetAt t) key) ++ leaves (treeAt (sheetAt t) value)))

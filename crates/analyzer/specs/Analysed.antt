@@ -4,7 +4,7 @@ use mathlib.Core.List.{List}
 use Prim.Native.Nat.{ℕ}
 use Rattle.widths.specs.declared.Width.{Width}
 use Rattle.analysis.specs.States.{sound}
-use Rattle.once.specs.Queries.{analyzeQuerySnippetOnce}
+use Rattle.once.specs.OnceWay.{analyzeQuerySnippetOnce}
 use Rattle.answer.specs.Stored.{Stored}
 use Rattle.gather.specs.Sheets.{sheetAt}
 use Rattle.frame.specs.declared.Fault.{Fault}

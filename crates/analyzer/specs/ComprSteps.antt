@@ -17,8 +17,9 @@ use Rattle.trees.specs.Sheet.{rowAt}
 use Rattle.trees.specs.Kinds.{isCompr}
 use Rattle.trees.specs.Trees.{Tree, rowOf, outputsOf}
 use Rattle.scopes.specs.Scopes.{Scope}
-use Rattle.analysis.specs.States.{sound, Run, State, setRun, inTurn}
-use Rattle.once.specs.Comprs.{propagate, useCompr, analyzeCompr, processCompr}
+use Rattle.analysis.specs.States.{sound, Run, State, setRun}
+use Rattle.analysis.specs.Comprs.{processCompr}
+use Rattle.once.specs.OnceWay.{analyzeCompr}
 use Rattle.gather.specs.Sheets.{sheetAt, Accepted}
 use Rattle.gather.specs.Exprs.{exprBy, tree-is, row-is}
 use Rattle.gather.specs.Chains.{chainAt}
@@ -32,8 +33,9 @@ use Rattle.frame.specs.Tails.{tail, tail-length, tail-answers, whole, whole-len
 use Rattle.frame.specs.Frames.{failed, Whole, Agree}
 use Rattle.laws.specs.Guards.{guarded-sound, compr-stays}
 use Rattle.comprs.specs.Pending.{unscheduledAt, pendingAt, scheduled, pending}
+use Rattle.comprs.specs.Rising.{rising}
 use Rattle.comprs.specs.After.{AfterCompr}
-use Rattle.analyzer.specs.Sites.{nestedBy, Around, RunsIn}
+use Rattle.analyzer.specs.Sites.{nestedBy, wayBy, Around, RunsIn}
 use Rattle.analyzer.specs.Queries.{DoesQuery}
 
 module _ (t : List ℕ) (ok : Accepted t) (inner : List ℕ) (levels row : ℕ) (there : row ≡ 0 → ⊥) (high : row ≤ getD t 2 0) (w : Row)
@@ -89,7 +91,7 @@ module _ (t : List ℕ) (ok : Accepted t) (inner : List ℕ) (levels row : ℕ) 
       held = h .whole clear
 
       analysed : State
-      analysed = analyzeCompr (sheetAt t) (nestedBy t levels) parents (s .scope ∷ parents) expr s
+      analysed = analyzeCompr (nestedBy t levels) (s .scope ∷ parents) expr s
 
       -- Its query has a schedule already.
       old : query ≡ 0 → Agree t spans (failed p fault) firsts now-work analysed
@@ -122,13 +124,13 @@ module _ (t : List ℕ) (ok : Accepted t) (inner : List ℕ) (levels row : ℕ) 
             };
           })
 
-      rises : Agree t spans r firsts′ now-work (processCompr (sheetAt t) (nestedBy t levels) parents s expr)
+      rises : Agree t spans r firsts′ now-work (processCompr (sheetAt t) (wayBy t levels parents) s expr)
       unfolding processCompr analysed
       rises =
           let one : Agree t spans (failed p fault) firsts now-work analysed = go (eq-cases query 0) in
-          subst (λ (u : State). Agree t spans r firsts′ now-work (inTurn (propagate expr ∷ useCompr expr ∷ []) u))
-          (sym (guarded-sound (analyzeCompr (sheetAt t) (nestedBy t levels) parents (s .scope ∷ parents) expr) s clear))
-          (after .rises c b t spans analysed expr row-of one)
+          subst (λ (u : State). Agree t spans r firsts′ now-work (rising (sheetAt t) (wayBy t levels parents) expr u))
+          (sym (guarded-sound (analyzeCompr (nestedBy t levels) (s .scope ∷ parents) expr) s clear))
+          (after .rises c b (sheetAt t) (nestedBy t levels) parents t spans analysed expr row-of one)
         where
           go : (query ≡ 0) ⊎ (query ≡ 0 → ⊥) → Agree t spans (failed p fault) firsts now-work analysed
           go (inl z) = old z
@@ -137,18 +139,18 @@ module _ (t : List ℕ) (ok : Accepted t) (inner : List ℕ) (levels row : ℕ) 
     abbrev own : List Tree
     own = cond (isCompr w) (expr ∷ []) []
 
-    turn : Agree t spans r firsts′ now-work (foldl (processCompr (sheetAt t) (nestedBy t levels) parents) s own)
+    turn : Agree t spans r firsts′ now-work (foldl (processCompr (sheetAt t) (wayBy t levels parents)) s own)
     turn = go (bool-cases (isCompr w)) (bool-cases (isSound (p .fault)))
       where
         go : (isCompr w ≡ true) ⊎ (isCompr w ≡ false) → (isSound (p .fault) ≡ true) ⊎ (isSound (p .fault) ≡ false)
-            → Agree t spans r firsts′ now-work (foldl (processCompr (sheetAt t) (nestedBy t levels) parents) s own)
+            → Agree t spans r firsts′ now-work (foldl (processCompr (sheetAt t) (wayBy t levels parents)) s own)
         go (inr n) b = rw n (stays (inl n))
         go (inl c) (inr n) =
             let faulty : s .run .fault ≡ sound → ⊥ = λ z. not-sound (p .fault) n (h .fault ∙ z) in
-            rw (c, compr-stays (sheetAt t) (nestedBy t levels) parents s faulty expr) (stays (inr n))
+            rw (c, compr-stays (sheetAt t) (wayBy t levels parents) s faulty expr) (stays (inr n))
         go (inl c) (inl b) = rw c (rises c b)
 
-  pub compr-turn : RunsIn t inner (λ parents s. foldl (processCompr (sheetAt t) (nestedBy t levels) parents) s (cond (isCompr w) (exprBy t false row ∷ []) []))
+  pub compr-turn : RunsIn t inner (λ parents s. foldl (processCompr (sheetAt t) (wayBy t levels parents)) s (cond (isCompr w) (exprBy t false row ∷ []) []))
       p firsts work r firsts′ now-work
   compr-turn = record {
     grown = record {

@@ -16,7 +16,7 @@ use Rattle.trees.specs.Trees.{Tree, rowOf}
 use Rattle.trees.specs.Traverse.{comprs}
 use Rattle.scopes.specs.Scopes.{Scope}
 use Rattle.analysis.specs.States.{sound, State}
-use Rattle.once.specs.Comprs.{processCompr, processComprs}
+use Rattle.analysis.specs.Comprs.{processCompr, processComprs}
 use Rattle.naming.specs.Entries.{exprRow}
 use Rattle.naming.specs.EnclosingLaws.{queryOf}
 use Rattle.branches.specs.declared.Kids.{Kids}
@@ -39,7 +39,7 @@ use Rattle.comprs.specs.Queries.{QueryIn}
 use Rattle.comprs.specs.Pending.{pendingAt, pending}
 use Rattle.comprs.specs.After.{AfterCompr}
 use Rattle.analyzer.specs.Budgets.{above-later}
-use Rattle.analyzer.specs.Sites.{nestedBy, LiesIn, At}
+use Rattle.analyzer.specs.Sites.{wayBy, LiesIn, At}
 use Rattle.analyzer.specs.Moves.{at-rows, room-behind, inside-next, runs-in, runs-in-then, runs-in-as}
 use Rattle.analyzer.specs.Steadies.{steady-comprs}
 use Rattle.analyzer.specs.Queries.{DoesQuery}
@@ -52,11 +52,11 @@ use Rattle.records.specs.Rows.{inTables}
 
 module _ (t inner : List ℕ) (levels : ℕ) where
   abbrev process : List Tree → List Scope → State → State
-  process cs parents = processComprs (sheetAt t) (nestedBy t levels) parents cs
+  process cs parents = processComprs (sheetAt t) (wayBy t levels parents) cs
 
   two : (k l : List Tree) (parents : List Scope) (s : State) → process l parents (process k parents s) ≡ process (k ++ l) parents s
   unfolding processComprs
-  two k l parents s = sym (foldl-append (processCompr (sheetAt t) (nestedBy t levels) parents) s k l)
+  two k l parents s = sym (foldl-append (processCompr (sheetAt t) (wayBy t levels parents)) s k l)
 
   -- Those of two lists, one after the other.
   pub does-then : (k l : List Tree) (p q r : Progress) (fs gs hs u v w : List ℕ) → DoesComprs t inner k levels p fs u q gs v

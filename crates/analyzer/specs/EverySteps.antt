@@ -22,10 +22,11 @@ use Rattle.trees.specs.Statements.{every, literalOf}
 use Rattle.scopes.specs.Scopes.{Scope, noScope, addLocal}
 use Rattle.analysis.specs.States.{sound, State, setRun}
 use Rattle.analysis.specs.Using.{recordOne}
-use Rattle.analysis.specs.Comprs.{Mods}
-use Rattle.once.specs.Comprs.{Nested, allUsed, useExpr}
-use Rattle.once.specs.Exprs.{processPlainExpr}
-use Rattle.once.specs.Statements.{processEvery}
+use Rattle.analysis.specs.Ways.{Way}
+use Rattle.analysis.specs.Comprs.{Mods, allUsed, useExpr}
+use Rattle.analysis.specs.Exprs.{processPlainExpr}
+use Rattle.analysis.specs.Statements.{processEvery}
+use Rattle.once.specs.OnceWay.{Nested}
 use Rattle.sizes.specs.Sizes.{literalSize}
 use Rattle.sizes.specs.Leaves.{bracketVars, brackets-fit}
 use Rattle.sizes.specs.Adds.{Step, step-at-most, step-if, end, _⨾_, turn}
@@ -60,7 +61,7 @@ use Rattle.laws.specs.Same.{same-outer}
 use Rattle.laws.specs.Keeps.{keeps-guarded}
 use Rattle.laws.specs.KeepsNested.{keeps-process-plain-expr}
 use Rattle.analyzer.specs.Budgets.{above-later}
-use Rattle.analyzer.specs.Sites.{nestedBy, Around, Inside, Under}
+use Rattle.analyzer.specs.Sites.{nestedBy, wayBy, Around, Inside, Under}
 use Rattle.analyzer.specs.Moves.{Enclosing, at-ready, at-rows, inside-next, under-less, under-next, under-inside, room-behind}
 use Rattle.analyzer.specs.Steadies.{fits, steady-use}
 use Rattle.analyzer.specs.Queries.{DoesQuery}
@@ -73,6 +74,9 @@ module _ (t : List ℕ) (ok : Accepted t) (outer spans : List ℕ) (st : Stateme
     (five : st .form ≡ 5) (asks : AsksLiteral t outer spans st x p firsts work) where
   abbrev nested : Nested
   nested = nestedBy t (x .levels)
+
+  abbrev way : List Scope → Way
+  way = wayBy t (x .levels)
 
   abbrev domain : Tree
   domain = tree t (st .third)
@@ -130,31 +134,31 @@ module _ (t : List ℕ) (ok : Accepted t) (outer spans : List ℕ) (st : Stateme
           let m = someMods t x in
           let cost = bracketVars domain in
           let next = inside-next t inner p (u .progress) firsts firsts′ work work′ (cost + 1) cost 1
-          (λ parents. useExpr (sheetAt t) nested parents (x .statement) [] m domain)
+          (λ parents. useExpr (sheetAt t) (way parents) (x .statement) [] m domain)
           (λ parents. steady-use t (x .levels) parents (x .statement) [] m domain) (omega arith)
           (uses .runs m (some-stand t x) [] (holds-none none clear)) (within (cost + 1) enough) in
           ready-fits t (u .progress) firsts′ work′ 1 (at-ready t (next .spans) (u .progress) firsts′ work′ 1 (next .at))
 
       module _ (s : Progress) (work″ : List ℕ) (one : OneRecorded (x .statement) (u .names) (u .progress) work′ s work″) where
         abbrev plain : List Scope → Mods → State → State
-        plain parents m = processPlainExpr (sheetAt t) nested parents (x .statement) m domain
+        plain parents m = processPlainExpr (sheetAt t) (way parents) (x .statement) m domain
 
-        abbrev record-used : Mods → State → State
-        record-used m v = recordOne (x .statement) 0 (allUsed (sheetAt t) [] m domain v) v
+        abbrev record-used : List Scope → Mods → State → State
+        record-used parents m v = recordOne (x .statement) 0 (allUsed (sheetAt t) (way parents) [] m domain v) v
 
         abbrev used : List Scope → Mods → State → State
-        used parents m v = useExpr (sheetAt t) nested parents (x .statement) [] m domain v
+        used parents m v = useExpr (sheetAt t) (way parents) (x .statement) [] m domain v
 
-        plain-is : (parents : List Scope) (m : Mods) (v : State) → guarded (record-used m) (used parents m v) ≡ guarded (plain parents m) v
+        plain-is : (parents : List Scope) (m : Mods) (v : State) → guarded (record-used parents m) (used parents m v) ≡ guarded (plain parents m) v
         unfolding processPlainExpr
         plain-is parents m v = go (fault-cases (v .run .fault))
           where
-            go : (v .run .fault ≡ sound) ⊎ (v .run .fault ≡ sound → ⊥) → guarded (record-used m) (used parents m v) ≡ guarded (plain parents m) v
+            go : (v .run .fault ≡ sound) ⊎ (v .run .fault ≡ sound → ⊥) → guarded (record-used parents m) (used parents m v) ≡ guarded (plain parents m) v
             go (inl e) =
-                ap (λ (z : State). guarded (record-used m) z) (sym (guarded-sound (used parents m) v e)) ∙ sym (guarded-sound (plain parents m) v e)
+                ap (λ (z : State). guarded (record-used parents m) z) (sym (guarded-sound (used parents m) v e)) ∙ sym (guarded-sound (plain parents m) v e)
             go (inr n) =
-                ap (λ (z : State). guarded (record-used m) z) (steady-use t (x .levels) parents (x .statement) [] m domain .stays v n)
-                ∙ guarded-stays v n (record-used m) ∙ sym (guarded-stays v n (plain parents m))
+                ap (λ (z : State). guarded (record-used parents m) z) (steady-use t (x .levels) parents (x .statement) [] m domain .stays v n)
+                ∙ guarded-stays v n (record-used parents m) ∙ sym (guarded-stays v n (plain parents m))
 
         module _ (m : Mods) (stands : Stands t x m) (parents : List Scope) (v : State) (o : Outer outer parents) (a : Agree t spans p firsts work v) where
           around-it : Around t inner parents v
@@ -167,18 +171,18 @@ module _ (t : List ℕ) (ok : Accepted t) (outer spans : List ℕ) (st : Stateme
           after-one = subst (Agree t spans s firsts′ work″) (plain-is parents m v) (go (bool-cases (isSound (u .progress .fault))))
             where
               go : (isSound (u .progress .fault) ≡ true) ⊎ (isSound (u .progress .fault) ≡ false)
-                  → Agree t spans s firsts′ work″ (guarded (record-used m) (used parents m v))
+                  → Agree t spans s firsts′ work″ (guarded (record-used parents m) (used parents m v))
               go (inl b) =
                   let z = used parents m v in
-                  let all = allUsed (sheetAt t) [] m domain z in
+                  let all = allUsed (sheetAt t) (way parents) [] m domain z in
                   let h = uses .names m stands [] (holds-none none clear) b parents spans v around-it a in
-                  subst (Agree t spans s firsts′ work″) (if-same (z .run .fault) (recordOne (x .statement) 0 all) (record-used m) z refl)
+                  subst (Agree t spans s firsts′ work″) (if-same (z .run .fault) (recordOne (x .statement) 0 all) (record-used parents m) z refl)
                   (one t all firsts′ h .agrees spans z after-use)
               go (inr b) =
                   let z = used parents m v in
                   let faulty : z .run .fault ≡ sound → ⊥ = λ e. not-sound (u .progress .fault) b (after-use .fault ∙ e) in
                   let f = recordOne (x .statement) 0 (members (u .names .words)) in
-                  subst (Agree t spans s firsts′ work″) (guarded-stays z faulty f ∙ sym (guarded-stays z faulty (record-used m)))
+                  subst (Agree t spans s firsts′ work″) (guarded-stays z faulty f ∙ sym (guarded-stays z faulty (record-used parents m)))
                   (one t (members (u .names .words)) firsts′ (members-held (u .names)) .agrees spans z after-use)
 
         grows : (m : Mods) → Stands t x m → Grown t p work s work″
@@ -192,7 +196,7 @@ module _ (t : List ℕ) (ok : Accepted t) (outer spans : List ℕ) (st : Stateme
             step-if (sheetAt t) (plain parents m)
             (step-at-most (sheetAt t) (bracketVars domain + 1)
             (turn (sheetAt t) (adds-use-expr (sheetAt t) nested parents (fits t (x .levels)) (x .statement) [] m domain
-            ⨾ (λ z. adds-record-one (sheetAt t) (x .statement) 0 (allUsed (sheetAt t) [] m domain z) z)
+            ⨾ (λ z. adds-record-one (sheetAt t) (x .statement) 0 (allUsed (sheetAt t) (way parents) [] m domain z) z)
             ⨾ end)) (omega arith)) (v .run .fault) v
 
         abbrev after : Under t outer spans s firsts′ work″ 0

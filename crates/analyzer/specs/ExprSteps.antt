@@ -21,9 +21,10 @@ use Rattle.trees.specs.Paths.{getExtraArg}
 use Rattle.scopes.specs.Scopes.{Scope, addUnscoped}
 use Rattle.analysis.specs.States.{sound, Run, State, setScope, inTurn}
 use Rattle.analysis.specs.Using.{recordEach}
-use Rattle.analysis.specs.Comprs.{Mods}
-use Rattle.once.specs.Comprs.{Nested, allUsed, useExpr}
-use Rattle.once.specs.Exprs.{assignPairing, processAssignExpr, processPlainExpr, processExpr, extraVars, processExtraArg, processCall}
+use Rattle.analysis.specs.Ways.{Way}
+use Rattle.analysis.specs.Comprs.{Mods, allUsed, useExpr}
+use Rattle.analysis.specs.Exprs.{assignPairing, processAssignExpr, processPlainExpr, processExpr, processExtraArg, processCall}
+use Rattle.once.specs.OnceWay.{Nested}
 use Rattle.sizes.specs.Sizes.{total, size}
 use Rattle.sizes.specs.Leaves.{bracketVars, brackets-fit}
 use Rattle.sizes.specs.Exprs.{pairCost, pairings-fit}
@@ -52,7 +53,7 @@ use Rattle.frame.specs.Table.{Table}
 use Rattle.frame.specs.Frames.{guarded, Agree, Grown, grown-then}
 use Rattle.frame.specs.Steps.{agree-sound, not-sound}
 use Rattle.laws.specs.Guards.{guarded-sound, guarded-stays, fault-cases, pairings-stay}
-use Rattle.analyzer.specs.Sites.{nestedBy, Around, Inside, Under}
+use Rattle.analyzer.specs.Sites.{nestedBy, wayBy, Around, Inside, Under}
 use Rattle.analyzer.specs.Witnesses.{members-held, someMods, some-stand}
 use Rattle.analyzer.specs.Moves.{Enclosing, at-ready, inside-next, under-less, under-next, under-inside}
 use Rattle.analyzer.specs.Steadies.{steady-use}
@@ -76,6 +77,9 @@ module _ (t : List ℕ) (ok : Accepted t) (outer spans : List ℕ) (row : ℕ) (
   abbrev nested : Nested
   nested = nestedBy t (x .levels)
 
+  abbrev way : List Scope → Way
+  way = wayBy t (x .levels)
+
   there : row ≡ 0 → ⊥
   there z = omega (arith, asks .there)
 
@@ -91,13 +95,13 @@ module _ (t : List ℕ) (ok : Accepted t) (outer spans : List ℕ) (row : ℕ) (
     -- ---- the names of the extra argument
 
     names : List Scope → List ℕ
-    names parents = cond (eqb arg 0) [] (extraVars (sheetAt t) nested parents (exprBy t false arg))
+    names parents = cond (eqb arg 0) [] (way parents .extraVars (exprBy t false arg))
 
     hold : (parents : List Scope) → Outer outer parents → Holds extras (names parents)
     unfolding names
     hold parents o = go (eq-cases arg 0)
       where
-        go : (arg ≡ 0) ⊎ (arg ≡ 0 → ⊥) → Holds extras (cond (eqb arg 0) [] (extraVars (sheetAt t) nested parents (exprBy t false arg)))
+        go : (arg ≡ 0) ⊎ (arg ≡ 0 → ⊥) → Holds extras (cond (eqb arg 0) [] (way parents .extraVars (exprBy t false arg)))
         go (inl z) = rw (eq-eqb arg 0 z) (vars .none z)
         go (inr n) = rw (ne-eqb arg 0 n) (vars .all n nested parents o)
 
@@ -107,7 +111,7 @@ module _ (t : List ℕ) (ok : Accepted t) (outer spans : List ℕ) (row : ℕ) (
     few parents = go which
       where
         go : ExtraArg t row call arg
-            → bracketVars (tree t row) + max 1 (length (cond (eqb arg 0) [] (extraVars (sheetAt t) nested parents (exprBy t false arg)))) ≤ suc (size (tree t row))
+            → bracketVars (tree t row) + max 1 (length (cond (eqb arg 0) [] (way parents .extraVars (exprBy t false arg)))) ≤ suc (size (tree t row))
         go (inl a) = rw (eq-eqb arg 0 (a .zero)) (omega (arith, brackets-fit (tree t row)))
         go (inr a) =
             rw (ne-eqb arg 0 (λ z. omega (arith, a .low)))
@@ -183,7 +187,7 @@ module _ (t : List ℕ) (ok : Accepted t) (outer spans : List ℕ) (row : ℕ) (
       unfolding names
       none-bound parents = go which
         where
-          go : ExtraArg t row call arg → cond (eqb arg 0) [] (extraVars (sheetAt t) nested parents (exprBy t false arg)) ≡ []
+          go : ExtraArg t row call arg → cond (eqb arg 0) [] (way parents .extraVars (exprBy t false arg)) ≡ []
           go (inl a) = rw (eq-eqb arg 0 (a .zero))
           go (inr a) = let e : none ≡ some (exprBy t false arg) = sym no-arg ∙ a .is in let z : _≡_ {A = ℕ} 0 1 = cc in absurd (omega arith)
 
@@ -209,8 +213,8 @@ module _ (t : List ℕ) (ok : Accepted t) (outer spans : List ℕ) (row : ℕ) (
       module _ (check : Bool) (checks : check ≡ isColEq w) (r : Progress) (firsts′ work′ : List ℕ)
           (pairs : DoesPairs t inner (pairsAt t (w .first) (w .second)) check x q firsts work r firsts′ work′) where
         assigned : (parents : List Scope) (m : Mods) (s : State)
-            → foldl (assignPairing (sheetAt t) nested parents (x .statement) m check) s (pairsAt t (w .first) (w .second))
-            ≡ processExpr (sheetAt t) nested parents (x .statement) m (tree t row) s
+            → foldl (assignPairing (sheetAt t) (way parents) (x .statement) m check) s (pairsAt t (w .first) (w .second))
+            ≡ processExpr (sheetAt t) (way parents) (x .statement) m (tree t row) s
         unfolding processExpr processAssignExpr
         assigned parents m s =
             sym (rw (
@@ -223,22 +227,23 @@ module _ (t : List ℕ) (ok : Accepted t) (outer spans : List ℕ) (row : ℕ) (
             ))
 
         step-is : (parents : List Scope) (m : Mods) (s : State)
-            → foldl (assignPairing (sheetAt t) nested parents (x .statement) m check) s (pairsAt t (w .first) (w .second))
+            → foldl (assignPairing (sheetAt t) (way parents) (x .statement) m check) s (pairsAt t (w .first) (w .second))
             ≡ exprStep t call row x parents m s
+        unfolding processCall
         step-is parents m s = go (fault-cases (s .run .fault))
           where
-            plain : (b : Bool) → processExpr (sheetAt t) nested parents (x .statement) m (tree t row) s
-                ≡ cond b (processCall (sheetAt t) nested parents (getExtraArg (sheetAt t) (tree t row)) (x .statement) m (tree t row) s)
-                (processExpr (sheetAt t) nested parents (x .statement) m (tree t row) s)
+            plain : (b : Bool) → processExpr (sheetAt t) (way parents) (x .statement) m (tree t row) s
+                ≡ cond b (processCall (sheetAt t) (way parents) (getExtraArg (sheetAt t) (tree t row)) (x .statement) m (tree t row) s)
+                (processExpr (sheetAt t) (way parents) (x .statement) m (tree t row) s)
             plain true = sym (rw no-arg)
             plain false = refl
 
             go : (s .run .fault ≡ sound) ⊎ (s .run .fault ≡ sound → ⊥)
-                → foldl (assignPairing (sheetAt t) nested parents (x .statement) m check) s (pairsAt t (w .first) (w .second))
+                → foldl (assignPairing (sheetAt t) (way parents) (x .statement) m check) s (pairsAt t (w .first) (w .second))
                 ≡ exprStep t call row x parents m s
             go (inl e) = assigned parents m s ∙ plain call ∙ sym (guarded-sound _ s e)
             go (inr n) =
-                pairings-stay (sheetAt t) nested parents s n (x .statement) m check (pairsAt t (w .first) (w .second)) ∙ sym (guarded-stays s n _)
+                pairings-stay (sheetAt t) (way parents) s n (x .statement) m check (pairsAt t (w .first) (w .second)) ∙ sym (guarded-stays s n _)
 
         pub assign-does : DoesStep t (exprStep t call row x) outer spans x p firsts work r firsts′ work′
         assign-does m stands = record {
@@ -281,7 +286,7 @@ module _ (t : List ℕ) (ok : Accepted t) (outer spans : List ℕ) (row : ℕ) (
           let cost = bracketVars (tree t row) in
           let most = max 1 (length l) in
           let next = inside-next t inner q (u .progress) firsts firsts′ work work′ (cost + most) cost most
-          (λ parents. useExpr (sheetAt t) nested parents (x .statement) l m (tree t row))
+          (λ parents. useExpr (sheetAt t) (way parents) (x .statement) l m (tree t row))
           (λ parents. steady-use t (x .levels) parents (x .statement) l m (tree t row)) (omega arith)
           (uses .runs m (some-stand t x) l h) (within (cost + most) (few ps)) in
           ready-names (u .progress) work′ extras t firsts′ 1 l h (at-ready t (next .spans) (u .progress) firsts′ work′ most (next .at))
@@ -290,58 +295,58 @@ module _ (t : List ℕ) (ok : Accepted t) (outer spans : List ℕ) (row : ℕ) (
           (each : EachRecorded (x .statement) extras (u .names) false (u .progress) work′ r work″) where
         -- The steps that are done, for the names on a list.
         used : List ℕ → List Scope → Mods → State → State
-        used l parents m s = useExpr (sheetAt t) nested parents (x .statement) l m (tree t row) (guarded (bind l) s)
+        used l parents m s = useExpr (sheetAt t) (way parents) (x .statement) l m (tree t row) (guarded (bind l) s)
 
-        record-used : List ℕ → Mods → State → State
-        record-used l m s = recordEach (x .statement) l (λ y. allUsed (sheetAt t) l m (tree t row) s) s
+        record-used : List ℕ → List Scope → Mods → State → State
+        record-used l parents m s = recordEach (x .statement) l (λ y. allUsed (sheetAt t) (way parents) l m (tree t row) s) s
 
         recorded : List ℕ → List Scope → Mods → State → State
-        recorded l parents m s = guarded (record-used l m) (used l parents m s)
+        recorded l parents m s = guarded (record-used l parents m) (used l parents m s)
 
         -- Where there is no fault at first.
         module _ (parents : List Scope) (m : Mods) (s : State) (clear : s .run .fault ≡ sound) where
           in-turn : (l : List ℕ) → recorded l parents m s
-              ≡ inTurn (useExpr (sheetAt t) nested parents (x .statement) l m (tree t row) ∷ record-used l m ∷ []) (bind l s)
+              ≡ inTurn (useExpr (sheetAt t) (way parents) (x .statement) l m (tree t row) ∷ record-used l parents m ∷ []) (bind l s)
           unfolding recorded used
           in-turn l =
-              let f = useExpr (sheetAt t) nested parents (x .statement) l m (tree t row) in
-              ap (λ (v : State). guarded (record-used l m) v)
+              let f = useExpr (sheetAt t) (way parents) (x .statement) l m (tree t row) in
+              ap (λ (v : State). guarded (record-used l parents m) v)
               (ap f (guarded-sound (bind l) s clear) ∙ sym (guarded-sound f (bind l s) (ap (λ (v : Run). v .fault) (bind-run l s) ∙ clear)))
 
-          plain-is : recorded [] parents m s ≡ processExpr (sheetAt t) nested parents (x .statement) m (tree t row) s
+          plain-is : recorded [] parents m s ≡ processExpr (sheetAt t) (way parents) (x .statement) m (tree t row) s
           unfolding processExpr processPlainExpr recordEach record-used setScope
           plain-is = rw (row-is t ok row there (asks .low) true, assigns) (in-turn [])
 
-          extra-is : (e : Tree) → recorded (extraVars (sheetAt t) nested parents e) parents m s
-              ≡ processExtraArg (sheetAt t) nested parents (x .statement) m (tree t row) e s
+          extra-is : (e : Tree) → recorded (way parents .extraVars e) parents m s
+              ≡ processExtraArg (sheetAt t) (way parents) (x .statement) m (tree t row) e s
           unfolding processExtraArg record-used
-          extra-is e = in-turn (extraVars (sheetAt t) nested parents e)
+          extra-is e = in-turn (way parents .extraVars e)
 
           does : ExtraArg t row call arg → recorded (names parents) parents m s
-              ≡ cond call (processCall (sheetAt t) nested parents (getExtraArg (sheetAt t) (tree t row)) (x .statement) m (tree t row) s)
-              (processExpr (sheetAt t) nested parents (x .statement) m (tree t row) s)
-          unfolding names
+              ≡ cond call (processCall (sheetAt t) (way parents) (getExtraArg (sheetAt t) (tree t row)) (x .statement) m (tree t row) s)
+              (processExpr (sheetAt t) (way parents) (x .statement) m (tree t row) s)
+          unfolding names processCall
           does (inl a) = rw (eq-eqb arg 0 (a .zero)) (plain-is ∙ either (bool-cases call))
             where
-              either : (call ≡ true) ⊎ (call ≡ false) → processExpr (sheetAt t) nested parents (x .statement) m (tree t row) s
-                  ≡ cond call (processCall (sheetAt t) nested parents (getExtraArg (sheetAt t) (tree t row)) (x .statement) m (tree t row) s)
-                  (processExpr (sheetAt t) nested parents (x .statement) m (tree t row) s)
+              either : (call ≡ true) ⊎ (call ≡ false) → processExpr (sheetAt t) (way parents) (x .statement) m (tree t row) s
+                  ≡ cond call (processCall (sheetAt t) (way parents) (getExtraArg (sheetAt t) (tree t row)) (x .statement) m (tree t row) s)
+                  (processExpr (sheetAt t) (way parents) (x .statement) m (tree t row) s)
               either (inl b) = sym (rw (b, a .nothing b))
               either (inr b) = sym (rw b)
           does (inr a) = rw (ne-eqb arg 0 (λ z. omega (arith, a .low))) (extra-is (exprBy t false arg) ∙ asked)
             where
-              asked : processExtraArg (sheetAt t) nested parents (x .statement) m (tree t row) (exprBy t false arg) s
-                  ≡ cond call (processCall (sheetAt t) nested parents (getExtraArg (sheetAt t) (tree t row)) (x .statement) m (tree t row) s)
-                  (processExpr (sheetAt t) nested parents (x .statement) m (tree t row) s)
+              asked : processExtraArg (sheetAt t) (way parents) (x .statement) m (tree t row) (exprBy t false arg) s
+                  ≡ cond call (processCall (sheetAt t) (way parents) (getExtraArg (sheetAt t) (tree t row)) (x .statement) m (tree t row) s)
+                  (processExpr (sheetAt t) (way parents) (x .statement) m (tree t row) s)
               asked = sym (rw (a .asked, a .is))
 
         stays : (l : List ℕ) (parents : List Scope) (m : Mods) (s : State) → (s .run .fault ≡ sound → ⊥) → recorded l parents m s ≡ s
         unfolding recorded used
         stays l parents m s n =
-            let f = useExpr (sheetAt t) nested parents (x .statement) l m (tree t row) in
-            ap (λ (v : State). guarded (record-used l m) (f v)) (guarded-stays s n (bind l))
-            ∙ ap (λ (v : State). guarded (record-used l m) v) (steady-use t (x .levels) parents (x .statement) l m (tree t row) .stays s n)
-            ∙ guarded-stays s n (record-used l m)
+            let f = useExpr (sheetAt t) (way parents) (x .statement) l m (tree t row) in
+            ap (λ (v : State). guarded (record-used l parents m) (f v)) (guarded-stays s n (bind l))
+            ∙ ap (λ (v : State). guarded (record-used l parents m) v) (steady-use t (x .levels) parents (x .statement) l m (tree t row) .stays s n)
+            ∙ guarded-stays s n (record-used l parents m)
 
         whole-is : (parents : List Scope) (m : Mods) (s : State) → recorded (names parents) parents m s ≡ exprStep t call row x parents m s
         whole-is parents m s = go (fault-cases (s .run .fault))
@@ -366,19 +371,19 @@ module _ (t : List ℕ) (ok : Accepted t) (outer spans : List ℕ) (row : ℕ) (
           ends = go (bool-cases (isSound (u .progress .fault)))
             where
               go : (isSound (u .progress .fault) ≡ true) ⊎ (isSound (u .progress .fault) ≡ false)
-                  → Agree t spans r firsts′ work″ (guarded (record-used (names parents) m) (used (names parents) parents m s))
+                  → Agree t spans r firsts′ work″ (guarded (record-used (names parents) parents m) (used (names parents) parents m s))
               go (inl b) =
                   let v = used (names parents) parents m s in
-                  let all = allUsed (sheetAt t) (names parents) m (tree t row) v in
+                  let all = allUsed (sheetAt t) (way parents) (names parents) m (tree t row) v in
                   let h = uses .names m stands (names parents) (hold parents o) b parents spans _ around-it begun in
                   subst (Agree t spans r firsts′ work″)
-                  (if-same (v .run .fault) (recordEach (x .statement) (names parents) (λ y. all)) (record-used (names parents) m) v refl)
+                  (if-same (v .run .fault) (recordEach (x .statement) (names parents) (λ y. all)) (record-used (names parents) parents m) v refl)
                   (each t (names parents) all firsts′ (hold parents o) h .agrees spans v after-use)
               go (inr b) =
                   let v = used (names parents) parents m s in
                   let faulty : v .run .fault ≡ sound → ⊥ = λ e. not-sound (u .progress .fault) b (after-use .fault ∙ e) in
                   let f = recordEach (x .statement) (names parents) (λ y. members (u .names .words)) in
-                  subst (Agree t spans r firsts′ work″) (guarded-stays v faulty f ∙ sym (guarded-stays v faulty (record-used (names parents) m)))
+                  subst (Agree t spans r firsts′ work″) (guarded-stays v faulty f ∙ sym (guarded-stays v faulty (record-used (names parents) parents m)))
                   (each t (names parents) (members (u .names .words)) firsts′ (hold parents o) (members-held (u .names)) .agrees spans v after-use)
 
         pub use-does : DoesStep t (exprStep t call row x) outer spans x p firsts work r firsts′ work″

@@ -20,14 +20,13 @@ use Rattle.trees.specs.Traverse.{vars}
 use Rattle.trees.specs.Statements.{Literal, someVars, someIn, expr, notExpr, every, literalOf}
 use Rattle.scopes.specs.Scopes.{Scope, noScope, addLocal, spanOf, spanIn}
 use Rattle.uses.specs.Uses.{define}
-use Rattle.analysis.specs.States.{sound, State, addFirstUses, addDefinitions, setRun, failOr}
+use Rattle.analysis.specs.States.{sound, State, addFirstUses, addDefinitions, failOr}
 use Rattle.analysis.specs.Using.{usedBeforeAt, checkFirstUse, recordOne}
-use Rattle.analysis.specs.Comprs.{Mods}
-use Rattle.once.specs.Comprs.{Nested, allUsed, useExpr}
-use Rattle.once.specs.Exprs.{processPlainExpr}
-use Rattle.analysis.specs.SomeIn.{someVarsIn, nonVars}
-use Rattle.once.specs.SomeIn.{processNonVar, processSomeIn}
-use Rattle.once.specs.Statements.{processEvery, processLiteral}
+use Rattle.analysis.specs.Ways.{Way}
+use Rattle.analysis.specs.Comprs.{Mods, allUsed, useExpr}
+use Rattle.analysis.specs.Exprs.{processPlainExpr}
+use Rattle.analysis.specs.SomeIn.{someVarsIn, nonVars, processNonVar, processSomeIn}
+use Rattle.analysis.specs.Statements.{processEvery, processLiteral}
 use Rattle.sizes.specs.Sizes.{size, literalSize}
 use Rattle.homes.specs.Lying.{statement-there}
 use Rattle.homes.specs.StatementHomes.{StatementInside, statement-lies}
@@ -40,7 +39,7 @@ use Rattle.frame.specs.Frames.{guarded}
 use Rattle.recording.specs.Checks.{VarsChecked}
 use Rattle.literals.specs.declared.context.Context.{Context}
 use Rattle.laws.specs.Guards.{fault-cases, guarded-sound, guarded-stays, turn-stays, fold-stays}
-use Rattle.analyzer.specs.Sites.{nestedBy}
+use Rattle.analyzer.specs.Sites.{wayBy}
 use Rattle.analyzer.specs.Moves.{under-less, runs-under, runs-under-as}
 use Rattle.analyzer.specs.Asks.{tree, leavesAt, AsksWhole, AsksLiteral}
 use Rattle.analyzer.specs.Does.{DoesStep, exprStep, someInStep, everyStep, literalStep}
@@ -60,27 +59,27 @@ unfolding checkFirstUse
 check-stays ws s n =
     fold-stays s checkFirstUse (λ w. turn-stays s n (failOr (usedBeforeAt (spanIn (s .firstUses) (w .name)) w) (λ u. u) ∷ [])) ws
 
-module _ (sheet : Sheet) (nested : Nested) (parents : List Scope) (i : ℕ) (m : Mods) (s : State) (n : s .run .fault ≡ sound → ⊥) where
-  some-in-stays : (pattern : List Tree) (collection : Tree) → processSomeIn sheet nested parents i m pattern collection s ≡ s
+module _ (sheet : Sheet) (way : Way) (i : ℕ) (m : Mods) (s : State) (n : s .run .fault ≡ sound → ⊥) where
+  some-in-stays : (pattern : List Tree) (collection : Tree) → processSomeIn sheet way i m pattern collection s ≡ s
   unfolding processSomeIn
   some-in-stays pattern collection =
       let names = someVarsIn sheet (s .scope) pattern in
       let others = nonVars sheet (s .scope) pattern in
       let later : Mods = record { usedVars = []; comprs = m .comprs } in
       turn-stays s n
-      (useExpr sheet nested parents i [] m collection
-      ∷ (λ u. addDefinitions (map (λ (w : Row). define i (w .name) (allUsed sheet [] m collection u)) names) u)
+      (useExpr sheet way i [] m collection
+      ∷ (λ u. addDefinitions (map (λ (w : Row). define i (w .name) (allUsed sheet way [] m collection u)) names) u)
       ∷ addFirstUses (map spanOf names)
-      ∷ (λ u. foldl (processNonVar sheet nested parents i m) u others)
-      ∷ (λ u. recordOne i 0 (concatMap (λ e. allUsed sheet [] later e u) others) u)
+      ∷ (λ u. foldl (processNonVar sheet way i m) u others)
+      ∷ (λ u. recordOne i 0 (concatMap (λ e. allUsed sheet way [] later e u) others) u)
       ∷ [])
 
-  every-stays : (key value domain : Tree) (query : ℕ) → processEvery sheet nested parents i m key value domain query s ≡ s
+  every-stays : (key value domain : Tree) (query : ℕ) → processEvery sheet way i m key value domain query s ≡ s
   unfolding processEvery
   every-stays key value domain query =
       turn-stays s n
-      (processPlainExpr sheet nested parents i m domain
-      ∷ (λ u. setRun (nested (foldl addLocal noScope (vars (chain key ++ chain value)) ∷ (u .scope ∷ parents)) query [] (u .run)) u)
+      (processPlainExpr sheet way i m domain
+      ∷ (λ u. way .body (foldl addLocal noScope (vars (chain key ++ chain value))) (u .scope) query u)
       ∷ [])
 
 -- ---- by form
@@ -153,12 +152,12 @@ module _ (t : List ℕ) (st : Statement) where
       -- The literal's step by another name.
       does-as : (l : Literal) → literalOf (sheetAt t) st ≡ l → (f : List Scope → Mods → State → State)
           → ((parents : List Scope) (m : Mods) (s : State)
-          → f parents m s ≡ guarded (processLiteral (sheetAt t) (nestedBy t (x .levels)) parents (x .statement) m l) s)
+          → f parents m s ≡ guarded (processLiteral (sheetAt t) (wayBy t (x .levels) parents) (x .statement) m l) s)
           → Does f → Does (literalStep t st x)
       does-as l e f same h m stands =
           runs-under-as t outer spans (λ parents. f parents m) (λ parents. literalStep t st x parents m) p r firsts firsts′ work work′
           (λ parents s. same parents m s
-          ∙ ap (λ (k : Literal). guarded (processLiteral (sheetAt t) (nestedBy t (x .levels)) parents (x .statement) m k) s) (sym e))
+          ∙ ap (λ (k : Literal). guarded (processLiteral (sheetAt t) (wayBy t (x .levels) parents) (x .statement) m k) s) (sym e))
           (h m stands)
 
       pub literal-some-in : st .form ≡ 2 → Does (someInStep t st x) → Does (literalStep t st x)
@@ -166,14 +165,14 @@ module _ (t : List ℕ) (st : Statement) where
       literal-some-in e h =
           does-as _ (some-in-is e) (someInStep t st x)
           (λ parents m. as-guarded (someInStep t st x parents m)
-          (λ s n. some-in-stays (sheetAt t) (nestedBy t (x .levels)) parents (x .statement) m s n (leavesAt t (st .first) ++ leavesAt t (st .second)) (tree t (st .third)))) h
+          (λ s n. some-in-stays (sheetAt t) (wayBy t (x .levels) parents) (x .statement) m s n (leavesAt t (st .first) ++ leavesAt t (st .second)) (tree t (st .third)))) h
 
       pub literal-every : st .form ≡ 5 → Does (everyStep t st x) → Does (literalStep t st x)
       unfolding processLiteral
       literal-every e h =
           does-as _ (every-is e) (everyStep t st x)
           (λ parents m. as-guarded (everyStep t st x parents m)
-          (λ s n. every-stays (sheetAt t) (nestedBy t (x .levels)) parents (x .statement) m s n (tree t (st .first)) (tree t (st .second)) (tree t (st .third)) (st .query))) h
+          (λ s n. every-stays (sheetAt t) (wayBy t (x .levels) parents) (x .statement) m s n (tree t (st .first)) (tree t (st .second)) (tree t (st .third)) (st .query))) h
 
     pub literal-vars : st .form ≡ 1 → (r : Progress) → VarsChecked t (st .first) p firsts r
         → DoesStep t (literalStep t st x) outer spans x p firsts work r firsts work
@@ -219,6 +218,6 @@ module _ (t : List ℕ) (st : Statement) where
         where
           go : (b : Bool) (parents : List Scope) (m : Mods) (s : State)
               → exprStep t b (st .first) x parents m s
-              ≡ guarded (processLiteral (sheetAt t) (nestedBy t (x .levels)) parents (x .statement) m (exprBy b)) s
+              ≡ guarded (processLiteral (sheetAt t) (wayBy t (x .levels) parents) (x .statement) m (exprBy b)) s
           go true parents m s = refl
           go false parents m s = refl

@@ -18,10 +18,8 @@ use Rattle.scopes.specs.Scopes.{Scope}
 use Rattle.uses.specs.Uses.{indexDefinitions}
 use Rattle.analysis.specs.States.{sound, indexVariable, State}
 use Rattle.analysis.specs.Using.{gatherUsedVars}
-use Rattle.analysis.specs.Comprs.{Mods}
-use Rattle.once.specs.Comprs.{processCompr, processComprs}
-use Rattle.analysis.specs.SomeIn.{failIfSome}
-use Rattle.once.specs.SomeIn.{processNonVar}
+use Rattle.analysis.specs.Comprs.{Mods, processCompr, processComprs}
+use Rattle.analysis.specs.SomeIn.{failIfSome, processNonVar}
 use Rattle.sizes.specs.Sizes.{total}
 use Rattle.sizes.specs.Leaves.{bracketVars}
 use Rattle.sizes.specs.Adds.{Adds, step-if, adds-none, adds-fail}
@@ -39,7 +37,7 @@ use Rattle.frame.specs.Steps.{agree-sound, failed-agrees, not-sound, ready-less
 use Rattle.laws.specs.Guards.{fault-cases, guarded-sound, guarded-stays, comprs-stay}
 use Rattle.laws.specs.Same.{Same, same-refl, same-index}
 use Rattle.laws.specs.Keeps.{keeps-guarded, keeps-fail, keeps-gather-used-vars}
-use Rattle.analyzer.specs.Sites.{nestedBy, RunsIn}
+use Rattle.analyzer.specs.Sites.{wayBy, RunsIn}
 use Rattle.analyzer.specs.Asks.{otherAt, AsksComprs, AsksExpr}
 use Rattle.analyzer.specs.Does.{DoesComprs, DoesOthers}
 use Rattle.analyzer.specs.ComprRows.{at-lies, does-at}
@@ -144,23 +142,23 @@ module _ (t : List ℕ) where
   -- ---- the comprehensions
 
   module _ (levels : ℕ) (parents : List Scope) where
-    guarded-comprs : (cs : List Tree) (s : State) → guarded (processComprs (sheetAt t) (nestedBy t levels) parents cs) s ≡ processComprs (sheetAt t) (nestedBy t levels) parents cs s
+    guarded-comprs : (cs : List Tree) (s : State) → guarded (processComprs (sheetAt t) (wayBy t levels parents) cs) s ≡ processComprs (sheetAt t) (wayBy t levels parents) cs s
     guarded-comprs cs s = go (fault-cases (s .run .fault))
       where
         go : (s .run .fault ≡ sound) ⊎ (s .run .fault ≡ sound → ⊥)
-            → guarded (processComprs (sheetAt t) (nestedBy t levels) parents cs) s ≡ processComprs (sheetAt t) (nestedBy t levels) parents cs s
-        go (inl z) = guarded-sound (processComprs (sheetAt t) (nestedBy t levels) parents cs) s z
-        go (inr n) = guarded-stays s n (processComprs (sheetAt t) (nestedBy t levels) parents cs) ∙ sym (comprs-stay (sheetAt t) (nestedBy t levels) parents s n cs)
+            → guarded (processComprs (sheetAt t) (wayBy t levels parents) cs) s ≡ processComprs (sheetAt t) (wayBy t levels parents) cs s
+        go (inl z) = guarded-sound (processComprs (sheetAt t) (wayBy t levels parents) cs) s z
+        go (inr n) = guarded-stays s n (processComprs (sheetAt t) (wayBy t levels parents) cs) ∙ sym (comprs-stay (sheetAt t) (wayBy t levels parents) s n cs)
 
     comprs-append : (a b : List Tree) (s : State)
-        → processComprs (sheetAt t) (nestedBy t levels) parents (a ++ b) s
-        ≡ processComprs (sheetAt t) (nestedBy t levels) parents b (processComprs (sheetAt t) (nestedBy t levels) parents a s)
+        → processComprs (sheetAt t) (wayBy t levels parents) (a ++ b) s
+        ≡ processComprs (sheetAt t) (wayBy t levels parents) b (processComprs (sheetAt t) (wayBy t levels parents) a s)
     unfolding processComprs
-    comprs-append a b s = foldl-append (processCompr (sheetAt t) (nestedBy t levels) parents) s a b
+    comprs-append a b s = foldl-append (processCompr (sheetAt t) (wayBy t levels parents)) s a b
 
     non-var-steps : (i : ℕ) (m : Mods) (e : Tree) (s : State)
-        → processComprs (sheetAt t) (nestedBy t levels) parents (m .comprs) (processComprs (sheetAt t) (nestedBy t levels) parents (comprs e) (useOrFail i e s))
-        ≡ processNonVar (sheetAt t) (nestedBy t levels) parents i m s e
+        → processComprs (sheetAt t) (wayBy t levels parents) (m .comprs) (processComprs (sheetAt t) (wayBy t levels parents) (comprs e) (useOrFail i e s))
+        ≡ processNonVar (sheetAt t) (wayBy t levels parents) i m s e
     unfolding processNonVar
     non-var-steps i m e s =
         sym (comprs-append (comprs e) (m .comprs) (useOrFail i e s)) ∙ sym (guarded-comprs (comprs e ++ m .comprs) (useOrFail i e s))
@@ -209,7 +207,7 @@ module _ (t : List ℕ) where
         pub asks-mods : Given → AsksComprs t inner (x .mods) r gs vs
         unfolding asks-own
         asks-mods h = record {
-          inside = inside-next t inner q r fs gs ws vs 0 0 0 (λ parents. processComprs (sheetAt t) (nestedBy t (x .levels)) parents (comprs expr))
+          inside = inside-next t inner q r fs gs ws vs 0 0 0 (λ parents. processComprs (sheetAt t) (wayBy t (x .levels) parents) (comprs expr))
               (λ parents. steady-comprs t (x .levels) parents (comprs expr)) (omega arith) own (asks-own h .inside);
           lies = h .mods-lie;
         }
@@ -217,7 +215,7 @@ module _ (t : List ℕ) where
         module _ (z : Progress) (hs us : List ℕ) (mods : DoesComprs t inner (comprs (exprBy t true (x .mods))) (x .levels) r gs vs z hs us) where
           pub non-var-does : DoesOthers t inner (otherAt t row) x p firsts work z hs us
           non-var-does m stands =
-              let k : List Scope → List Tree → State → State = λ parents. processComprs (sheetAt t) (nestedBy t (x .levels)) parents in
+              let k : List Scope → List Tree → State → State = λ parents. processComprs (sheetAt t) (wayBy t (x .levels) parents) in
               let uses-first : State → State = useOrFail (x .statement) expr in
               let two : (parents : List Scope) → Steady t (bracketVars expr + 0 + 0) (λ s. k parents (comprs expr) (uses-first s)) =
               λ parents. steady-then t (x .levels) (bracketVars expr + 0) 0 uses-first (k parents (comprs expr)) (steady-first (x .levels) (x .statement) expr)

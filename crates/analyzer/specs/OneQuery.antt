@@ -20,10 +20,10 @@ use Rattle.scopes.specs.NameSets.{NameSet, contains}
 use Rattle.scopes.specs.Scopes as spec
 use Rattle.scopes.specs.Scopes.{Span, spanIn}
 use Rattle.analysis.specs.States.{sound, QuerySchedule, Run, State, setScope}
-use Rattle.once.specs.Comprs.{processCompr, processComprs}
-use Rattle.once.specs.Statements.{processStmts}
+use Rattle.analysis.specs.Comprs.{processCompr, processComprs}
+use Rattle.analysis.specs.Statements.{processStmts}
 use Rattle.analysis.specs.Queries.{outputScope}
-use Rattle.once.specs.Queries.{analyzeOnce}
+use Rattle.once.specs.OnceWay.{analyzeOnce}
 use Rattle.sizes.specs.Sizes.{total, weight}
 use Rattle.sizes.specs.Adds.{Fits, adds-length}
 use Rattle.sizes.specs.Statements.{adds-process-stmts}
@@ -59,7 +59,7 @@ use Rattle.laws.specs.Lows.{chains-low, in-bounds}
 use Rattle.laws.specs.Fronts.{ended, front, analyze-sound, analyze-faulty, front-fits, front-low}
 use Rattle.analyzer.specs.Witnesses.{is-sound}
 use Rattle.analyzer.specs.Budgets.{budget, budgetAt}
-use Rattle.analyzer.specs.Sites.{nestedBy, Around, Inside}
+use Rattle.analyzer.specs.Sites.{nestedBy, wayBy, Around, Inside}
 use Rattle.analyzer.specs.Moves.{room-same, inside-next, around-next, at-rows}
 use Rattle.analyzer.specs.Steadies.{fits, steady-comprs}
 use Rattle.analyzer.specs.Asks.{tree, stmtsAt, AsksComprs, AsksStmts, Begun, AsksQuery}
@@ -227,7 +227,7 @@ module _ (t : List ℕ) (z : Width) (outer work : List ℕ) (query key value : �
   begin-at parents run = start (sheetAt t) parents query outs run
 
   abbrev body : List spec.Scope → Run → State
-  body parents run = processStmts (sheetAt t) (nestedBy t n) parents 0 (stmtsOf (sheetAt t) query) (begin-at parents run)
+  body parents run = processStmts (sheetAt t) (wayBy t n parents) 0 (stmtsOf (sheetAt t) query) (begin-at parents run)
 
   wide-width : wide .width ≡ z
   wide-width = x .opens .wide ∙ x .did .grown .wide ∙ same-width t z outer work query key value spans (x .firsts) (x .row) (x .p) (x .started)
@@ -245,7 +245,7 @@ module _ (t : List ℕ) (z : Width) (outer work : List ℕ) (query key value : �
     body-agrees : Agree t spans s fs w (body parents run)
     body-agrees =
         let y = x .started in
-        subst (λ (l : List Stmt). Agree t spans s fs w (processStmts (sheetAt t) (nestedBy t n) parents 0 l (begin-at parents run)))
+        subst (λ (l : List Stmt). Agree t spans s fs w (processStmts (sheetAt t) (wayBy t n parents) 0 l (begin-at parents run)))
         (stmts-are t z outer work query key value spans (x .firsts) (x .row) (x .p) y)
         (x .did .agrees parents (begin-at parents run) o
         (start-agrees t z outer work query key value spans (x .firsts) (x .row) (x .p) y parents run o fine table))
@@ -259,10 +259,10 @@ module _ (t : List ℕ) (z : Width) (outer work : List ℕ) (query key value : �
   -- ---- the comprehensions of its outputs
 
   abbrev key-step : List spec.Scope → State → State
-  key-step parents = processComprs (sheetAt t) (nestedBy t n) parents (comprs (tree t key))
+  key-step parents = processComprs (sheetAt t) (wayBy t n parents) (comprs (tree t key))
 
   abbrev value-step : List spec.Scope → State → State
-  value-step parents = processComprs (sheetAt t) (nestedBy t n) parents (comprs (tree t value))
+  value-step parents = processComprs (sheetAt t) (wayBy t n parents) (comprs (tree t value))
 
   abbrev inside-key : Inside t inner wide fs w 0
   inside-key = record {
@@ -326,11 +326,11 @@ module _ (t : List ℕ) (z : Width) (outer work : List ℕ) (query key value : �
             (did-key .agrees parents spans before here (wide-agrees parents run o fine table))
 
         -- One after the other, they are those of the two chains.
-        last-is : processComprs (sheetAt t) (nestedBy t n) parents (concatMap comprs outs) before ≡ last
+        last-is : processComprs (sheetAt t) (wayBy t n parents) (concatMap comprs outs) before ≡ last
         unfolding processComprs
         last-is =
-            ap (λ (l : List Tree). processComprs (sheetAt t) (nestedBy t n) parents l before) (comprs-chains (tree t key) (tree t value))
-            ∙ foldl-append (processCompr (sheetAt t) (nestedBy t n) parents) before (comprs (tree t key)) (comprs (tree t value))
+            ap (λ (l : List Tree). processComprs (sheetAt t) (wayBy t n parents) l before) (comprs-chains (tree t key) (tree t value))
+            ∙ foldl-append (processCompr (sheetAt t) (wayBy t n parents)) before (comprs (tree t key)) (comprs (tree t value))
 
         abbrev end : State
         end = ended n (sheetAt t) parents query outs run
@@ -351,7 +351,7 @@ module _ (t : List ℕ) (z : Width) (outer work : List ℕ) (query key value : �
           scope-agrees : Agrees (withInputsOf (s .scope) (v .scope)) spans (end .scope)
           scope-agrees =
               let same = keeps-outputs (sheetAt t) (nestedBy t n) parents outs (body parents run) in
-              let clear = outputs-sound (sheetAt t) (nestedBy t n) parents (body parents run) outs well in
+              let clear = outputs-sound (sheetAt t) (wayBy t n parents) (body parents run) outs well in
               let own = body-agrees parents run o fine table .whole clear .scope in
               let rose = last-agrees .whole well-last .scope .sets in
               record {

@@ -15,8 +15,7 @@ use Rattle.trees.specs.Kinds.{isArray}
 use Rattle.scopes.specs.Scopes.{Scope}
 use Rattle.analysis.specs.States.{lengths, State, fail}
 use Rattle.analysis.specs.Comprs.{Mods}
-use Rattle.analysis.specs.Exprs.{Pairing, pair, mismatch}
-use Rattle.once.specs.Exprs.{assignPairing}
+use Rattle.analysis.specs.Exprs.{Pairing, pair, mismatch, assignPairing}
 use Rattle.sizes.specs.Sizes.{total}
 use Rattle.sizes.specs.Lists.{total-append}
 use Rattle.sizes.specs.Exprs.{pairCost}
@@ -36,7 +35,7 @@ use Rattle.frame.specs.Faults.{isSound}
 use Rattle.frame.specs.Steps.{agree-sound, failed-agrees, guarded-sound, runs-stays}
 use Rattle.frame.specs.Frames.{failed, Agree}
 use Rattle.laws.specs.Pairs.{pairings-left, pairings-row}
-use Rattle.analyzer.specs.Sites.{nestedBy, LiesIn, RunsIn}
+use Rattle.analyzer.specs.Sites.{wayBy, LiesIn, RunsIn}
 use Rattle.analyzer.specs.Moves.{inside-next, runs-in, runs-in-then, runs-in-as}
 use Rattle.analyzer.specs.Steadies.{steady-pairs}
 use Rattle.analyzer.specs.Asks.{AsksExpr, pairAt, pairsAt}
@@ -57,7 +56,7 @@ module _ (t inner : List ℕ) (check : Bool) (x : Context) (p : Progress) (fs w 
       (λ parents. steady-pairs t (x .levels) parents (x .statement) m check ps) (does m st) (then m st))
     where
       step : List Scope → State → Pairing → State
-      step parents = assignPairing (sheetAt t) (nestedBy t (x .levels)) parents (x .statement) m check
+      step parents = assignPairing (sheetAt t) (wayBy t (x .levels) parents) (x .statement) m check
 
   -- What they leave for others, on rows of the query.
   pub pairs-asks : (a b more : ℕ) (asks : AsksExpr t inner a b x p fs w more) (k : ℕ) → total pairCost ps + k ≤ more
@@ -79,7 +78,7 @@ unequal b d = cond d (mismatch b ∷ []) []
 
 module _ (t inner : List ℕ) (check : Bool) (x : Context) (b : Row) (p : Progress) (fs w : List ℕ) where
   mismatched : (m : Mods) (e : Bool) → isSound (p .fault) ≡ e
-      → RunsIn t inner (λ parents s. assignPairing (sheetAt t) (nestedBy t (x .levels)) parents (x .statement) m check s (mismatch b))
+      → RunsIn t inner (λ parents s. assignPairing (sheetAt t) (wayBy t (x .levels) parents) (x .statement) m check s (mismatch b))
       p fs w (cond e (failed p (Lengths (b .line) (b .col))) p) fs w
   unfolding assignPairing
   mismatched m true e = record {

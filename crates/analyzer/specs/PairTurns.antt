@@ -14,10 +14,8 @@ use Rattle.scopes.specs.Scopes.{Scope}
 use Rattle.uses.specs.Uses.{assignedVars}
 use Rattle.analysis.specs.States.{sound, State}
 use Rattle.analysis.specs.Using.{checkAssigned, recordEach}
-use Rattle.analysis.specs.Comprs.{Mods}
-use Rattle.once.specs.Comprs.{allUsed, useExpr}
-use Rattle.analysis.specs.Exprs.{Pairing, pair}
-use Rattle.once.specs.Exprs.{assignOneWay, assignPairing}
+use Rattle.analysis.specs.Comprs.{Mods, allUsed, useExpr}
+use Rattle.analysis.specs.Exprs.{Pairing, pair, assignOneWay, assignPairing}
 use Rattle.sizes.specs.Sizes.{total}
 use Rattle.sizes.specs.Leaves.{patternVars, bracketVars}
 use Rattle.sizes.specs.Exprs.{sideCost, pairCost, adds-assign-one-way}
@@ -32,7 +30,7 @@ use Rattle.frame.specs.Frames.{guarded, Agree, Ready, grown-then, runs-none}
 use Rattle.laws.specs.Guards.{fault-cases, guarded-sound, guarded-stays, turn-stays}
 use Rattle.laws.specs.KeepsNested.{keeps-assign-one-way}
 use Rattle.recording.specs.Guards.{if-same}
-use Rattle.analyzer.specs.Sites.{nestedBy, Inside, RunsIn}
+use Rattle.analyzer.specs.Sites.{nestedBy, wayBy, Inside, RunsIn}
 use Rattle.analyzer.specs.Moves.{Steady, at-ready, inside-less, inside-next, runs-in, runs-in-then, runs-in-as}
 use Rattle.analyzer.specs.Steadies.{fits, steady-use}
 use Rattle.analyzer.specs.Asks.{AsksExpr, pairAt}
@@ -51,11 +49,11 @@ guarded-is f s stays = go (fault-cases (s .run .fault))
 
 module _ (t : List ℕ) (levels i : ℕ) (m : Mods) (parents : List Scope) where
   abbrev oneWay : Bool → Tree → Tree → State → State
-  oneWay = assignOneWay (sheetAt t) (nestedBy t levels) parents i m
+  oneWay = assignOneWay (sheetAt t) (wayBy t levels parents) i m
 
   module _ (check : Bool) (target source : Tree) where
     abbrev source-used : State → State
-    source-used = useExpr (sheetAt t) (nestedBy t levels) parents i [] m source
+    source-used = useExpr (sheetAt t) (wayBy t levels parents) i [] m source
 
     pub steady-one-way : Steady t (bracketVars source + max 1 (patternVars target)) (oneWay check target source)
     unfolding assignOneWay
@@ -66,12 +64,12 @@ module _ (t : List ℕ) (levels i : ℕ) (m : Mods) (parents : List Scope) where
       stays = λ s n. turn-stays s n
           (source-used
           ∷ checkAssigned check target
-          ∷ (λ u. recordEach i (assignedVars (u .scope) target) (λ x. filter (λ y. not (eqb y x)) (allUsed (sheetAt t) [] m source u)) u)
+          ∷ (λ u. recordEach i (assignedVars (u .scope) target) (λ x. filter (λ y. not (eqb y x)) (allUsed (sheetAt t) (wayBy t levels parents) [] m source u)) u)
           ∷ []);
     }
 
     -- The names used are those after the source's use: the question changes no state that it finds no fault in.
-    one-way-is : (s : State) → assigning check i target (allUsed (sheetAt t) [] m source (source-used s)) (source-used s) ≡ oneWay check target source s
+    one-way-is : (s : State) → assigning check i target (allUsed (sheetAt t) (wayBy t levels parents) [] m source (source-used s)) (source-used s) ≡ oneWay check target source s
     unfolding assignOneWay
     one-way-is s =
         recorded (source-used s) (fault-cases (asked (source-used s) .run .fault))
@@ -81,10 +79,10 @@ module _ (t : List ℕ) (levels i : ℕ) (m : Mods) (parents : List Scope) where
         asked u = guarded (checkAssigned check target) u
 
         lastly : State → State
-        lastly u = recordEach i (assignedVars (u .scope) target) (λ x. filter (λ y. not (eqb y x)) (allUsed (sheetAt t) [] m source u)) u
+        lastly u = recordEach i (assignedVars (u .scope) target) (λ x. filter (λ y. not (eqb y x)) (allUsed (sheetAt t) (wayBy t levels parents) [] m source u)) u
 
         by : State → State → State
-        by v u = recordEach i (assignedVars (u .scope) target) (λ x. filter (λ y. not (eqb y x)) (allUsed (sheetAt t) [] m source v)) u
+        by v u = recordEach i (assignedVars (u .scope) target) (λ x. filter (λ y. not (eqb y x)) (allUsed (sheetAt t) (wayBy t levels parents) [] m source v)) u
 
         recorded : (u : State) → (asked u .run .fault ≡ sound) ⊎ (asked u .run .fault ≡ sound → ⊥) → guarded (by u) (asked u) ≡ guarded lastly (asked u)
         recorded u (inl e) = ap (λ (v : State). guarded (by v) (asked u)) (sym (checked-same check target u e)) ∙ same (asked u)
@@ -105,15 +103,15 @@ module _ (t inner : List ℕ) (none : Names) (clear : Empty (none .words)) (sour
   module _ (check : Bool) (target : Tree) (r : Progress) (w′ : List ℕ) (assigned : Assigns t target check (x .statement) u gs v r w′) where
     -- Use and assignment together.
     pub one-way : (m : Mods) → Stands t x m
-        → RunsIn t inner (λ parents. assignOneWay (sheetAt t) (nestedBy t (x .levels)) parents (x .statement) m check target source) p fs w r gs w′
+        → RunsIn t inner (λ parents. assignOneWay (sheetAt t) (wayBy t (x .levels) parents) (x .statement) m check target source) p fs w r gs w′
     one-way m st = record {
       grown = grown-then t p (u .progress) r w v w′ (uses .runs m st [] (holds-none none clear) .grown)
           (assigned (members (u .names .words)) (λ fine. members-held (u .names)) .grown);
       agrees = λ parents spans s o a.
           let b = uses .runs m st [] (holds-none none clear) .agrees parents spans s o a in
-          let s₁ = useExpr (sheetAt t) (nestedBy t (x .levels)) parents (x .statement) [] m source s in
+          let s₁ = useExpr (sheetAt t) (wayBy t (x .levels) parents) (x .statement) [] m source s in
           subst (Agree t spans r gs w′) (one-way-is t (x .levels) (x .statement) m parents check target source s)
-          (assigned (allUsed (sheetAt t) [] m source s₁) (λ fine. uses .names m st [] (holds-none none clear) fine parents spans s o a) .agrees spans s₁ b);
+          (assigned (allUsed (sheetAt t) (wayBy t (x .levels) parents) [] m source s₁) (λ fine. uses .names m st [] (holds-none none clear) fine parents spans s o a) .agrees spans s₁ b);
     }
 
 -- Nothing is done where there are no pairs.
@@ -162,7 +160,7 @@ module _ (t inner : List ℕ) (left right : ℕ) (check : Bool) (x : Context) (p
 
       module _ (q : Progress) (v′ : List ℕ) (assigned : Assigns t lhs check (x .statement) u gs v q v′) where
         abbrev first-way : (m : Mods) → Stands t x m
-            → RunsIn t inner (λ parents. assignOneWay (sheetAt t) (nestedBy t (x .levels)) parents (x .statement) m check lhs rhs) p fs w q gs v′
+            → RunsIn t inner (λ parents. assignOneWay (sheetAt t) (wayBy t (x .levels) parents) (x .statement) m check lhs rhs) p fs w q gs v′
         first-way = one-way t inner none clear rhs x p fs w u gs v uses check lhs q v′ assigned
 
         abbrev inside-then : (k : ℕ) → (bracketVars rhs + max 1 (patternVars lhs)) + k ≤ total pairCost (pairAt t left right)
@@ -200,13 +198,13 @@ module _ (t inner : List ℕ) (left right : ℕ) (check : Bool) (x : Context) (p
               (first-way m st) (one-way t inner none clear lhs x q gs v′ u′ hs v″ uses′ false rhs r w′ assigned′ m st))
             where
               way : List Scope → State → State
-              way parents = assignOneWay (sheetAt t) (nestedBy t (x .levels)) parents (x .statement) m check lhs rhs
+              way parents = assignOneWay (sheetAt t) (wayBy t (x .levels) parents) (x .statement) m check lhs rhs
 
               other : List Scope → State → State
-              other parents = assignOneWay (sheetAt t) (nestedBy t (x .levels)) parents (x .statement) m false rhs lhs
+              other parents = assignOneWay (sheetAt t) (wayBy t (x .levels) parents) (x .statement) m false rhs lhs
 
               step : List Scope → State → Pairing → State
-              step parents = assignPairing (sheetAt t) (nestedBy t (x .levels)) parents (x .statement) m check
+              step parents = assignPairing (sheetAt t) (wayBy t (x .levels) parents) (x .statement) m check
 
               both : (parents : List Scope) (s : State) → other parents (way parents s) ≡ step parents s (pair lhs rhs)
               both parents s =

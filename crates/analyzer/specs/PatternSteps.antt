@@ -14,8 +14,7 @@ use Rattle.trees.specs.Trees.{Tree}
 use Rattle.scopes.specs.Scopes.{Scope}
 use Rattle.analysis.specs.States.{sound, State}
 use Rattle.analysis.specs.Comprs.{Mods}
-use Rattle.analysis.specs.SomeIn.{nonVars}
-use Rattle.once.specs.SomeIn.{processNonVar}
+use Rattle.analysis.specs.SomeIn.{nonVars, processNonVar}
 use Rattle.sizes.specs.Sizes.{total}
 use Rattle.sizes.specs.Lists.{total-append, total-filter}
 use Rattle.sizes.specs.Leaves.{bracketVars}
@@ -36,7 +35,7 @@ use Rattle.literals.specs.Contexts.{Stands}
 use Rattle.literals.specs.SomeIn.{NonVar}
 use Rattle.frame.specs.declared.Progress.{Progress}
 use Rattle.frame.specs.Frames.{Agree, grown-then}
-use Rattle.analyzer.specs.Sites.{nestedBy, LiesIn, Around, Inside}
+use Rattle.analyzer.specs.Sites.{nestedBy, wayBy, LiesIn, Around, Inside}
 use Rattle.analyzer.specs.Asks.{otherAt, leavesAt, AsksExpr}
 use Rattle.analyzer.specs.Does.{DoesOthers, DoesNonVars}
 use Rattle.analyzer.specs.Moves.{Steady, inside-less, inside-next, around-next}
@@ -50,7 +49,7 @@ module _ (t : List ℕ) where
 
   module _ (levels : ℕ) (parents : List Scope) (i : ℕ) (m : Mods) where
     abbrev pub parts : List Tree → State → State
-    parts es s = foldl (processNonVar (sheetAt t) (nestedBy t levels) parents i m) s es
+    parts es s = foldl (processNonVar (sheetAt t) (wayBy t levels parents) i m) s es
 
     -- The parts that are no variables in the scope as it is.
     abbrev pub others : List Tree → State → State
@@ -65,7 +64,7 @@ module _ (t : List ℕ) where
       below = suc i;
       adds = λ s.
           adds-at-most (sheetAt t) (total bracketVars ls)
-          (turn-fold (sheetAt t) bracketVars (processNonVar (sheetAt t) (nestedBy t levels) parents i m)
+          (turn-fold (sheetAt t) bracketVars (processNonVar (sheetAt t) (wayBy t levels parents) i m)
           (adds-process-non-var (sheetAt t) (nestedBy t levels) parents (fits t levels) i m) (nonVars (sheetAt t) (s .scope) ls) s) (few (s .scope) ls);
       keeps = λ s. steady-others t levels parents i m (nonVars (sheetAt t) (s .scope) ls) .keeps s;
       stays = λ s h. steady-others t levels parents i m (nonVars (sheetAt t) (s .scope) ls) .stays s h;
@@ -83,7 +82,7 @@ module _ (t : List ℕ) where
     others-append k l s e =
         later (nonVars (sheetAt t) (s .scope) k) l s
         ∙ sym (ap (λ (es : List Tree). parts es s) e
-        ∙ foldl-append (processNonVar (sheetAt t) (nestedBy t levels) parents i m) s (nonVars (sheetAt t) (s .scope) k) (nonVars (sheetAt t) (s .scope) l))
+        ∙ foldl-append (processNonVar (sheetAt t) (wayBy t levels parents) i m) s (nonVars (sheetAt t) (s .scope) k) (nonVars (sheetAt t) (s .scope) l))
 
     -- A row, the parts of a pattern, and the rest of the chain.
     three : (es k l : List Tree) (whole : List Tree) (s : State)
@@ -91,7 +90,7 @@ module _ (t : List ℕ) where
         → others l (others k (parts es s)) ≡ others whole s
     three es k l whole s e =
         let found : List Tree → List Tree = λ ls. nonVars (sheetAt t) (s .scope) ls in
-        let g = processNonVar (sheetAt t) (nestedBy t levels) parents i m in
+        let g = processNonVar (sheetAt t) (wayBy t levels parents) i m in
         ap (others l) (later es k s ∙ sym (foldl-append g s es (found k)))
         ∙ later (es ++ found k) l s
         ∙ ap (λ (u : State). foldl g u (found l)) (foldl-append g s es (found k))
@@ -226,7 +225,7 @@ module _ (t : List ℕ) where
               same-end = go (fault-cases (s .run .fault))
                 where
                   stay : (s .run .fault ≡ sound → ⊥) → (es : List Tree) → by es s ≡ s
-                  stay n es = non-vars-stay (sheetAt t) (nestedBy t (x .levels)) parents s n (x .statement) m es
+                  stay n es = non-vars-stay (sheetAt t) (wayBy t (x .levels) parents) s n (x .statement) m es
 
                   go : (s .run .fault ≡ sound) ⊎ (s .run .fault ≡ sound → ⊥)
                       → through (leavesAt t (w .next)) (through (leavesAt t items) (by (otherAt t other) s)) ≡ through (leavesAt t row) s

@@ -5,7 +5,7 @@ use Prim.Native.Nat.{ℕ}
 use Rattle.widths.specs.declared.Width.{Width}
 use Rattle.scopes.specs.Scopes.{Scope}
 use Rattle.analysis.specs.States.{sound, Run}
-use Rattle.once.specs.Queries.{analyzeOnce}
+use Rattle.once.specs.OnceWay.{analyzeOnce}
 use Rattle.gather.specs.Sheets.{sheetAt}
 use Rattle.gather.specs.Chains.{chainAt}
 use Rattle.gather.specs.Outers.{Outer}

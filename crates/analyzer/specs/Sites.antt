@@ -5,8 +5,8 @@ use Prim.Native.Nat.{ℕ, _+_, _≤_}
 use lib.ListN.{length, getD}
 use Rattle.scopes.specs.Scopes.{Scope}
 use Rattle.analysis.specs.States.{sound, State}
-use Rattle.once.specs.Comprs.{Nested}
-use Rattle.once.specs.Queries.{analyzeOnce}
+use Rattle.analysis.specs.Ways.{Way}
+use Rattle.once.specs.OnceWay.{Nested, onceWay, analyzeOnce}
 use Rattle.homes.specs.Lying.{Lies}
 use Rattle.gather.specs.Sheets.{countsAt, sheetAt}
 use Rattle.gather.specs.Outers.{Outer}
@@ -18,6 +18,10 @@ module _ (t : List ℕ) where
   -- Query analysis with so many levels left.
   abbrev pub nestedBy : ℕ → Nested
   nestedBy levels = λ ps q outputs r. analyzeOnce levels (sheetAt t) ps q outputs r
+
+  -- The code's way below parents.
+  abbrev pub wayBy : ℕ → List Scope → Way
+  wayBy levels = onceWay (sheetAt t) (nestedBy levels)
 
   -- The expression at row r lies in query q, if there is one.
   abbrev pub LiesIn : ℕ → ℕ → Type 0

@@ -12,7 +12,7 @@ use Rattle.widths.specs.Widths as limit
 use Rattle.trees.specs.Trees.{Tree}
 use Rattle.scopes.specs.Scopes.{varExists}
 use Rattle.analysis.specs.States.{sound, Run}
-use Rattle.once.specs.Queries.{analyzeOnce, analyzeQuerySnippetOnce}
+use Rattle.once.specs.OnceWay.{analyzeOnce, analyzeQuerySnippetOnce}
 use Rattle.gather.specs.Sheets.{sheetAt, Accepted}
 use Rattle.gather.specs.Chains.{chainAt, chain-none}
 use Rattle.gather.specs.Outers.{Outer}

@@ -19,10 +19,8 @@ use Rattle.uses.specs.Uses.{nameOf, define}
 use Rattle.uses.specs.FirstUses.{addFirstUse}
 use Rattle.analysis.specs.States.{sound, State, addFirstUses, addDefinitions}
 use Rattle.analysis.specs.Using.{recordOne}
-use Rattle.analysis.specs.Comprs.{Mods}
-use Rattle.once.specs.Comprs.{allUsed, useExpr}
-use Rattle.analysis.specs.SomeIn.{someVarsIn, nonVars}
-use Rattle.once.specs.SomeIn.{processSomeIn}
+use Rattle.analysis.specs.Comprs.{Mods, allUsed, useExpr}
+use Rattle.analysis.specs.SomeIn.{someVarsIn, nonVars, processSomeIn}
 use Rattle.sizes.specs.Sizes.{total, literalSize}
 use Rattle.sizes.specs.Lists.{concatMap-append, length-filter}
 use Rattle.sizes.specs.Leaves.{patternVars, bracketVars, vars-append, brackets-fit, leaves-fit}
@@ -54,7 +52,7 @@ use Rattle.laws.specs.Guards.{fault-cases, was-sound, guarded-sound, guarded-st
 use Rattle.laws.specs.Same.{Same, same-trans, same-non-vars}
 use Rattle.laws.specs.Keeps.{keeps-guarded, keeps-definitions, keeps-first-uses}
 use Rattle.laws.specs.KeepsNested.{keeps-use-expr}
-use Rattle.analyzer.specs.Sites.{nestedBy, Around, Inside, RunsIn}
+use Rattle.analyzer.specs.Sites.{nestedBy, wayBy, Around, Inside, RunsIn}
 use Rattle.analyzer.specs.Asks.{leavesAt, AsksExpr, AsksLiteral}
 use Rattle.analyzer.specs.Does.{DoesUse, DoesNonVars, DoesStep, someInStep}
 use Rattle.analyzer.specs.Moves.{Steady, Enclosing, at-ready, inside-less, inside-next, runs-in-then, runs-in-as, under-inside, inside-under}
@@ -90,10 +88,10 @@ module _ (t : List ℕ) where
     names s = someVarsIn (sheetAt t) (s .scope) pattern
 
     abbrev gathered : State → State
-    gathered = useExpr (sheetAt t) (nestedBy t levels) parents i [] m collection
+    gathered = useExpr (sheetAt t) (wayBy t levels parents) i [] m collection
 
     abbrev defining : List Row → State → State
-    defining ws u = addDefinitions (map (λ (w : Row). define i (w .name) (allUsed (sheetAt t) [] m collection u)) ws) u
+    defining ws u = addDefinitions (map (λ (w : Row). define i (w .name) (allUsed (sheetAt t) (wayBy t levels parents) [] m collection u)) ws) u
 
     abbrev recorded : State → State
     recorded s = guarded (defining (names s)) (gathered s)
@@ -104,7 +102,7 @@ module _ (t : List ℕ) where
 
     -- The last.
     abbrev lastly : State → State
-    lastly = guarded (λ u. recordOne i 0 (othersUse t u (m .comprs) pattern) u)
+    lastly = guarded (λ u. recordOne i 0 (othersUse t (wayBy t levels parents) u (m .comprs) pattern) u)
 
     steady-gathered : Steady t (bracketVars collection) gathered
     steady-gathered = steady-use t levels parents i [] m collection
@@ -131,12 +129,12 @@ module _ (t : List ℕ) where
     -- What is found in the pattern does not change on the way.
     some-in-steps : (k l : List Tree) → pattern ≡ k ++ l → (s : State)
         → lastly (others t levels parents i m l (others t levels parents i m k (entered s)))
-        ≡ processSomeIn (sheetAt t) (nestedBy t levels) parents i m pattern collection s
+        ≡ processSomeIn (sheetAt t) (wayBy t levels parents) i m pattern collection s
     unfolding processSomeIn
     some-in-steps k l two s =
         let v = entered s in
         let found = nonVars (sheetAt t) (s .scope) pattern in
-        let last : List Tree → State → State = λ es u. recordOne i 0 (partsUse t u (m .comprs) es) u in
+        let last : List Tree → State → State = λ es u. recordOne i 0 (partsUse t (wayBy t levels parents) u (m .comprs) es) u in
         let both : others t levels parents i m l (others t levels parents i m k v) ≡ parts t levels parents i m found v =
         others-append t levels parents i m k l v (non-vars-append t (v .scope) k l)
         ∙ ap (λ (es : List Tree). others t levels parents i m es v) (sym two)
@@ -197,7 +195,7 @@ module _ (t : List ℕ) where
             where
               go : (s₁ .run .fault ≡ sound) ⊎ (s₁ .run .fault ≡ sound → ⊥) → Agree t spans q fs vs s₂
               go (inl z) =
-                  let us = allUsed (sheetAt t) [] m collection s₁ in
+                  let us = allUsed (sheetAt t) (wayBy t (x .levels) parents) [] m collection s₁ in
                   let fine = is-sound (u .progress .fault) (h₁ .fault ∙ z) in
                   let done = records t (map nameOf ns) us fs (holds-vars (s .scope) (h .whole (before₁ z) .scope .sets))
                   (uses .names m stands [] (holds-none none clear) fine parents spans s o h) .agrees spans s₁ h₁ in
@@ -308,7 +306,7 @@ module _ (t : List ℕ) where
           let xs = map nameOf found in
           let more = bound + (cost (st .first) + (cost (st .second) + 1)) in
           let now = inside-next t inner p (u .progress) firsts fs work ws (bracketVars (exprBy t true (st .third)) + more) (bracketVars (exprBy t true (st .third))) more
-          (λ parents. useExpr (sheetAt t) (nestedBy t (x .levels)) parents (x .statement) [] (someMods t x) (exprBy t true (st .third)))
+          (λ parents. useExpr (sheetAt t) (wayBy t (x .levels) parents) (x .statement) [] (someMods t x) (exprBy t true (st .third)))
           (λ parents. steady-use t (x .levels) parents (x .statement) [] (someMods t x) (exprBy t true (st .third))) (omega arith)
           (uses .runs (someMods t x) (some-stand t x) [] (holds-none none clear)) given in
           ready-names (u .progress) ws b t fs 0 xs
@@ -379,22 +377,22 @@ module _ (t : List ℕ) where
                   → RunsIn t inner (λ parents. lastly (x .levels) parents (x .statement) m pattern-of (exprBy t true (st .third))) z js ys end js zs
               last-runs m stands = record {
                 grown = one t (members (used .words)) js (members-held used) .grown;
-                agrees = λ parents sps s o h. go sps s h (fault-cases (s .run .fault));
+                agrees = λ parents sps s o h. go parents sps s h (fault-cases (s .run .fault));
               }
                 where
-                  go : (sps : List ℕ) (s : State) → Agree t sps z js ys s → (s .run .fault ≡ sound) ⊎ (s .run .fault ≡ sound → ⊥)
-                      → Agree t sps end js zs (guarded (λ u. recordOne (x .statement) 0 (othersUse t u (m .comprs) pattern-of) u) s)
-                  go sps s h (inl clear) =
+                  go : (parents : List Scope) (sps : List ℕ) (s : State) → Agree t sps z js ys s → (s .run .fault ≡ sound) ⊎ (s .run .fault ≡ sound → ⊥)
+                      → Agree t sps end js zs (guarded (λ u. recordOne (x .statement) 0 (othersUse t (wayBy t (x .levels) parents) u (m .comprs) pattern-of) u) s)
+                  go parents sps s h (inl clear) =
                       let whole = h .whole clear in
-                      let us = othersUse t s (m .comprs) pattern-of in
+                      let us = othersUse t (wayBy t (x .levels) parents) s (m .comprs) pattern-of in
                       subst (Agree t sps end js zs)
-                      (if-same (s .run .fault) (recordOne (x .statement) 0 us) (λ u. recordOne (x .statement) 0 (othersUse t u (m .comprs) pattern-of) u) s refl)
-                      (one t us js (found m stands s (whole .scope .sets) (whole .table .stored)) .agrees sps s h)
-                  go sps s h (inr n) =
+                      (if-same (s .run .fault) (recordOne (x .statement) 0 us) (λ u. recordOne (x .statement) 0 (othersUse t (wayBy t (x .levels) parents) u (m .comprs) pattern-of) u) s refl)
+                      (one t us js (found m stands (nestedBy t (x .levels)) parents s (whole .scope .sets) (whole .table .stored)) .agrees sps s h)
+                  go parents sps s h (inr n) =
                       let us = members (used .words) in
                       subst (Agree t sps end js zs)
                       (guarded-stays s n (recordOne (x .statement) 0 us)
-                      ∙ sym (guarded-stays s n (λ u. recordOne (x .statement) 0 (othersUse t u (m .comprs) pattern-of) u))) (one t us js (members-held used) .agrees sps s h)
+                      ∙ sym (guarded-stays s n (λ u. recordOne (x .statement) 0 (othersUse t (wayBy t (x .levels) parents) u (m .comprs) pattern-of) u))) (one t us js (members-held used) .agrees sps s h)
 
               pub some-in-does : DoesStep t (someInStep t st x) outer spans x p firsts work end js zs
               some-in-does m stands =

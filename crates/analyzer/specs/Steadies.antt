@@ -9,11 +9,9 @@ use Rattle.trees.specs.Traverse.{comprs}
 use Rattle.scopes.specs.Scopes.{Scope}
 use Rattle.analysis.specs.States.{State}
 use Rattle.analysis.specs.Using.{gatherUsedVars}
-use Rattle.analysis.specs.Comprs.{Mods}
-use Rattle.once.specs.Comprs.{processComprs, useExpr}
-use Rattle.analysis.specs.Exprs.{Pairing}
-use Rattle.once.specs.Exprs.{assignPairing}
-use Rattle.once.specs.SomeIn.{processNonVar}
+use Rattle.analysis.specs.Comprs.{Mods, processComprs, useExpr}
+use Rattle.analysis.specs.Exprs.{Pairing, assignPairing}
+use Rattle.analysis.specs.SomeIn.{processNonVar}
 use Rattle.sizes.specs.Sizes.{total}
 use Rattle.sizes.specs.Leaves.{bracketVars}
 use Rattle.sizes.specs.Exprs.{pairCost, adds-assign-pairing}
@@ -28,7 +26,7 @@ use Rattle.laws.specs.Guards.{guarded-stays, turn-stays, comprs-stay, pairings-
 use Rattle.laws.specs.Same.{same-trans}
 use Rattle.laws.specs.Keeps.{keeps-guarded, keeps-gather-used-vars}
 use Rattle.laws.specs.KeepsNested.{keeps-process-comprs, keeps-use-expr, keeps-assign-pairings, keeps-process-non-vars}
-use Rattle.analyzer.specs.Sites.{nestedBy}
+use Rattle.analyzer.specs.Sites.{nestedBy, wayBy}
 use Rattle.analyzer.specs.Moves.{Steady}
 
 module _ (t : List ℕ) (levels : ℕ) where
@@ -54,41 +52,41 @@ module _ (t : List ℕ) (levels : ℕ) where
   }
 
   module _ (parents : List Scope) where
-    pub steady-comprs : (cs : List Tree) → Steady t 0 (processComprs (sheetAt t) (nestedBy t levels) parents cs)
+    pub steady-comprs : (cs : List Tree) → Steady t 0 (processComprs (sheetAt t) (wayBy t levels parents) cs)
     steady-comprs cs = record {
       below = 0;
       adds = adds-process-comprs (sheetAt t) (nestedBy t levels) parents fits cs;
       keeps = keeps-process-comprs (sheetAt t) (nestedBy t levels) parents cs;
-      stays = λ s h. comprs-stay (sheetAt t) (nestedBy t levels) parents s h cs;
+      stays = λ s h. comprs-stay (sheetAt t) (wayBy t levels parents) s h cs;
     }
 
     pub steady-use : (i : ℕ) (extras : List ℕ) (m : Mods) (e : Tree)
-        → Steady t (bracketVars e) (useExpr (sheetAt t) (nestedBy t levels) parents i extras m e)
+        → Steady t (bracketVars e) (useExpr (sheetAt t) (wayBy t levels parents) i extras m e)
     unfolding useExpr
     steady-use i extras m e = record {
       below = suc i;
       adds = adds-use-expr (sheetAt t) (nestedBy t levels) parents fits i extras m e;
       keeps = keeps-use-expr (sheetAt t) (nestedBy t levels) parents i extras m e;
       stays = λ s h. turn-stays s h
-          (gatherUsedVars (sheetAt t) i extras e ∷ processComprs (sheetAt t) (nestedBy t levels) parents (comprs e ++ m .comprs) ∷ []);
+          (gatherUsedVars (sheetAt t) i extras e ∷ processComprs (sheetAt t) (wayBy t levels parents) (comprs e ++ m .comprs) ∷ []);
     }
 
     pub steady-pairs : (i : ℕ) (m : Mods) (check : Bool) (ps : List Pairing)
-        → Steady t (total pairCost ps) (λ s. foldl (assignPairing (sheetAt t) (nestedBy t levels) parents i m check) s ps)
+        → Steady t (total pairCost ps) (λ s. foldl (assignPairing (sheetAt t) (wayBy t levels parents) i m check) s ps)
     steady-pairs i m check ps = record {
       below = suc i;
-      adds = turn-fold (sheetAt t) pairCost (assignPairing (sheetAt t) (nestedBy t levels) parents i m check)
+      adds = turn-fold (sheetAt t) pairCost (assignPairing (sheetAt t) (wayBy t levels parents) i m check)
           (adds-assign-pairing (sheetAt t) (nestedBy t levels) parents fits i m check) ps;
       keeps = keeps-assign-pairings (sheetAt t) (nestedBy t levels) parents i m check ps;
-      stays = λ s h. pairings-stay (sheetAt t) (nestedBy t levels) parents s h i m check ps;
+      stays = λ s h. pairings-stay (sheetAt t) (wayBy t levels parents) s h i m check ps;
     }
 
     pub steady-others : (i : ℕ) (m : Mods) (es : List Tree)
-        → Steady t (total bracketVars es) (λ s. foldl (processNonVar (sheetAt t) (nestedBy t levels) parents i m) s es)
+        → Steady t (total bracketVars es) (λ s. foldl (processNonVar (sheetAt t) (wayBy t levels parents) i m) s es)
     steady-others i m es = record {
       below = suc i;
-      adds = turn-fold (sheetAt t) bracketVars (processNonVar (sheetAt t) (nestedBy t levels) parents i m)
+      adds = turn-fold (sheetAt t) bracketVars (processNonVar (sheetAt t) (wayBy t levels parents) i m)
           (adds-process-non-var (sheetAt t) (nestedBy t levels) parents fits i m) es;
       keeps = keeps-process-non-vars (sheetAt t) (nestedBy t levels) parents i m es;
-      stays = λ s h. non-vars-stay (sheetAt t) (nestedBy t levels) parents s h i m es;
+      stays = λ s h. non-vars-stay (sheetAt t) (wayBy t levels parents) s h i m es;
     }

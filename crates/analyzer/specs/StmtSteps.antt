@@ -30,8 +30,7 @@ use Rattle.uses.specs.Uses.{usedVars}
 use Rattle.analysis.specs.States.{sound, State, inTurn}
 use Rattle.analysis.specs.Using.{gatherUsedVars, atLeastOne}
 use Rattle.analysis.specs.Comprs.{Mods}
-use Rattle.analysis.specs.Statements.{modsOf}
-use Rattle.once.specs.Statements.{processLiteral, processStmt, processStmts}
+use Rattle.analysis.specs.Statements.{modsOf, processLiteral, processStmt, processStmts}
 use Rattle.sizes.specs.Sizes.{total, size, literalSize, weight}
 use Rattle.sizes.specs.Lists.{total-mono}
 use Rattle.sizes.specs.Leaves.{bracketVars, brackets-fit}
@@ -61,7 +60,7 @@ use Rattle.literals.specs.Contexts.{Stands}
 use Rattle.laws.specs.Guards.{fault-cases, guarded-sound, guarded-stays, turn-stays, fold-stays, was-sound}
 use Rattle.laws.specs.Chained.{mods-comprs}
 use Rattle.analyzer.specs.Budgets.{budget}
-use Rattle.analyzer.specs.Sites.{nestedBy, Under, RunsUnder}
+use Rattle.analyzer.specs.Sites.{nestedBy, wayBy, Under, RunsUnder}
 use Rattle.analyzer.specs.Moves.{at-less, at-ready, under-next, runs-under, runs-under-then, runs-under-as}
 use Rattle.analyzer.specs.Steadies.{fits}
 use Rattle.analyzer.specs.Asks.{AsksLiteral, stmtsAt, AsksStmts}
@@ -169,7 +168,7 @@ module _ (t : List ℕ) (ok : Accepted t) (outer spans : List ℕ) (row i levels
 
         abbrev literal : List Scope → State → State
         literal parents =
-            guarded (λ v. processLiteral (sheetAt t) (nestedBy t levels) parents i (modsOf (sheetAt t) (v .scope) chained) (own .literal) v)
+            guarded (λ v. processLiteral (sheetAt t) (wayBy t levels parents) i (modsOf (sheetAt t) (v .scope) chained) (own .literal) v)
 
         literal-agrees : (parents : List Scope) (s : State) → Outer outer parents → Agree t spans p firsts work s
             → Agree t spans q firsts₂ work₂ (literal parents (mods s))
@@ -179,7 +178,7 @@ module _ (t : List ℕ) (ok : Accepted t) (outer spans : List ℕ) (row i levels
             now = used .each .runs .agrees spans s a
 
             by : Mods → State → State
-            by m = processLiteral (sheetAt t) (nestedBy t levels) parents i m (own .literal)
+            by m = processLiteral (sheetAt t) (wayBy t levels parents) i m (own .literal)
 
             go : (isSound (u .progress .fault) ≡ true) ⊎ (isSound (u .progress .fault) ≡ false)
                 → Agree t spans q firsts₂ work₂ (literal parents (mods s))
@@ -208,7 +207,7 @@ module _ (t : List ℕ) (ok : Accepted t) (outer spans : List ℕ) (row i levels
         literal-adds parents s =
             adds-then (sheetAt t) (mods-add s)
             (for-more (literalSize (own .literal)) (mods s) (literal parents (mods s))
-            (for-if (sheetAt t) i (λ v. processLiteral (sheetAt t) (nestedBy t levels) parents i (modsOf (sheetAt t) (v .scope) chained) (own .literal) v)
+            (for-if (sheetAt t) i (λ v. processLiteral (sheetAt t) (wayBy t levels parents) i (modsOf (sheetAt t) (v .scope) chained) (own .literal) v)
             (mods s)
             (adds-process-literal (sheetAt t) (nestedBy t levels) parents (fits t levels) i (modsOf (sheetAt t) (mods s .scope) chained) (own .literal) (mods s))
             (mods s .run .fault)))
@@ -230,7 +229,7 @@ module _ (t : List ℕ) (ok : Accepted t) (outer spans : List ℕ) (row i levels
             fold-stays s (λ v e. inTurn (gatherUsedVars (sheetAt t) i [] e ∷ []) v)
             (λ e. turn-stays s faulty (gatherUsedVars (sheetAt t) i [] e ∷ [])) chained in
             ap (literal parents) none-done
-            ∙ guarded-stays s faulty (λ v. processLiteral (sheetAt t) (nestedBy t levels) parents i (modsOf (sheetAt t) (v .scope) chained) (own .literal) v)
+            ∙ guarded-stays s faulty (λ v. processLiteral (sheetAt t) (wayBy t levels parents) i (modsOf (sheetAt t) (v .scope) chained) (own .literal) v)
 
         -- The rows in front are of earlier statements.
         front : meaning (q .fault) ≡ sound → (j : ℕ) → j < p .count → getD work₂ (Widths.row (q .width) * j) 0 ≡ i → ⊥
@@ -247,7 +246,7 @@ module _ (t : List ℕ) (ok : Accepted t) (outer spans : List ℕ) (row i levels
 
         module _ (r : Progress) (work₃ : List ℕ) (least : LeastOne i (p .count) q work₂ r work₃) where
           abbrev turn : List Scope → State → State
-          turn parents = inTurn (processStmt (sheetAt t) (nestedBy t levels) parents i own ∷ [])
+          turn parents = inTurn (processStmt (sheetAt t) (wayBy t levels parents) i own ∷ [])
 
           turn-is : (parents : List Scope) (s : State) → guarded (atLeastOne i) (literal parents (mods s)) ≡ turn parents s
           unfolding processStmt
@@ -255,11 +254,11 @@ module _ (t : List ℕ) (ok : Accepted t) (outer spans : List ℕ) (row i levels
             where
               go : (s .run .fault ≡ sound) ⊎ (s .run .fault ≡ sound → ⊥) → guarded (atLeastOne i) (literal parents (mods s)) ≡ turn parents s
               go (inl e) =
-                  sym (guarded-sound (processStmt (sheetAt t) (nestedBy t levels) parents i own) s e
+                  sym (guarded-sound (processStmt (sheetAt t) (wayBy t levels parents) i own) s e
                   ∙ ap (λ (v : State). guarded (atLeastOne i) (literal parents v)) (guarded-sound mods s e))
               go (inr n) =
                   ap (guarded (atLeastOne i)) (both-stay parents s n) ∙ guarded-stays s n (atLeastOne i)
-                  ∙ sym (turn-stays s n (processStmt (sheetAt t) (nestedBy t levels) parents i own ∷ []))
+                  ∙ sym (turn-stays s n (processStmt (sheetAt t) (wayBy t levels parents) i own ∷ []))
 
           turn-runs : RunsUnder t outer spans turn p firsts work r firsts₂ work₃
           turn-runs =
@@ -271,7 +270,7 @@ module _ (t : List ℕ) (ok : Accepted t) (outer spans : List ℕ) (row i levels
           turn-adds : (parents : List Scope) → Step (sheetAt t) (suc i) (suc (literalSize (own .literal) + total size chained)) (turn parents)
           unfolding weight
           turn-adds parents s =
-              step-if (sheetAt t) (processStmt (sheetAt t) (nestedBy t levels) parents i own)
+              step-if (sheetAt t) (processStmt (sheetAt t) (wayBy t levels parents) i own)
               (adds-process-stmt (sheetAt t) (nestedBy t levels) parents (fits t levels) i own) (s .run .fault) s
 
           -- ---- the statements after it
@@ -279,7 +278,7 @@ module _ (t : List ℕ) (ok : Accepted t) (outer spans : List ℕ) (row i levels
           next-older : (s : State) (parents : List Scope) → (s .run .fault ≡ sound → all (below i) (s .definitions) ≡ true)
               → turn parents s .run .fault ≡ sound → all (below (suc i)) (turn parents s .definitions) ≡ true
           next-older s parents older e =
-              let before = was-sound s (turn parents s) (λ n. turn-stays s n (processStmt (sheetAt t) (nestedBy t levels) parents i own ∷ [])) e in
+              let before = was-sound s (turn parents s) (λ n. turn-stays s n (processStmt (sheetAt t) (wayBy t levels parents) i own ∷ [])) e in
               let adds = turn-adds parents s in
               subst (λ (ds : List Definition). all (below (suc i)) ds ≡ true) (sym (adds .appended))
               (all-append (below (suc i)) (s .definitions) (adds .more)
@@ -304,9 +303,9 @@ module _ (t : List ℕ) (ok : Accepted t) (outer spans : List ℕ) (row i levels
               → DoesStmts t outer spans row i levels p firsts work v firsts₃ work₄
           unfolding processStmts
           stmts-turn v firsts₃ work₄ rest =
-              let others : List Scope → State → State = λ parents. processStmts (sheetAt t) (nestedBy t levels) parents (suc i) (stmtsAt t (st .next)) in
+              let others : List Scope → State → State = λ parents. processStmts (sheetAt t) (wayBy t levels parents) (suc i) (stmtsAt t (st .next)) in
               runs-under-as t outer spans (λ parents s. others parents (turn parents s))
-              (λ parents. processStmts (sheetAt t) (nestedBy t levels) parents i (stmtsAt t row)) p v firsts firsts₃ work work₄
-              (λ parents s. ap (λ (l : List Stmt). processStmts (sheetAt t) (nestedBy t levels) parents i l s) (sym stmts-are))
+              (λ parents. processStmts (sheetAt t) (wayBy t levels parents) i (stmtsAt t row)) p v firsts firsts₃ work work₄
+              (λ parents s. ap (λ (l : List Stmt). processStmts (sheetAt t) (wayBy t levels parents) i l s) (sym stmts-are))
               (runs-under-then t outer spans turn others p r v firsts firsts₂ firsts₃ work work₃ work₄ turn-runs
               (subst (λ (n : ℕ). DoesStmts t outer spans (st .next) n levels r firsts₂ work₃ v firsts₃ work₄) (sym counted) rest))

@@ -15,8 +15,7 @@ use Rattle.scopes.specs.Scopes.{Scope}
 use Rattle.uses.specs.Uses.{usedVars}
 use Rattle.analysis.specs.States.{sound, State}
 use Rattle.analysis.specs.Using.{gatherUsedVars}
-use Rattle.analysis.specs.Comprs.{Mods}
-use Rattle.once.specs.Comprs.{processComprs, useExpr, allUsed}
+use Rattle.analysis.specs.Comprs.{Mods, allUsed, processComprs, useExpr}
 use Rattle.sizes.specs.Leaves.{bracketVars}
 use Rattle.gather.specs.Sheets.{sheetAt, Accepted}
 use Rattle.gather.specs.Exprs.{exprBy}
@@ -34,7 +33,7 @@ use Rattle.frame.specs.Frames.{guarded, Agree, Ready}
 use Rattle.laws.specs.Guards.{fault-cases, guarded-sound, guarded-stays, comprs-stay, comprs-sound}
 use Rattle.laws.specs.Same.{same-used}
 use Rattle.laws.specs.KeepsNested.{keeps-use-expr}
-use Rattle.analyzer.specs.Sites.{nestedBy, Around, RunsIn}
+use Rattle.analyzer.specs.Sites.{nestedBy, wayBy, Around, RunsIn}
 use Rattle.analyzer.specs.Moves.{at-ready, inside-next, runs-in, runs-in-then, runs-in-as}
 use Rattle.analyzer.specs.Steadies.{steady-gather}
 use Rattle.analyzer.specs.Asks.{AsksComprs, AsksExpr}
@@ -50,19 +49,19 @@ module _ (t : List ℕ) (levels : ℕ) (i : ℕ) (l : List ℕ) (e : Tree) where
 
   -- The comprehensions are not looked at after a fault: no test is due between the two.
   use-is : (parents : List Scope) (m : Mods) (s : State)
-      → processComprs (sheetAt t) (nestedBy t levels) parents (comprs e ++ m .comprs) (gather s)
-      ≡ useExpr (sheetAt t) (nestedBy t levels) parents i l m e s
+      → processComprs (sheetAt t) (wayBy t levels parents) (comprs e ++ m .comprs) (gather s)
+      ≡ useExpr (sheetAt t) (wayBy t levels parents) i l m e s
   unfolding useExpr
   use-is parents m s = sym (go (fault-cases (gather s .run .fault)))
     where
       next : State → State
-      next = processComprs (sheetAt t) (nestedBy t levels) parents (comprs e ++ m .comprs)
+      next = processComprs (sheetAt t) (wayBy t levels parents) (comprs e ++ m .comprs)
 
       go : (gather s .run .fault ≡ sound) ⊎ (gather s .run .fault ≡ sound → ⊥) → guarded next (gather s) ≡ next (gather s)
       go (inl z) = guarded-sound next (gather s) z
       go (inr n) =
           guarded-stays (gather s) n next
-          ∙ sym (comprs-stay (sheetAt t) (nestedBy t levels) parents (gather s) n (comprs e ++ m .comprs))
+          ∙ sym (comprs-stay (sheetAt t) (wayBy t levels parents) (gather s) n (comprs e ++ m .comprs))
 
 module _ (t inner : List ℕ) (extras : Names) (row : ℕ) (rest : Bool) (x : Context) (p : Progress) (firsts work : List ℕ) where
   abbrev expr : Tree
@@ -107,7 +106,7 @@ module _ (t inner : List ℕ) (extras : Names) (row : ℕ) (rest : Bool) (x : Co
 
     module _ (m : Mods) (st : Stands t x m) (l : List ℕ) (hl : Holds extras l) where
       abbrev whole-use : List Scope → State → State
-      whole-use parents = useExpr (sheetAt t) (nestedBy t (x .levels)) parents (x .statement) l m expr
+      whole-use parents = useExpr (sheetAt t) (wayBy t (x .levels) parents) (x .statement) l m expr
 
       comprs-done : DoesComprs t inner (comprs expr ++ m .comprs) (x .levels) (u .progress) f₁ w₁ s₃ f₃ w₃
       comprs-done =
@@ -117,7 +116,7 @@ module _ (t inner : List ℕ) (extras : Names) (row : ℕ) (rest : Bool) (x : Co
       use-runs : RunsIn t inner whole-use p firsts work s₃ f₃ w₃
       use-runs =
           let first = gather t (x .levels) (x .statement) l expr in
-          let then : List Scope → State → State = λ parents. processComprs (sheetAt t) (nestedBy t (x .levels)) parents (comprs expr ++ m .comprs) in
+          let then : List Scope → State → State = λ parents. processComprs (sheetAt t) (wayBy t (x .levels) parents) (comprs expr ++ m .comprs) in
           runs-in-as t inner (λ parents s. then parents (first s)) whole-use p s₃ firsts f₃ work w₃
           (λ parents s. use-is t (x .levels) (x .statement) l expr parents m s)
           (runs-in-then t inner (bracketVars expr) (λ parents. first) then p (u .progress) s₃ firsts f₁ f₃ work w₁ w₃
@@ -136,9 +135,9 @@ module _ (t inner : List ℕ) (extras : Names) (row : ℕ) (rest : Bool) (x : Co
         fine-before : isSound (u .progress .fault) ≡ true
         fine-before =
             let mid = gather t (x .levels) (x .statement) l expr s in
-            let whole : processComprs (sheetAt t) (nestedBy t (x .levels)) parents (comprs expr ++ m .comprs) mid .run .fault ≡ sound =
+            let whole : processComprs (sheetAt t) (wayBy t (x .levels) parents) (comprs expr ++ m .comprs) mid .run .fault ≡ sound =
             ap (λ (v : State). v .run .fault) (use-is t (x .levels) (x .statement) l expr parents m s) ∙ clear in
-            let none : mid .run .fault ≡ sound = comprs-sound (sheetAt t) (nestedBy t (x .levels)) parents mid (comprs expr ++ m .comprs) whole in
+            let none : mid .run .fault ≡ sound = comprs-sound (sheetAt t) (wayBy t (x .levels) parents) mid (comprs expr ++ m .comprs) whole in
             go (uses .runs l hl .agrees spans s a .fault ∙ none) (bool-cases (isSound (u .progress .fault)))
           where
             go : meaning (u .progress .fault) ≡ sound → (isSound (u .progress .fault) ≡ true) ⊎ (isSound (u .progress .fault) ≡ false)
@@ -146,12 +145,12 @@ module _ (t inner : List ℕ) (extras : Names) (row : ℕ) (rest : Bool) (x : Co
             go e (inl b) = b
             go e (inr b) = absurd (not-sound (u .progress .fault) b e)
 
-        use-names : Holds names (allUsed (sheetAt t) l m expr (whole-use parents s))
+        use-names : Holds names (allUsed (sheetAt t) (wayBy t (x .levels) parents) l m expr (whole-use parents s))
         use-names =
             let held = end .whole clear in
             let own : Holds (u .names) (usedVars (sheetAt t) (s .scope) l expr) = uses .names l hl spans s a fine-before in
             let same = same-used (keeps-use-expr (sheetAt t) (nestedBy t (x .levels)) parents (x .statement) l m expr s) (sheetAt t) l expr in
-            all expr (sym (uses .comprs .same)) m st l (whole-use parents s) (held .scope .sets) (held .table .stored) (subst (Holds (u .names)) (sym same) own)
+            all expr (sym (uses .comprs .same)) m st l (nestedBy t (x .levels)) parents (whole-use parents s) (held .scope .sets) (held .table .stored) (subst (Holds (u .names)) (sym same) own)
 
     pub does-use : DoesUse t inner extras expr x p firsts work (record { progress = s₃; names = names; comprs = u .comprs }) f₃ w₃
     does-use = record { runs = use-runs; names = use-names }

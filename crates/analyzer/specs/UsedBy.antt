@@ -3,17 +3,19 @@ use mathlib.Core.Path.{_≡_, refl, sym, ap, ap₂, _∙_, subst}
 use mathlib.Core.Bool.{Bool, true, false, _||_}
 use mathlib.Core.List.{List, _++_}
 use Prim.Native.Nat.{ℕ}
-use Rattle.basics.specs.Lists.{filter, elem}
+use Rattle.basics.specs.Lists.{elem}
 use Rattle.basics.specs.Members.{elem-append}
 use Rattle.names.specs.Sets.{Union}
 use Rattle.names.specs.declared.Names.{Names}
 use Rattle.widths.specs.declared.Width.{Width}
+use Rattle.trees.specs.Sheet.{Sheet}
 use Rattle.trees.specs.Trees.{Tree}
 use Rattle.trees.specs.Traverse.{comprs}
-use Rattle.scopes.specs.Scopes.{owns}
 use Rattle.uses.specs.Uses.{usedVars}
 use Rattle.analysis.specs.States.{State}
-use Rattle.once.specs.Comprs.{comprInputs, comprsUse, allUsed}
+use Rattle.analysis.specs.Ways.{Way}
+use Rattle.analysis.specs.Comprs.{comprsUse, allUsed}
+use Rattle.once.specs.OnceWay.{onceWay}
 use Rattle.sizes.specs.Lists.{concatMap-append}
 use Rattle.gather.specs.declared.scope.Scope.{Scope}
 use Rattle.gather.specs.Sheets.{sheetAt}
@@ -25,9 +27,9 @@ use Rattle.literals.specs.declared.context.Context.{Context}
 use Rattle.analyzer.specs.AllUsed.{AllUsed}
 
 -- Of two lists.
-pub use-both : (k l : List Tree) (s : State) → comprsUse (k ++ l) s ≡ (comprsUse k s ++ comprsUse l s)
+pub use-both : (sheet : Sheet) (way : Way) (k l : List Tree) (s : State) → comprsUse sheet way (k ++ l) s ≡ comprsUse sheet way k s ++ comprsUse sheet way l s
 unfolding comprsUse
-use-both k l s = concatMap-append (λ e. filter (owns (s .scope)) (comprInputs s e)) k l
+use-both sheet way k l s = concatMap-append _ k l
 
 -- A set that holds two lists, to which a third came.
 pub joined : (a b c r : Names) (k l n : List ℕ) → Holds a k → Holds b l → Union (a .words) (b .words) (c .words) → Adds c n r → Holds r (k ++ (l ++ n))
@@ -53,11 +55,12 @@ pub all-used : (t : List ℕ) (v : Width) (k : Scope) (names : Names) (row : ℕ
     → Union (names .words) (x .names .words) (by .words) → ComprsUsed t v k work row rest by own → ComprsUsed t v k work (x .mods) true own r
     → AllUsed t v k names (comprs (exprBy t rest row)) x work r
 unfolding allUsed
-all-used t v k names row rest x work by own r union first second e same m st l s sets stored h =
+all-used t v k names row rest x work by own r union first second e same m st l nested parents s sets stored h =
+    let way = onceWay (sheetAt t) nested parents in
     let of-mods = exprBy t true (x .mods) in
-    let here : Adds by (comprsUse (comprs e) s) own = rw same (first s sets stored) in
-    let adds = adds-then by own r (comprsUse (comprs e) s) (comprsUse (comprs of-mods) s) here (second s sets stored) in
+    let here : Adds by (comprsUse (sheetAt t) way (comprs e) s) own = rw same (first (sheetAt t) nested parents s sets stored) in
+    let adds = adds-then by own r (comprsUse (sheetAt t) way (comprs e) s) (comprsUse (sheetAt t) way (comprs of-mods) s) here (second (sheetAt t) nested parents s sets stored) in
     let whole = joined names (x .names) by r (usedVars (sheetAt t) (s .scope) l e) (m .usedVars) _ h (st .names) union adds in
-    let is : comprsUse (comprs e ++ m .comprs) s ≡ (comprsUse (comprs e) s ++ comprsUse (comprs of-mods) s) =
-    use-both (comprs e) (m .comprs) s ∙ ap (λ (cs : List Tree). comprsUse (comprs e) s ++ comprsUse cs s) (st .comprs) in
+    let is : comprsUse (sheetAt t) way (comprs e ++ m .comprs) s ≡ (comprsUse (sheetAt t) way (comprs e) s ++ comprsUse (sheetAt t) way (comprs of-mods) s) =
+    use-both (sheetAt t) way (comprs e) (m .comprs) s ∙ ap (λ (cs : List Tree). comprsUse (sheetAt t) way (comprs e) s ++ comprsUse (sheetAt t) way cs s) (st .comprs) in
     subst (λ (c : List ℕ). Holds r (usedVars (sheetAt t) (s .scope) l e ++ (m .usedVars ++ c))) (sym is) whole

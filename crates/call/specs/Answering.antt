@@ -17,8 +17,8 @@ use Rattle.records.specs.Layout.{firstAt}
 use Rattle.branches.specs.RowTrees.{rows-length}
 use Rattle.trees.specs.Sheet.{sheetOf}
 use Rattle.analysis.specs.States.{sound, Run, QuerySchedule}
+use Rattle.once.specs.OnceWay.{analyzeQuerySnippetOnce}
 use Rattle.analysis.specs.States as spec
-use Rattle.once.specs.Queries.{analyzeQuerySnippetOnce}
 use Rattle.answers.specs.Text.{answerText}
 use Rattle.answers.specs.Call.{fitting, finished}
 use Rattle.answers.specs.Once.{analysedOnce}

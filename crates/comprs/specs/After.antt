@@ -6,10 +6,14 @@ use mathlib.Core.Logic.{_⊎_, inl, inr}
 use Prim.Native.Nat.{ℕ}
 use Rattle.basics.specs.Truth.{not-both}
 use Rattle.records.specs.declared.Row.{Row}
+use Rattle.trees.specs.Sheet.{Sheet}
 use Rattle.trees.specs.Kinds.{isCompr}
 use Rattle.trees.specs.Trees.{Tree, rowOf}
+use Rattle.scopes.specs.Scopes.{Scope}
 use Rattle.analysis.specs.States.{State, ifSound}
-use Rattle.once.specs.Comprs.{propagate, useCompr}
+use Rattle.analysis.specs.Ways.{Way}
+use Rattle.analysis.specs.Comprs.{propagate, useCompr}
+use Rattle.once.specs.OnceWay.{Nested, onceWay}
 use Rattle.frame.specs.declared.Fault.{Fault}
 use Rattle.frame.specs.declared.Fault.the-variants.{Sound, Undefined, UsedBefore, Lengths, IndexVariable}
 use Rattle.frame.specs.declared.Progress.{Progress}
@@ -23,8 +27,9 @@ module _ (w : Row) (work : List ℕ) where
     pub count : r .count ≡ p .count
     pub wide : r .width ≡ p .width
     pub idle : (isCompr w ≡ false) ⊎ (isSound (p .fault) ≡ false) → (r ≡ p) × (firsts′ ≡ firsts)
-    pub rises : isCompr w ≡ true → isSound (p .fault) ≡ true → (t spans : List ℕ) (s : State) (e : Tree) → rowOf e ≡ w
-        → Agree t spans (failed p fault) firsts work s → Agree t spans r firsts′ work (rising e s)
+    pub rises : isCompr w ≡ true → isSound (p .fault) ≡ true → (sheet : Sheet) (nested : Nested) (parents : List Scope) (t spans : List ℕ) (s : State)
+        (e : Tree) → rowOf e ≡ w → Agree t spans (failed p fault) firsts work s
+        → Agree t spans r firsts′ work (rising sheet (onceWay sheet nested parents) e s)
 
 -- ---- after a fault
 
@@ -35,8 +40,8 @@ skips (UsedBefore l c) h s e g = rw (sym e)
 skips (Lengths l c) h s e g = rw (sym e)
 skips IndexVariable h s e g = rw (sym e)
 
-faulty-rises : (f : Fault) → isSound f ≡ false → (s : State) → meaning f ≡ s .run .fault → (e : Tree) → rising e s ≡ s
-faulty-rises f h s m e = rw (skips f h s m (propagate e)) (skips f h s m (useCompr e))
+faulty-rises : (sheet : Sheet) (way : Way) (f : Fault) → isSound f ≡ false → (s : State) → meaning f ≡ s .run .fault → (e : Tree) → rising sheet way e s ≡ s
+faulty-rises sheet way f h s m e = rw (skips f h s m (λ t. propagate sheet way (t .scope) e t)) (skips f h s m (useCompr sheet way e))
 
 -- ---- the ways out
 
@@ -65,7 +70,8 @@ module _ (w : Row) (work : List ℕ) (p : Progress) (fault : Fault) (ws : List �
       count = ap (λ (q : Progress). q .count) is;
       wide = ap (λ (q : Progress). q .width) is;
       idle = asked;
-      rises = λ c′ s′ t spans st e at h. rw (is, faulty-rises fault bad st (h .fault) e) h;
+      rises = λ c′ s′ sheet nested parents t spans st e at h.
+          rw (is, faulty-rises sheet (onceWay sheet nested parents) fault bad st (h .fault) e) h;
     }
 
     -- Or it did not.
@@ -75,6 +81,6 @@ module _ (w : Row) (work : List ℕ) (p : Progress) (fault : Fault) (ws : List �
       count = h .count ∙ ap (λ (x : Progress). x .count) is;
       wide = h .wide ∙ ap (λ (x : Progress). x .width) is;
       idle = asked;
-      rises = λ c′ s′ t spans st e at a.
-          h .rises (ap (λ (x : Progress). isSound (x .fault)) is ∙ good) t spans st e at (subst (λ (x : Progress). Agree t spans x ws work st) (sym is) a);
+      rises = λ c′ s′ sheet nested parents t spans st e at a.
+          h .rises (ap (λ (x : Progress). isSound (x .fault)) is ∙ good) sheet nested parents t spans st e at (subst (λ (x : Progress). Agree t spans x ws work st) (sym is) a);
     }

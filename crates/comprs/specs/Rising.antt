@@ -9,12 +9,15 @@ use Rattle.basics.specs.Ranges.{range}
 use Rattle.names.specs.Sets.{member, Difference}
 use Rattle.names.specs.declared.Names.{Names}
 use Rattle.records.specs.declared.Row.{Row}
+use Rattle.trees.specs.Sheet.{Sheet}
 use Rattle.trees.specs.Trees.{Tree, rowOf}
 use Rattle.scopes.specs.NameSets.{contains, elements}
 use Rattle.scopes.specs.Scopes as spec
 use Rattle.scopes.specs.Scopes.{Span, owns, addInput, useInput}
 use Rattle.analysis.specs.States.{sound, State, setScope, addFirstUses, inTurn}
-use Rattle.once.specs.Comprs.{comprScope, comprInputs, propagate, comprsUse, useCompr}
+use Rattle.analysis.specs.Ways.{Way}
+use Rattle.analysis.specs.Comprs.{propagate, comprsUse, useCompr}
+use Rattle.once.specs.OnceWay.{Nested, comprScope, comprInputs, onceWay}
 use Rattle.gather.specs.declared.scope.Scope.{Scope}
 use Rattle.gather.specs.Agrees.{Sets}
 use Rattle.used.specs.Own.{Holds}
@@ -31,16 +34,16 @@ use Rattle.comprs.specs.Propagated.{Joined, inputs-joined, joined-owns, 
 use Rattle.comprs.specs.Uses.{UsesNames}
 
 -- What is done once the query of e is analysed.
-abbrev pub rising : Tree → State → State
-rising e = inTurn (propagate e ∷ useCompr e ∷ [])
+abbrev pub rising : Sheet → Way → Tree → State → State
+rising sheet way e = inTurn ((λ t. propagate sheet way (t .scope) e t) ∷ useCompr sheet way e ∷ [])
 
 module _ (w : Row) (work : List ℕ) where
   -- From p, which has no fault, to r.
   pub record Risen (p : Progress) (firsts : List ℕ) (r : Progress) (firsts′ : List ℕ) : Type 0 where
     pub count : r .count ≡ p .count
     pub wide : r .width ≡ p .width
-    pub rises : isSound (p .fault) ≡ true → (t spans : List ℕ) (s : State) (e : Tree) → rowOf e ≡ w
-        → Agree t spans p firsts work s → Agree t spans r firsts′ work (rising e s)
+    pub rises : isSound (p .fault) ≡ true → (sheet : Sheet) (nested : Nested) (parents : List spec.Scope) (t spans : List ℕ) (s : State) (e : Tree)
+        → rowOf e ≡ w → Agree t spans p firsts work s → Agree t spans r firsts′ work (rising sheet (onceWay sheet nested parents) e s)
 
 -- ---- the steps
 
@@ -51,9 +54,10 @@ is-sound (UsedBefore l c) h = absurd (not-both h refl)
 is-sound (Lengths l c) h = absurd (not-both h refl)
 is-sound IndexVariable h = absurd (not-both h refl)
 
-sound-rises : (s : State) → s .run .fault ≡ sound → (e : Tree) → rising e s ≡ useCompr e (propagate e s)
+sound-rises : (sheet : Sheet) (way : Way) (s : State) → s .run .fault ≡ sound → (e : Tree)
+    → rising sheet way e s ≡ useCompr sheet way e (propagate sheet way (s .scope) e s)
 unfolding propagate setScope
-sound-rises s h e = rw h
+sound-rises sheet way s h e = rw h
 
 -- ---- the lists
 
@@ -62,7 +66,6 @@ module _ (e : Tree) (s : State) (k : Scope) (a : Sets k (s .scope)) (tk : Taken)
   -- The inputs that are not own names.
   others-held : (others : Names) → Difference (tk .inputs .words) (own .words) (others .words)
       → Holds others (filter (λ x. not (owns (s .scope) x)) (comprInputs s e))
-  unfolding comprInputs
   others-held others d = record {
     has = λ x.
         elem-filter (λ y. not (owns (s .scope) y)) x (elements (comprScope s e .inputs))
@@ -80,7 +83,7 @@ module _ (e : Tree) (s : State) (k : Scope) (a : Sets k (s .scope)) (tk : Taken)
   -- And those that are, in order.
   own-listed : (sc : spec.Scope) → ((x : ℕ) → owns sc x ≡ owns (s .scope) x)
       → filter (owns sc) (comprInputs s e) ≡ filter (member (own .words)) (range 0 512)
-  unfolding comprInputs elements
+  unfolding elements
   own-listed sc same =
       filter-both (owns sc) (contains (comprScope s e .inputs)) (member (own .words))
       (λ x. owned (s .scope) a x ∙ ap₂ _&&_ (sym (takes .inputs x)) (sym (same x))) (range 0 512)
@@ -90,7 +93,11 @@ module _ (e : Tree) (s : State) (k : Scope) (a : Sets k (s .scope)) (tk : Taken)
 module _ (w : Row) (work : List ℕ) (p : Progress) (ws : List ℕ) (tk : Taken) (by : TakenBy (p .width) work (w .third) tk) (own : Names)
     (owned : OwnInputs (p .scope) (tk .inputs) own) (others : Names) (d : Difference (tk .inputs .words) (own .words) (others .words))
     (k : Scope) (put : Propagated (p .scope) (tk .uses) others k) (rs : List ℕ) (used : UsesNames w own ws rs) where
-  module _ (t spans : List ℕ) (s : State) (e : Tree) (is : rowOf e ≡ w) (h : Whole t spans p ws work s) where
+  module _ (sheet : Sheet) (nested : Nested) (parents : List spec.Scope) (t spans : List ℕ) (s : State) (e : Tree) (is : rowOf e ≡ w)
+      (h : Whole t spans p ws work s) where
+    abbrev way : Way
+    way = onceWay sheet nested parents
+
     takes : Takes (comprScope s e) tk
     takes = rw is (by (s .run .schedules) (h .table .stored))
 
@@ -107,12 +114,12 @@ module _ (w : Row) (work : List ℕ) (p : Progress) (ws : List ℕ) (tk : Taken)
     unfolding flagged names useInput owns
     same-owns x = joined-owns flagged names (foldl addInput flagged names) joined x
 
-    uses-listed : comprsUse (e ∷ []) (propagate e s) ≡ filter (member (own .words)) (range 0 512)
-    unfolding comprsUse propagate setScope comprInputs flagged names
+    uses-listed : comprsUse sheet way (e ∷ []) (propagate sheet way (s .scope) e s) ≡ filter (member (own .words)) (range 0 512)
+    unfolding comprsUse propagate setScope flagged names
     uses-listed =
         append-nil _ ∙ own-listed e s (p .scope) (h .scope .sets) tk takes own owned (foldl addInput flagged names) same-owns
 
-    risen-whole : Whole t spans (scoped p k) rs work (useCompr e (propagate e s))
+    risen-whole : Whole t spans (scoped p k) rs work (useCompr sheet way e (propagate sheet way (s .scope) e s))
     unfolding useCompr addFirstUses propagate setScope flagged names useInput
     risen-whole = record {
       scope = record {
@@ -130,12 +137,13 @@ module _ (w : Row) (work : List ℕ) (p : Progress) (ws : List ℕ) (tk : Taken)
   risen r is = record {
     count = ap (λ (q : Progress). q .count) is;
     wide = ap (λ (q : Progress). q .width) is;
-    rises = λ sounds t spans s e at h.
+    rises = λ sounds sheet nested parents t spans s e at h.
+        let way = onceWay sheet nested parents in
         let clear : s .run .fault ≡ sound = sym (h .fault) ∙ is-sound (p .fault) sounds in
-        let now : Agree t spans (scoped p k) rs work (useCompr e (propagate e s)) = record {
+        let now : Agree t spans (scoped p k) rs work (useCompr sheet way e (propagate sheet way (s .scope) e s)) = record {
           fault = h .fault;
           count = h .count;
-          whole = λ z. risen-whole t spans s e at (h .whole clear);
+          whole = λ z. risen-whole sheet nested parents t spans s e at (h .whole clear);
         } in
-        rw (is, sound-rises s clear e) now;
+        rw (is, sound-rises sheet way s clear e) now;
   }

@@ -9,15 +9,18 @@ use Rattle.names.specs.Sets.{member, Union}
 use Rattle.names.specs.declared.Names.{Names}
 use Rattle.widths.specs.declared.Width.{Width}
 use Rattle.records.specs.declared.Row.{Row}
-use Rattle.trees.specs.Sheet.{rowAt}
+use Rattle.trees.specs.Sheet.{Sheet, rowAt}
 use Rattle.trees.specs.Kinds.{isCompr}
 use Rattle.trees.specs.Lists.{concatMap}
 use Rattle.trees.specs.Trees.{Tree, rowOf}
 use Rattle.trees.specs.Traverse.{traverse, comprs}
 use Rattle.scopes.specs.NameSets.{elements}
+use Rattle.scopes.specs.Scopes as spec
 use Rattle.scopes.specs.Scopes.{owns}
 use Rattle.analysis.specs.States.{State, scheduleOf, scopeIn}
-use Rattle.once.specs.Comprs.{comprInputs, comprsUse}
+use Rattle.analysis.specs.Ways.{Way}
+use Rattle.analysis.specs.Comprs.{comprsUse}
+use Rattle.once.specs.OnceWay.{Nested, onceWay}
 use Rattle.branches.specs.declared.Kids.{Kids}
 use Rattle.branches.specs.Kids.{kidsOf}
 use Rattle.gather.specs.declared.scope.Scope.{Scope}
@@ -84,7 +87,8 @@ module _ (v : Width) (k : Scope) (work : List ℕ) where
 module _ (t : List ℕ) where
   abbrev pub ComprsUsed : Width → Scope → List ℕ → ℕ → Bool → Names → Names → Type 0
   ComprsUsed v k work row rest a b =
-      (s : State) → Sets k (s .scope) → Stored v (answersOf v work) (s .run .schedules) → Adds a (comprsUse (comprs (exprBy t rest row)) s) b
+      (sheet : Sheet) (nested : Nested) (parents : List spec.Scope) (s : State) → Sets k (s .scope) → Stored v (answersOf v work) (s .run .schedules)
+      → Adds a (comprsUse sheet (onceWay sheet nested parents) (comprs (exprBy t rest row)) s) b
 
   -- The comprehensions among expressions.
   abbrev comprsIn : List Tree → List Tree
@@ -94,22 +98,25 @@ module _ (t : List ℕ) where
   abbrev atExpr : State → Tree → List ℕ
   atExpr s e = comprUse s (rowOf e)
 
-  module _ (s : State) where
-    by-rows : (ts : List Tree) → comprsUse (comprsIn ts) s ≡ concatMap (atExpr s) ts
-    unfolding comprsUse comprInputs
+  module _ (sheet : Sheet) (nested : Nested) (parents : List spec.Scope) (s : State) where
+    abbrev way : Way
+    way = onceWay sheet nested parents
+
+    by-rows : (ts : List Tree) → comprsUse sheet way (comprsIn ts) s ≡ concatMap (atExpr s) ts
+    unfolding comprsUse
     by-rows [] = refl
     by-rows (e ∷ ts) = go (isCompr (rowOf e)) (by-rows ts)
       where
-        go : (b : Bool) → comprsUse (comprsIn ts) s ≡ concatMap (atExpr s) ts
-            → comprsUse (cond b (e ∷ []) [] ++ comprsIn ts) s ≡ (cond b (rowUse s (rowOf e)) [] ++ concatMap (atExpr s) ts)
+        go : (b : Bool) → comprsUse sheet way (comprsIn ts) s ≡ concatMap (atExpr s) ts
+            → comprsUse sheet way (cond b (e ∷ []) [] ++ comprsIn ts) s ≡ (cond b (rowUse s (rowOf e)) [] ++ concatMap (atExpr s) ts)
         go true ih = ap (λ (l : List ℕ). rowUse s (rowOf e) ++ l) ih
         go false ih = ih
 
   module _ (ok : Accepted t) (v : Width) (k : Scope) (work : List ℕ) where
     pub used-none : (row : ℕ) → row ≡ 0 → (rest : Bool) (a : Names) → ComprsUsed v k work row rest a a
-    used-none row z rest a s h stored =
-        let none : comprsUse (comprs (exprBy t rest row)) s ≡ [] =
-        by-rows s (traverse (exprBy t rest row)) ∙ ap (λ (r : ℕ). concatMap (atExpr s) (traverse (exprBy t rest r))) z
+    used-none row z rest a sheet nested parents s h stored =
+        let none : comprsUse sheet (onceWay sheet nested parents) (comprs (exprBy t rest row)) s ≡ [] =
+        by-rows sheet nested parents s (traverse (exprBy t rest row)) ∙ ap (λ (r : ℕ). concatMap (atExpr s) (traverse (exprBy t rest r))) z
         ∙ collected-none t (atExpr s) ok rest in
         rw none (adds-none a)
 
@@ -117,12 +124,12 @@ module _ (t : List ℕ) where
         → (p : Kids) → p ≡ kidsOf w → (next : ℕ) → next ≡ cond rest (w .next) 0 → (a s₀ s₁ s₂ s₃ s₄ : Names)
         → ComprStep v k work w a s₀ → ComprsUsed v k work (p .first) true s₀ s₁ → ComprsUsed v k work (p .second) true s₁ s₂
         → ComprsUsed v k work (p .third) true s₂ s₃ → ComprsUsed v k work next true s₃ s₄ → ComprsUsed v k work row rest a s₄
-    used-turn row ne high rest w is p ps next ns a s₀ s₁ s₂ s₃ s₄ h₀ h₁ h₂ h₃ h₄ s h stored =
+    used-turn row ne high rest w is p ps next ns a s₀ s₁ s₂ s₃ s₄ h₀ h₁ h₂ h₃ h₄ sheet nested parents s h stored =
         let at : ℕ → List ℕ = λ i. concatMap (atExpr s) (traverse (exprBy t true i)) in
         let part : (i : ℕ) (x y : Names) → ComprsUsed v k work i true x y → Adds x (at i) y =
-        λ i x y g. subst (λ (l : List ℕ). Adds x l y) (by-rows s (traverse (exprBy t true i))) (g s h stored) in
+        λ i x y g. subst (λ (l : List ℕ). Adds x l y) (by-rows sheet nested parents s (traverse (exprBy t true i))) (g sheet nested parents s h stored) in
         let here : Adds a (comprUse s (rowAt t row)) s₀ = subst (λ (y : Row). Adds a (comprUse s y) s₀) is (h₀ s h stored) in
-        let whole = by-rows s (traverse (exprBy t rest row)) ∙ collected-turn t (atExpr s) ok rest row ne high w is p ps next ns in
+        let whole = by-rows sheet nested parents s (traverse (exprBy t rest row)) ∙ collected-turn t (atExpr s) ok rest row ne high w is p ps next ns in
         subst (λ (l : List ℕ). Adds a l s₄) (sym whole)
         (adds-then a s₃ s₄ _ (at next)
         (adds-then a s₂ s₃ _ (at (p .third))

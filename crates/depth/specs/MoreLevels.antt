@@ -26,7 +26,7 @@ use Rattle.repeats.specs.CoupledStmts.{StmtCoupling}
 use Rattle.repeats.specs.CoupledQuery as CoupledQuery
 use Rattle.repeats.specs.CoupledQuery.{OutputCoupling, Ended, ended, query-ended}
 use Rattle.repeats.specs.RustWrites.{take-sound}
-use Rattle.repeats.specs.MemoRust.{own-outputScope}
+use Rattle.repeats.specs.OnceRust.{own-outputScope}
 
 -- No query is met more than so many levels down from query q with these outputs, q counted.
 abbrev pub Ends : ℕ → Sheet → ℕ → List Tree → Type 0

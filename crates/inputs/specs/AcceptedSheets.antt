@@ -10,7 +10,7 @@ use Rattle.naming.specs.Lines.{firstLine}
 use Rattle.trees.specs.Sheet.{sheetOf}
 use Rattle.scopes.specs.NameSets.{contains}
 use Rattle.analysis.specs.States.{sound, scopeIn}
-use Rattle.once.specs.Queries.{analyzeQuerySnippetOnce, scheduleOnce}
+use Rattle.once.specs.OnceWay.{analyzeQuerySnippetOnce, scheduleOnce}
 use Rattle.repeats.specs.Accepted.{accepted-once}
 use Rattle.inputs.specs.EveryInput.{FoundAround, every-input-found, outer-has-none}
 use Rattle.records.specs.Rows.{inTables}

@@ -15,16 +15,16 @@ use Rattle.scopes.specs.NameSets.{empty, contains}
 use Rattle.scopes.specs.Scopes.{Scope, varExists}
 use Rattle.scopes.specs.Shadowed.{Found, InputsFound}
 use Rattle.analysis.specs.States.{sound, QuerySchedule, Run, scheduleOf, scopeIn}
-use Rattle.once.specs.Queries.{analyzeOnce, analyzeQuerySnippetOnce, scheduleOnce}
+use Rattle.analysis.specs.RustWay.{analyze, analyzeQuerySnippet}
+use Rattle.once.specs.OnceWay.{analyzeOnce, analyzeQuerySnippetOnce, scheduleOnce}
 use Rattle.sizes.specs.Lists.{find-some}
 use Rattle.repeats.specs.Lists.{orElse, orElse-none}
 use Rattle.repeats.specs.Distinct.{distinct}
 use Rattle.repeats.specs.Places.{family}
 use Rattle.repeats.specs.Beside.{isSound}
 use Rattle.repeats.specs.LookUps.{Fresh, look-append}
-use Rattle.analysis.specs.RustWay.{analyze, analyzeQuerySnippet}
 use Rattle.repeats.specs.RustWrites.{family-has}
-use Rattle.repeats.specs.MemoRust.{Agree, stopped, agreed, analyze-agree}
+use Rattle.repeats.specs.OnceRust.{Agree, stopped, agreed, analyze-agree}
 use Rattle.repeats.specs.QueryRepeats.{queriesOnce, rust-schedules}
 use Rattle.inputs.specs.Around.{Around, outer}
 use Rattle.inputs.specs.Placed.{Placed, scopeAfter}

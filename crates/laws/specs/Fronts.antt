@@ -13,9 +13,9 @@ use Rattle.trees.specs.TreeRows.{allRows}
 use Rattle.scopes.specs.Scopes.{Scope}
 use Rattle.scopes.specs.Below.{nameBelow}
 use Rattle.analysis.specs.States.{Fault, sound, undefined, usedBefore, lengths, indexVariable, QuerySchedule, Run, State, ifSound}
-use Rattle.once.specs.Statements.{processStmts}
-use Rattle.analysis.specs.Queries.{scheduled}
-use Rattle.once.specs.Queries.{analyzeOutputExpr, analyzeQuery, analyzeOnce}
+use Rattle.analysis.specs.Statements.{processStmts}
+use Rattle.analysis.specs.Queries.{scheduled, analyzeOutputExpr, analyzeQuery}
+use Rattle.once.specs.OnceWay.{onceWay, analyzeOnce}
 use Rattle.once.specs.Schedules.{Each}
 use Rattle.once.specs.Named.{NamesUnder}
 use Rattle.sizes.specs.Adds.{Fits, AllFit}
@@ -28,8 +28,8 @@ module _ (n : ℕ) (sheet : Sheet) (parents : List Scope) (q : ℕ) (outputs : L
   -- The state at the end of the query, whose nested queries are analysed at level n.
   abbrev pub ended : State
   ended =
-      foldl (analyzeOutputExpr sheet (analyzeOnce n sheet) parents)
-      (processStmts sheet (analyzeOnce n sheet) parents 0 (stmtsOf sheet q) (start sheet parents q outputs r)) outputs
+      foldl (analyzeOutputExpr sheet (onceWay sheet (analyzeOnce n sheet) parents))
+      (processStmts sheet (onceWay sheet (analyzeOnce n sheet) parents) 0 (stmtsOf sheet q) (start sheet parents q outputs r)) outputs
 
   abbrev pub front : QuerySchedule
   front = record { query = q; scope = ended .scope; count = length (stmtsOf sheet q); definitions = ended .definitions }

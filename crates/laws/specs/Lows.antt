@@ -27,7 +27,7 @@ use Rattle.scopes.specs.Scopes.{Scope}
 use Rattle.scopes.specs.Below.{nameBelow, unscoped-below, input-below, flag-below, gathered-below}
 use Rattle.scopes.specs.GatherLocals.{gatherLocalVars}
 use Rattle.analysis.specs.States.{QuerySchedule, Run}
-use Rattle.once.specs.Queries.{analyzeOnce}
+use Rattle.once.specs.OnceWay.{analyzeOnce}
 use Rattle.once.specs.Own.{ownDefinition}
 use Rattle.once.specs.Steps.{Kept}
 use Rattle.once.specs.Schedules.{Each, analyze-keeps}

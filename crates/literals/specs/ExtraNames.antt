@@ -25,8 +25,7 @@ use Rattle.scopes.specs.Gather.{gatherAssignedVars}
 use Rattle.scopes.specs.GatherLaws.{Kept, assigned-kept}
 use Rattle.scopes.specs.Below.{nameBelow}
 use Rattle.branches.specs.Walks.{alone}
-use Rattle.once.specs.Comprs.{Nested}
-use Rattle.once.specs.Exprs.{extraVars}
+use Rattle.once.specs.OnceWay.{Nested, onceWay}
 use Rattle.sizes.specs.LowNames.{facts-names}
 use Rattle.gather.specs.declared.scope.Scope.{Scope}
 use Rattle.gather.specs.Sheets.{countsAt, specialAt, sheetAt, Accepted}
@@ -73,7 +72,7 @@ module _ (t outer : List ℕ) (arg : ℕ) where
   pub record ExtraVars (r : Names) : Type 0 where
     pub none : arg ≡ 0 → Holds r []
     pub all : (arg ≡ 0 → ⊥) → (nested : Nested) (parents : List spec.Scope) → Outer outer parents
-        → Holds r (extraVars (sheetAt t) nested parents (exprBy t false arg))
+        → Holds r (onceWay (sheetAt t) nested parents .extraVars (exprBy t false arg))
 
   pub vars-none : arg ≡ 0 → (r : Names) → Empty (r .words) → ExtraVars r
   vars-none z r h = record { none = λ e. record { has = λ x. sym (h .has x) }; all = λ n. absurd (n z) }
@@ -91,7 +90,6 @@ module _ (t outer : List ℕ) (arg : ℕ) where
 
     pub vars-gathered : (arg ≡ 0 → ⊥) → (k : Scope) → NoNames k → (l m : List ℕ) (r : Scope)
         → AssignWalk t outer arg false false k l r m → ExtraVars (r .unscoped)
-    unfolding extraVars
     vars-gathered n k clear l m r walk = record {
       none = λ z. absurd (n z);
       all = λ there nested parents o.

@@ -29,10 +29,10 @@ use Rattle.scopes.specs.GatherLaws.{assigned-kept}
 use Rattle.uses.specs.Uses.{assignedVars}
 use Rattle.analysis.specs.States.{lengths, QuerySchedule, Run, State, scheduleOf, setScope, setRun, fail}
 use Rattle.analysis.specs.Using.{gatherUsedVars, checkAssigned, recordOne, recordEach}
-use Rattle.analysis.specs.Comprs.{Mods}
-use Rattle.once.specs.Comprs.{Nested, propagate, useCompr, allUsed, unlessScheduled, analyzeCompr, processCompr, processComprs, useExpr}
-use Rattle.analysis.specs.Exprs.{Pairing, pair, mismatch, pairings}
-use Rattle.once.specs.Exprs.{assignOneWay, assignPairing, processAssignExpr, processPlainExpr, processExpr, extraVars, processExtraArg, processCall}
+use Rattle.analysis.specs.Ways.{Way}
+use Rattle.analysis.specs.Comprs.{Mods, propagate, useCompr, allUsed, processCompr, processComprs, useExpr}
+use Rattle.analysis.specs.Exprs.{Pairing, pair, mismatch, pairings, assignOneWay, assignPairing, processAssignExpr, processPlainExpr, processExpr, processExtraArg, processCall}
+use Rattle.once.specs.OnceWay.{Nested, unlessScheduled, analyzeCompr, onceWay}
 use Rattle.once.specs.Own.{Grows, grows-unscoped, all-unscoped, assigned-own, all-used-own}
 use Rattle.once.specs.Steps.{Kept, Rises, Keeps, Good, good-same, good-end, good-then, good-fold, good-run, good-fail, good-scope, extras-kept, good-used, good-propagate, good-use-compr, good-one, good-each, good-check-assigned}
 
@@ -99,7 +99,10 @@ module _ (sheet : Sheet) (nested : Nested) (parents : List Scope) (Q : ℕ → B
     (R : List QuerySchedule → Type 0) (k : Kept Q S) (rises : Rises Q R) (unnamed : Q 0 ≡ true)
     (keeps : (ps : List Scope) (q : ℕ) (outs : List Tree) (r : Run) → all (allRows (named Q)) outs ≡ true → R (r .schedules) → R (nested ps q outs r .schedules))
   where
-    pub good-compr : (sc : Scope) (ps : List Scope) (e : Tree) → allRows (named Q) e ≡ true → Good S R sc (analyzeCompr sheet nested parents ps e)
+    abbrev way : Way
+    way = onceWay sheet nested parents
+
+    pub good-compr : (sc : Scope) (ps : List Scope) (e : Tree) → allRows (named Q) e ≡ true → Good S R sc (analyzeCompr nested ps e)
     unfolding analyzeCompr
     good-compr sc ps e t s o h = go (scheduleOf (s .run .schedules) (rowOf e .third))
       where
@@ -107,79 +110,80 @@ module _ (sheet : Sheet) (nested : Nested) (parents : List Scope) (Q : ℕ → B
         go none = good-run S R s (nested ps (rowOf e .third) (outputsOf e) (s .run)) o (keeps ps (rowOf e .third) (outputsOf e) (s .run) (outputs-rows (named Q) e t) (o .table))
         go (some a) = good-same S R sc s o h
 
-    pub good-comprs : (sc : Scope) (cs : List Tree) → all (allRows (named Q)) cs ≡ true → Good S R sc (processComprs sheet nested parents cs)
+    pub good-comprs : (sc : Scope) (cs : List Tree) → all (allRows (named Q)) cs ≡ true → Good S R sc (processComprs sheet way cs)
     unfolding processComprs processCompr
     good-comprs sc cs t =
-        good-fold S R sc (allRows (named Q)) (processCompr sheet nested parents)
-        (λ e q s o h. good-then S R sc (analyzeCompr sheet nested parents (s .scope ∷ parents) e) (propagate e ∷ useCompr e ∷ []) (good-compr sc (s .scope ∷ parents) e q)
-        (good-then S R sc (propagate e) (useCompr e ∷ []) (good-propagate S R Q k rises sc e)
-        (good-then S R sc (useCompr e) [] (good-use-compr S R Q k rises sc e) (good-end S R sc))) s o h) cs t
+        good-fold S R sc (allRows (named Q)) (processCompr sheet way)
+        (λ e q s o h. good-then S R sc (analyzeCompr nested (s .scope ∷ parents) e) ((λ t. propagate sheet way (t .scope) e t) ∷ useCompr sheet way e ∷ []) (good-compr sc (s .scope ∷ parents) e q)
+        (good-then S R sc (λ t. propagate sheet way (t .scope) e t) (useCompr sheet way e ∷ []) (good-propagate S R Q k rises sheet nested parents sc (λ t. t .scope) e)
+        (good-then S R sc (useCompr sheet way e) [] (good-use-compr S R Q k rises sheet way sc e) (good-end S R sc))) s o h) cs t
 
     pub good-expr : (sc : Scope) (i : ℕ) (extras : List ℕ) (m : Mods) → all (allRows (named Q)) (m .comprs) ≡ true
-        → (t : Tree) → allRows (named Q) t ≡ true → Good S R sc (useExpr sheet nested parents i extras m t)
+        → (t : Tree) → allRows (named Q) t ≡ true → Good S R sc (useExpr sheet way i extras m t)
     unfolding useExpr
     good-expr sc i extras m mt t h =
         let cs = comprs t ++ m .comprs in
-        good-then S R sc (gatherUsedVars sheet i extras t) (processComprs sheet nested parents cs ∷ []) (good-used S R Q k rises sheet sc i extras t)
-        (good-then S R sc (processComprs sheet nested parents cs) []
+        good-then S R sc (gatherUsedVars sheet i extras t) (processComprs sheet way cs ∷ []) (good-used S R Q k rises sheet sc i extras t)
+        (good-then S R sc (processComprs sheet way cs) []
         (good-comprs sc cs (all-append (allRows (named Q)) (comprs t) (m .comprs) (comprs-rows (named Q) t h) mt)) (good-end S R sc))
 
     -- The names of the modifiers being own from a scope on.
     module _ (sc : Scope) (i : ℕ) (m : Mods) (mt : all (allRows (named Q)) (m .comprs) ≡ true) (own : all (owns sc) (m .usedVars) ≡ true) where
-      good-way : (check : Bool) (target source : Tree) → allRows (named Q) source ≡ true → Good S R sc (assignOneWay sheet nested parents i m check target source)
+      good-way : (check : Bool) (target source : Tree) → allRows (named Q) source ≡ true → Good S R sc (assignOneWay sheet way i m check target source)
       unfolding assignOneWay
       good-way check target source h =
-          let used : State → ℕ → List ℕ = λ t x. filter (λ y. not (eqb y x)) (allUsed sheet [] m source t) in
+          let used : State → ℕ → List ℕ = λ t x. filter (λ y. not (eqb y x)) (allUsed sheet way [] m source t) in
           let last : State → State = λ t. recordEach i (assignedVars (t .scope) target) (used t) t in
-          good-then S R sc (useExpr sheet nested parents i [] m source) (checkAssigned check target ∷ last ∷ []) (good-expr sc i [] m mt source h)
+          good-then S R sc (useExpr sheet way i [] m source) (checkAssigned check target ∷ last ∷ []) (good-expr sc i [] m mt source h)
           (good-then S R sc (checkAssigned check target) (last ∷ []) (good-check-assigned S R Q k rises sc check target)
           (good-then S R sc last []
           (λ t o g. good-each S R Q k rises i (assignedVars (t .scope) target) (used t) t o (assigned-own (t .scope) target)
-          (λ x. all-filter (owns (t .scope)) (λ y. not (eqb y x)) (allUsed sheet [] m source t) (all-used-own sheet sc [] m source t g own)))
+          (λ x. all-filter (owns (t .scope)) (λ y. not (eqb y x)) (allUsed sheet way [] m source t) (all-used-own sheet way sc [] m source t g own)))
           (good-end S R sc)))
 
-      good-pairing : (check : Bool) (j : Pairing) → pairingRows (named Q) j ≡ true → Good S R sc (λ s. assignPairing sheet nested parents i m check s j)
+      good-pairing : (check : Bool) (j : Pairing) → pairingRows (named Q) j ≡ true → Good S R sc (λ s. assignPairing sheet way i m check s j)
       unfolding assignPairing
       good-pairing check (pair lhs rhs) h =
-          good-then S R sc (assignOneWay sheet nested parents i m check lhs rhs) (assignOneWay sheet nested parents i m false rhs lhs ∷ [])
+          good-then S R sc (assignOneWay sheet way i m check lhs rhs) (assignOneWay sheet way i m false rhs lhs ∷ [])
           (good-way check lhs rhs (and-right (allRows (named Q) lhs) _ h))
-          (good-then S R sc (assignOneWay sheet nested parents i m false rhs lhs) [] (good-way false rhs lhs (and-left _ (allRows (named Q) rhs) h)) (good-end S R sc))
+          (good-then S R sc (assignOneWay sheet way i m false rhs lhs) [] (good-way false rhs lhs (and-left _ (allRows (named Q) rhs) h)) (good-end S R sc))
       good-pairing check (mismatch v) h = good-then S R sc (fail (lengths (v .line) (v .col))) [] (good-fail S R sc (lengths (v .line) (v .col))) (good-end S R sc)
 
-      pub good-plain : (e : Tree) → allRows (named Q) e ≡ true → Good S R sc (processPlainExpr sheet nested parents i m e)
+      pub good-plain : (e : Tree) → allRows (named Q) e ≡ true → Good S R sc (processPlainExpr sheet way i m e)
       unfolding processPlainExpr
       good-plain e h =
-          let last : State → State = λ t. recordOne i 0 (allUsed sheet [] m e t) t in
-          good-then S R sc (useExpr sheet nested parents i [] m e) (last ∷ []) (good-expr sc i [] m mt e h)
-          (good-then S R sc last [] (λ t o g. good-one S R Q k rises i 0 (allUsed sheet [] m e t) t o refl (all-used-own sheet sc [] m e t g own)) (good-end S R sc))
+          let last : State → State = λ t. recordOne i 0 (allUsed sheet way [] m e t) t in
+          good-then S R sc (useExpr sheet way i [] m e) (last ∷ []) (good-expr sc i [] m mt e h)
+          (good-then S R sc last [] (λ t o g. good-one S R Q k rises i 0 (allUsed sheet way [] m e t) t o refl (all-used-own sheet way sc [] m e t g own)) (good-end S R sc))
 
-      pub good-process-expr : (e : Tree) → allRows (named Q) e ≡ true → Good S R sc (processExpr sheet nested parents i m e)
+      pub good-process-expr : (e : Tree) → allRows (named Q) e ≡ true → Good S R sc (processExpr sheet way i m e)
       unfolding processExpr processAssignExpr
       good-process-expr e t s o h = go (isAssign (rowOf e))
         where
-          go : (b : Bool) → Keeps S R s (cond b (foldl (assignPairing sheet nested parents i m (isColEq (rowOf e))) s (pairings (firstOf e) (secondOf e))) (processPlainExpr sheet nested parents i m e s))
+          go : (b : Bool) → Keeps S R s (cond b (foldl (assignPairing sheet way i m (isColEq (rowOf e))) s (pairings (firstOf e) (secondOf e))) (processPlainExpr sheet way i m e s))
           go true =
-              good-fold S R sc (pairingRows (named Q)) (assignPairing sheet nested parents i m (isColEq (rowOf e))) (good-pairing (isColEq (rowOf e)))
+              good-fold S R sc (pairingRows (named Q)) (assignPairing sheet way i m (isColEq (rowOf e))) (good-pairing (isColEq (rowOf e)))
               (pairings (firstOf e) (secondOf e)) (pairings-rows (named Q) (firstOf e) (secondOf e) (first-rows (named Q) e t) (second-rows (named Q) e t)) s o h
           go false = good-plain e t s o h
 
     pub good-extra : (sc : Scope) (i : ℕ) (m : Mods) → all (allRows (named Q)) (m .comprs) ≡ true → all (owns sc) (m .usedVars) ≡ true
-        → (e arg : Tree) → allRows (named Q) e ≡ true → allRows (named Q) arg ≡ true → Good S R sc (processExtraArg sheet nested parents i m e arg)
-    unfolding processExtraArg extraVars
+        → (e arg : Tree) → allRows (named Q) e ≡ true → allRows (named Q) arg ≡ true → Good S R sc (processExtraArg sheet way i m e arg)
+    unfolding processExtraArg
     good-extra sc i m mt own e arg t at s o h =
-        let extras = extraVars sheet nested parents arg in
+        let extras = way .extraVars arg in
         let b = foldl addUnscoped (s .scope) extras in
         let first = good-scope S R Q k rises s b o (extras-kept S R Q k rises extras (extras-pass sheet parents Q unnamed arg at) (s .scope) (s .definitions) (o .here)) (grows-unscoped extras (s .scope)) in
         let ownB = all-weaken (owns sc) (owns b) (λ x q. grows-unscoped extras (s .scope) x (h x q)) (m .usedVars) own in
-        let f : State → State = λ u. recordEach i extras (λ x. allUsed sheet extras m e u) u in
-        let r = good-then S R b (useExpr sheet nested parents i extras m e) (f ∷ []) (good-expr b i extras m mt e t)
+        let f : State → State = λ u. recordEach i extras (λ x. allUsed sheet way extras m e u) u in
+        let r = good-then S R b (useExpr sheet way i extras m e) (f ∷ []) (good-expr b i extras m mt e t)
         (good-then S R b f []
-        (λ u p g. good-each S R Q k rises i extras (λ x. allUsed sheet extras m e u) u p (all-weaken (owns b) (owns (u .scope)) g extras (all-unscoped extras (s .scope)))
-        (λ x. all-used-own sheet b extras m e u g ownB)) (good-end S R b))
+        (λ u p g. good-each S R Q k rises i extras (λ x. allUsed sheet way extras m e u) u p (all-weaken (owns b) (owns (u .scope)) g extras (all-unscoped extras (s .scope)))
+        (λ x. all-used-own sheet way b extras m e u g ownB)) (good-end S R b))
         (setScope b s) (first .holds) (scope-is b s) in
         record { holds = r .holds; grows = λ x q. r .grows x (first .grows x q) }
 
     pub good-call : (sc : Scope) (i : ℕ) (m : Mods) → all (allRows (named Q)) (m .comprs) ≡ true → all (owns sc) (m .usedVars) ≡ true
-        → (x : Option Tree) → all (allRows (named Q)) (toList x) ≡ true → (e : Tree) → allRows (named Q) e ≡ true → Good S R sc (processCall sheet nested parents x i m e)
+        → (x : Option Tree) → all (allRows (named Q)) (toList x) ≡ true → (e : Tree) → allRows (named Q) e ≡ true → Good S R sc (processCall sheet way x i m e)
+    unfolding processCall
     good-call sc i m mt own none at e t = good-process-expr sc i m mt own e t
     good-call sc i m mt own (some arg) at e t = good-extra sc i m mt own e arg t (and-left (allRows (named Q) arg) true at)

@@ -1,8 +1,4 @@
-pub mod Comprs
-pub mod Exprs
-pub mod SomeIn
-pub mod Statements
-pub mod Queries
+pub mod OnceWay
 pub mod Own
 pub mod Steps
 pub mod ExprSteps

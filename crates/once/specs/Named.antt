@@ -22,7 +22,7 @@ use Rattle.scopes.specs.Scopes.{Scope, owns}
 use Rattle.scopes.specs.Below.{nameBelow, Below, unscoped-below, input-below, flag-below, gathered-below}
 use Rattle.analysis.specs.States.{QuerySchedule, scheduleOf}
 use Rattle.analysis.specs.Queries.{definitionsIn}
-use Rattle.once.specs.Queries.{analyzeQuerySnippetOnce, scheduleOnce, recordedOnce}
+use Rattle.once.specs.OnceWay.{analyzeQuerySnippetOnce, scheduleOnce, recordedOnce}
 use Rattle.once.specs.Own.{ownDefinition}
 use Rattle.once.specs.Steps.{Kept}
 use Rattle.once.specs.Schedules.{Each, every-schedule}

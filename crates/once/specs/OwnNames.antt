@@ -10,7 +10,7 @@ use Rattle.records.specs.declared.Row.{Row}
 use Rattle.trees.specs.Sheet.{Sheet}
 use Rattle.scopes.specs.NameSets.{elements}
 use Rattle.scopes.specs.Scopes.{Scope, addUnscoped, addInput, useInput}
-use Rattle.once.specs.Queries.{analyzeQuerySnippetOnce}
+use Rattle.once.specs.OnceWay.{analyzeQuerySnippetOnce}
 use Rattle.once.specs.Own.{ownDefinition, Grows, own-grows, grows-flag, grows-input, grows-one}
 use Rattle.once.specs.Steps.{Kept}
 use Rattle.once.specs.Schedules.{Each, every-schedule}

@@ -22,13 +22,12 @@ use Rattle.scopes.specs.NameSets.{empty, contains, elements}
 use Rattle.scopes.specs.Scopes.{Scope}
 use Rattle.scopes.specs.GatherLocals.{gatherLocalVars}
 use Rattle.analysis.specs.States.{scopeIn, scheduleOf, Fault, sound, undefined, usedBefore, lengths, indexVariable, QuerySchedule, Run, State, ifSound}
-use Rattle.once.specs.Comprs.{Nested}
-use Rattle.once.specs.Statements.{processStmts}
-use Rattle.analysis.specs.Queries.{scheduled}
-use Rattle.once.specs.Queries.{analyzeOutputExpr, analyzeQuery, analyzeOnce, analyzeQuerySnippetOnce}
+use Rattle.analysis.specs.Statements.{processStmts}
+use Rattle.analysis.specs.Queries.{scheduled, analyzeOutputExpr, analyzeQuery}
+use Rattle.once.specs.OnceWay.{Nested, onceWay, analyzeOnce, analyzeQuerySnippetOnce}
 use Rattle.once.specs.Steps.{Kept, Rises, Holds}
-use Rattle.once.specs.StatementSteps.{good-stmts, good-outputs}
 use Rattle.once.specs.ExprSteps.{named}
+use Rattle.once.specs.StatementSteps.{good-stmts, good-outputs}
 
 -- Each schedule on the list has S.
 abbrev pub Each : (Scope → List Definition → Type 0) → List QuerySchedule → Type 0
@@ -67,16 +66,16 @@ module _ (sheet : Sheet) (Q : ℕ → Bool) (rows : all (named Q) (sheet .exprs)
     query-keeps : (nested : Nested)
         → ((ps : List Scope) (q : ℕ) (outs : List Tree) (r : Run) → all (allRows (named Q)) outs ≡ true → Each S (r .schedules) → Each S (nested ps q outs r .schedules))
         → (parents : List Scope) (q : ℕ) (outputs : List Tree) (r : Run) → all (allRows (named Q)) outputs ≡ true → Each S (r .schedules)
-        → Each S (analyzeQuery sheet nested parents q outputs r .schedules)
+        → Each S (analyzeQuery sheet (onceWay sheet nested parents) q outputs r .schedules)
     unfolding analyzeQuery
     query-keeps nested keeps parents q outputs r h e =
         let stmts = stmtsOf sheet q in
         let first : State = record { scope = gatherLocalVars sheet parents stmts outputs; firstUses = []; definitions = []; run = r } in
         let a = good-stmts sheet nested parents Q S (Each S) k rises none keeps (first .scope) stmts (stmts-rows (named Q) sheet rows none q) 0 first
         (record { here = start parents q outputs h; table = e }) (λ x g. g) in
-        let t = processStmts sheet nested parents 0 stmts first in
+        let t = processStmts sheet (onceWay sheet nested parents) 0 stmts first in
         let b = good-outputs sheet nested parents Q S (Each S) k rises none keeps (t .scope) outputs h t (a .holds) (λ x g. g) in
-        let s = foldl (analyzeOutputExpr sheet nested parents) t outputs in
+        let s = foldl (analyzeOutputExpr sheet (onceWay sheet nested parents)) t outputs in
         finished S q (length stmts) s (b .holds) (s .run .fault)
 
     -- At every level.

@@ -22,15 +22,13 @@ use Rattle.scopes.specs.Scopes.{Scope, noScope, spanOf, isLocal, owns, addLocal
 use Rattle.uses.specs.Uses.{define, indexDefinitions}
 use Rattle.analysis.specs.States.{indexVariable, QuerySchedule, Run, State, addFirstUses, addDefinitions, setRun, inTurn}
 use Rattle.analysis.specs.Using.{gatherUsedVars, recordOne, atLeastOne}
-use Rattle.analysis.specs.Comprs.{Mods}
-use Rattle.once.specs.Comprs.{Nested, propagate, allUsed, analyzeCompr, processComprs, useExpr}
-use Rattle.once.specs.Exprs.{processPlainExpr}
-use Rattle.analysis.specs.SomeIn.{someVarsIn, nonVars, failIfSome}
-use Rattle.once.specs.SomeIn.{processNonVar, processSomeIn}
-use Rattle.analysis.specs.Statements.{modsOf}
-use Rattle.once.specs.Statements.{processEvery, processLiteral, processStmt, processStmts}
-use Rattle.analysis.specs.Queries.{outputScope}
-use Rattle.once.specs.Queries.{outputCompr, analyzeOutputExpr}
+use Rattle.analysis.specs.Ways.{Way}
+use Rattle.analysis.specs.Comprs.{Mods, propagate, allUsed, processComprs, useExpr}
+use Rattle.analysis.specs.Exprs.{processPlainExpr}
+use Rattle.analysis.specs.SomeIn.{someVarsIn, nonVars, failIfSome, processNonVar, processSomeIn}
+use Rattle.analysis.specs.Statements.{modsOf, processEvery, processLiteral, processStmt, processStmts}
+use Rattle.analysis.specs.Queries.{outputScope, outputCompr, analyzeOutputExpr}
+use Rattle.once.specs.OnceWay.{Nested, analyzeCompr, onceWay}
 use Rattle.once.specs.Own.{define-own, local-own, all-used-own, mods-own}
 use Rattle.once.specs.Steps.{Kept, Rises, Holds, Keeps, Good, good-same, good-end, good-then, good-fold, good-first-uses, good-run, good-fail, good-definitions, good-used, good-propagate, good-one, good-at-least-one, good-checks}
 use Rattle.once.specs.ExprSteps.{named, good-compr, good-comprs, good-expr, good-plain, good-process-expr, good-call}
@@ -45,15 +43,18 @@ module _ (sheet : Sheet) (nested : Nested) (parents : List Scope) (Q : ℕ → B
     (R : List QuerySchedule → Type 0) (k : Kept Q S) (rises : Rises Q R) (unnamed : Q 0 ≡ true)
     (keeps : (ps : List Scope) (q : ℕ) (outs : List Tree) (r : Run) → all (allRows (named Q)) outs ≡ true → R (r .schedules) → R (nested ps q outs r .schedules))
   where
+    abbrev way : Way
+    way = onceWay sheet nested parents
+
     good-non-var : (sc : Scope) (i : ℕ) (m : Mods) → all (allRows (named Q)) (m .comprs) ≡ true → (e : Tree) → allRows (named Q) e ≡ true
-        → Good S R sc (λ s. processNonVar sheet nested parents i m s e)
+        → Good S R sc (λ s. processNonVar sheet way i m s e)
     unfolding processNonVar
     good-non-var sc i m mt e h =
         let cs = comprs e ++ m .comprs in
         let f : State → State = λ t. failIfSome (indexDefinitions sheet (t .scope) [] i e) t in
-        good-then S R sc (gatherUsedVars sheet i [] e) (f ∷ processComprs sheet nested parents cs ∷ []) (good-used S R Q k rises sheet sc i [] e)
-        (good-then S R sc f (processComprs sheet nested parents cs ∷ []) (λ t o g. none-of t o g (indexDefinitions sheet (t .scope) [] i e))
-        (good-then S R sc (processComprs sheet nested parents cs) []
+        good-then S R sc (gatherUsedVars sheet i [] e) (f ∷ processComprs sheet way cs ∷ []) (good-used S R Q k rises sheet sc i [] e)
+        (good-then S R sc f (processComprs sheet way cs ∷ []) (λ t o g. none-of t o g (indexDefinitions sheet (t .scope) [] i e))
+        (good-then S R sc (processComprs sheet way cs) []
         (good-comprs sheet nested parents Q S R k rises unnamed keeps sc cs (all-append (allRows (named Q)) (comprs e) (m .comprs) (comprs-rows (named Q) e h) mt)) (good-end S R sc)))
       where
         none-of : (t : State) → Holds S R t → ((x : ℕ) → owns sc x ≡ true → owns (t .scope) x ≡ true) → (l : List Definition) → Keeps S R t (failIfSome l t)
@@ -62,7 +63,7 @@ module _ (sheet : Sheet) (nested : Nested) (parents : List Scope) (Q : ℕ → B
 
     good-some-in : (sc : Scope) (i : ℕ) (m : Mods) → all (allRows (named Q)) (m .comprs) ≡ true → all (owns sc) (m .usedVars) ≡ true
         → (ls : List Tree) → all (allRows (named Q)) ls ≡ true → (collection : Tree) → allRows (named Q) collection ≡ true
-        → Good S R sc (processSomeIn sheet nested parents i m ls collection)
+        → Good S R sc (processSomeIn sheet way i m ls collection)
     unfolding processSomeIn nonVars
     good-some-in sc i m mt own ls lt collection ct s o h =
         let a = s .scope in
@@ -70,40 +71,40 @@ module _ (sheet : Sheet) (nested : Nested) (parents : List Scope) (Q : ℕ → B
         let names = someVarsIn sheet a ls in
         let others = nonVars sheet a ls in
         let rest : Mods = record { usedVars = []; comprs = m .comprs } in
-        let f2 : State → State = λ t. addDefinitions (map (λ (w : Row). define i (w .name) (allUsed sheet [] m collection t)) names) t in
+        let f2 : State → State = λ t. addDefinitions (map (λ (w : Row). define i (w .name) (allUsed sheet way [] m collection t)) names) t in
         let f3 : State → State = addFirstUses (map spanOf names) in
-        let f4 : State → State = λ t. foldl (processNonVar sheet nested parents i m) t others in
-        let f5 : State → State = λ t. recordOne i 0 (concatMap (λ e. allUsed sheet [] rest e t) others) t in
-        good-then S R a (useExpr sheet nested parents i [] m collection) (f2 ∷ f3 ∷ f4 ∷ f5 ∷ []) (good-expr sheet nested parents Q S R k rises unnamed keeps a i [] m mt collection ct)
+        let f4 : State → State = λ t. foldl (processNonVar sheet way i m) t others in
+        let f5 : State → State = λ t. recordOne i 0 (concatMap (λ e. allUsed sheet way [] rest e t) others) t in
+        good-then S R a (useExpr sheet way i [] m collection) (f2 ∷ f3 ∷ f4 ∷ f5 ∷ []) (good-expr sheet nested parents Q S R k rises unnamed keeps a i [] m mt collection ct)
         (good-then S R a f2 (f3 ∷ f4 ∷ f5 ∷ [])
-        (λ t p g. good-definitions S R Q k rises t (map (λ (w : Row). define i (w .name) (allUsed sheet [] m collection t)) names) p
-        (all-map _ (λ (w : Row). isLocal a (w .name) && not (isInput sheet (w .name))) (λ (w : Row). define i (w .name) (allUsed sheet [] m collection t))
-        (λ w q. define-own (t .scope) i (w .name) (allUsed sheet [] m collection t)
+        (λ t p g. good-definitions S R Q k rises t (map (λ (w : Row). define i (w .name) (allUsed sheet way [] m collection t)) names) p
+        (all-map _ (λ (w : Row). isLocal a (w .name) && not (isInput sheet (w .name))) (λ (w : Row). define i (w .name) (allUsed sheet way [] m collection t))
+        (λ w q. define-own (t .scope) i (w .name) (allUsed sheet way [] m collection t)
         (or-right (eqb (w .name) 0) (owns (t .scope) (w .name)) (g (w .name) (local-own a (w .name) (and-left (isLocal a (w .name)) (not (isInput sheet (w .name))) q))))
-        (all-used-own sheet a [] m collection t g ownA))
+        (all-used-own sheet way a [] m collection t g ownA))
         names (some-local sheet a ls)))
         (good-then S R a f3 (f4 ∷ f5 ∷ []) (good-first-uses S R a (map spanOf names))
         (good-then S R a f4 (f5 ∷ [])
-        (good-fold S R a (allRows (named Q)) (processNonVar sheet nested parents i m) (good-non-var a i m mt) others
+        (good-fold S R a (allRows (named Q)) (processNonVar sheet way i m) (good-non-var a i m mt) others
         (all-filter (allRows (named Q)) (λ e. not (isVar (rowOf e) && (isInput sheet (rowOf e .name) || isLocal a (rowOf e .name)))) ls lt))
         (good-then S R a f5 []
-        (λ t p g. good-one S R Q k rises i 0 (concatMap (λ e. allUsed sheet [] rest e t) others) t p refl
-        (concatMap-always (owns (t .scope)) (λ e. allUsed sheet [] rest e t) (λ e. all-used-own sheet a [] rest e t g refl) others)) (good-end S R a)))))
+        (λ t p g. good-one S R Q k rises i 0 (concatMap (λ e. allUsed sheet way [] rest e t) others) t p refl
+        (concatMap-always (owns (t .scope)) (λ e. allUsed sheet way [] rest e t) (λ e. all-used-own sheet way a [] rest e t g refl) others)) (good-end S R a)))))
         s o (λ x e. e)
 
     good-every : (sc : Scope) (i : ℕ) (m : Mods) → all (allRows (named Q)) (m .comprs) ≡ true → all (owns sc) (m .usedVars) ≡ true
-        → (key value domain : Tree) → allRows (named Q) domain ≡ true → (query : ℕ) → Good S R sc (processEvery sheet nested parents i m key value domain query)
+        → (key value domain : Tree) → allRows (named Q) domain ≡ true → (query : ℕ) → Good S R sc (processEvery sheet way i m key value domain query)
     unfolding processEvery
     good-every sc i m mt own key value domain dt query =
         let inner : Scope = foldl addLocal noScope (vars (chain key ++ chain value)) in
         let f : State → State = λ t. setRun (nested (inner ∷ (t .scope ∷ parents)) query [] (t .run)) t in
-        good-then S R sc (processPlainExpr sheet nested parents i m domain) (f ∷ []) (good-plain sheet nested parents Q S R k rises unnamed keeps sc i m mt own domain dt)
+        good-then S R sc (processPlainExpr sheet way i m domain) (f ∷ []) (good-plain sheet nested parents Q S R k rises unnamed keeps sc i m mt own domain dt)
         (good-then S R sc f []
         (λ t o g. good-run S R t (nested (inner ∷ (t .scope ∷ parents)) query [] (t .run)) o (keeps (inner ∷ (t .scope ∷ parents)) query [] (t .run) refl (o .table)))
         (good-end S R sc))
 
     good-literal : (sc : Scope) (i : ℕ) (m : Mods) → all (allRows (named Q)) (m .comprs) ≡ true → all (owns sc) (m .usedVars) ≡ true
-        → (l : Literal) → literalRows (named Q) l ≡ true → Good S R sc (processLiteral sheet nested parents i m l)
+        → (l : Literal) → literalRows (named Q) l ≡ true → Good S R sc (processLiteral sheet way i m l)
     unfolding processLiteral
     good-literal sc i m mt own (someVars vs) h = good-checks S R Q k rises sc (vars (chain vs))
     good-literal sc i m mt own (someIn key value collection) h =
@@ -120,12 +121,12 @@ module _ (sheet : Sheet) (nested : Nested) (parents : List Scope) (Q : ℕ → B
     unfolding modsOf
     mods-rows sc mods h = all-concatMap (allRows (named Q)) (allRows (named Q)) comprs (comprs-rows (named Q)) mods h
 
-    pub good-stmt : (sc : Scope) (i : ℕ) (st : Stmt) → stmtRows (named Q) st ≡ true → Good S R sc (processStmt sheet nested parents i st)
+    pub good-stmt : (sc : Scope) (i : ℕ) (st : Stmt) → stmtRows (named Q) st ≡ true → Good S R sc (processStmt sheet way i st)
     unfolding processStmt
     good-stmt sc i st h =
         let mt = and-left _ (literalRows (named Q) (st .literal)) h in
         let f1 : State → State = λ t. foldl (λ u e. inTurn (gatherUsedVars sheet i [] e ∷ []) u) t (st .withMods) in
-        let f2 : State → State = λ t. processLiteral sheet nested parents i (modsOf sheet (t .scope) (st .withMods)) (st .literal) t in
+        let f2 : State → State = λ t. processLiteral sheet way i (modsOf sheet (t .scope) (st .withMods)) (st .literal) t in
         good-then S R sc f1 (f2 ∷ atLeastOne i ∷ [])
         (good-fold S R sc (allRows (named Q)) (λ u e. inTurn (gatherUsedVars sheet i [] e ∷ []) u)
         (λ e q. good-then S R sc (gatherUsedVars sheet i [] e) [] (good-used S R Q k rises sheet sc i [] e) (good-end S R sc)) (st .withMods) mt)
@@ -134,19 +135,19 @@ module _ (sheet : Sheet) (nested : Nested) (parents : List Scope) (Q : ℕ → B
         (st .literal) (and-right (all (allRows (named Q)) (st .withMods)) _ h) t o (λ x e. e))
         (good-then S R sc (atLeastOne i) [] (good-at-least-one S R Q k rises sc i) (good-end S R sc)))
 
-    pub good-stmts : (sc : Scope) (stmts : List Stmt) → all (stmtRows (named Q)) stmts ≡ true → (i : ℕ) → Good S R sc (processStmts sheet nested parents i stmts)
+    pub good-stmts : (sc : Scope) (stmts : List Stmt) → all (stmtRows (named Q)) stmts ≡ true → (i : ℕ) → Good S R sc (processStmts sheet way i stmts)
     unfolding processStmts
     good-stmts sc [] t i s o h = record { holds = o; grows = λ x e. e }
     good-stmts sc (st ∷ stmts) t i s o h =
-        let a = good-then S R sc (processStmt sheet nested parents i st) [] (good-stmt sc i st (and-left (stmtRows (named Q) st) _ t)) (good-end S R sc) s o h in
-        let r = good-stmts sc stmts (and-right (stmtRows (named Q) st) _ t) (suc i) (inTurn (processStmt sheet nested parents i st ∷ []) s) (a .holds) (λ x e. a .grows x (h x e)) in
+        let a = good-then S R sc (processStmt sheet way i st) [] (good-stmt sc i st (and-left (stmtRows (named Q) st) _ t)) (good-end S R sc) s o h in
+        let r = good-stmts sc stmts (and-right (stmtRows (named Q) st) _ t) (suc i) (inTurn (processStmt sheet way i st ∷ []) s) (a .holds) (λ x e. a .grows x (h x e)) in
         record { holds = r .holds; grows = λ x e. r .grows x (a .grows x e) }
 
-    pub good-outputs : (sc : Scope) (outputs : List Tree) → all (allRows (named Q)) outputs ≡ true → Good S R sc (λ s. foldl (analyzeOutputExpr sheet nested parents) s outputs)
+    pub good-outputs : (sc : Scope) (outputs : List Tree) → all (allRows (named Q)) outputs ≡ true → Good S R sc (λ s. foldl (analyzeOutputExpr sheet way) s outputs)
     unfolding analyzeOutputExpr outputCompr
     good-outputs sc outputs h =
-        good-fold S R sc (allRows (named Q)) (analyzeOutputExpr sheet nested parents)
-        (λ t q. good-fold S R sc (allRows (named Q)) (outputCompr sheet nested parents)
-        (λ e r s o g. good-then S R sc (analyzeCompr sheet nested parents (outputScope (s .scope) ∷ parents) e) (propagate e ∷ [])
+        good-fold S R sc (allRows (named Q)) (analyzeOutputExpr sheet way)
+        (λ t q. good-fold S R sc (allRows (named Q)) (outputCompr sheet way)
+        (λ e r s o g. good-then S R sc (analyzeCompr nested (outputScope (s .scope) ∷ parents) e) ((λ u. propagate sheet way (outputScope (u .scope)) e u) ∷ [])
         (good-compr sheet nested parents Q S R k rises unnamed keeps sc (outputScope (s .scope) ∷ parents) e r)
-        (good-then S R sc (propagate e) [] (good-propagate S R Q k rises sc e) (good-end S R sc)) s o g) (comprs t) (comprs-rows (named Q) t q)) outputs h
+        (good-then S R sc (λ u. propagate sheet way (outputScope (u .scope)) e u) [] (good-propagate S R Q k rises sheet nested parents sc (λ u. outputScope (u .scope)) e) (good-end S R sc)) s o g) (comprs t) (comprs-rows (named Q) t q)) outputs h

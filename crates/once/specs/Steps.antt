@@ -19,7 +19,9 @@ use Rattle.scopes.specs.Scopes.{Scope, Span, spanOf, spanIn, isLocal, owns, add
 use Rattle.uses.specs.Uses.{define, readsInput, undefinedVar, variablesUsed, indexDefinitions}
 use Rattle.analysis.specs.States.{scopeIn, scheduleOf, Fault, sound, undefined, usedBefore, lengths, indexVariable, QuerySchedule, Run, State, setScope, addFirstUses, addDefinitions, setRun, fail, ifSound, inTurn, failOr}
 use Rattle.analysis.specs.Using.{undefinedAt, gatherUsedVars, usedBeforeAt, checkFirstUse, checkAssigned, recordOne, recordEach, unlessSome, atLeastOne}
-use Rattle.once.specs.Comprs.{comprScope, comprInputs, comprsUse, propagate, useCompr}
+use Rattle.analysis.specs.Ways.{Way}
+use Rattle.analysis.specs.Comprs.{propagate, comprsUse, useCompr}
+use Rattle.once.specs.OnceWay.{Nested, comprScope, comprInputs, onceWay}
 use Rattle.once.specs.Own.{ownDefinition, Grows, own-grows, define-own, grows-flag, grows-inputs, index-own}
 
 -- Each change keeps S: names that pass Q are added to the inputs or, from an extra argument, to unscoped; the flag is set; own definitions
@@ -132,19 +134,20 @@ module _ (S : Scope → List Definition → Type 0) (R : List QuerySchedule → 
         (good-end a))))
         s o (λ x e. e)
 
-    pub good-propagate : (sc : Scope) (e : Tree) → Good sc (propagate e)
-    unfolding propagate comprInputs
-    good-propagate sc e s o h =
+    pub good-propagate : (sheet : Sheet) (nested : Nested) (parents : List Scope) (sc : Scope) (p : State → Scope) (e : Tree)
+        → Good sc (λ s. propagate sheet (onceWay sheet nested parents) (p s) e s)
+    unfolding propagate
+    good-propagate sheet nested parents sc p e s o h =
         let b = comprScope s e .usesInput in
         let l = filter (λ x. not (owns (s .scope) x)) (comprInputs s e) in
         good-scope s (foldl addInput (useInput b (s .scope)) l) o
         (inputs-kept l (all-filter Q (λ x. not (owns (s .scope) x)) (comprInputs s e) (rises (s .run .schedules) (o .table) (rowOf e .third))) (useInput b (s .scope)) (s .definitions) (k .flag (s .scope) (s .definitions) b (o .here)))
         (λ x q. grows-inputs l (useInput b (s .scope)) x (grows-flag b (s .scope) x q))
 
-    pub good-use-compr : (sc : Scope) (e : Tree) → Good sc (useCompr e)
+    pub good-use-compr : (sheet : Sheet) (way : Way) (sc : Scope) (e : Tree) → Good sc (useCompr sheet way e)
     unfolding useCompr
-    good-use-compr sc e s o h =
-        good-first-uses sc (map (λ x. record { name = x; line = rowOf e .line; col = rowOf e .col }) (comprsUse (e ∷ []) s)) s o h
+    good-use-compr sheet way sc e s o h =
+        good-first-uses sc (map (λ x. record { name = x; line = rowOf e .line; col = rowOf e .col }) (comprsUse sheet way (e ∷ []) s)) s o h
 
     -- ---- recording
 

@@ -30,7 +30,7 @@ use Rattle.scopes.specs.Scopes.{owns}
 use Rattle.analysis.specs.States.{sound, QuerySchedule}
 use Rattle.analysis.specs.Queries.{definitionsIn}
 use Rattle.analysis.specs.RustWay.{analyzeQuerySnippet, scheduleIn}
-use Rattle.once.specs.Queries.{analyzeQuerySnippetOnce, scheduleOnce, recordedOnce}
+use Rattle.once.specs.OnceWay.{analyzeQuerySnippetOnce, scheduleOnce, recordedOnce}
 use Rattle.once.specs.Own.{ownDefinition}
 use Rattle.once.specs.OwnNames.{own-names}
 use Rattle.once.specs.Named.{found-in, scopes-below, recorded-named}

@@ -12,7 +12,7 @@ use Rattle.sheet.specs.Verdict.{readCounts, readSpecial, readTables, verdict}
 use Rattle.sheet.specs.Passed.{verdict-read}
 use Rattle.analysis.specs.States.{sound, QuerySchedule}
 use Rattle.analysis.specs.RustWay.{analyzeQuerySnippet, scheduleIn}
-use Rattle.once.specs.Queries.{scheduleOnce}
+use Rattle.once.specs.OnceWay.{scheduleOnce}
 use Rattle.once.specs.Named.{NamesBelow}
 use Rattle.sizes.specs.LowNames.{low-names}
 use Rattle.repeats.specs.Accepted.{accepted-fault, accepted-schedules}

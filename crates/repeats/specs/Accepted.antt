@@ -1,5 +1,5 @@
 -- In every sheet that passes question 6 each query stands at one place. So the Rust's analysis of it, which analyses a query again wherever
--- it meets its comprehension, has the same fault and the same schedules as the definitions.
+-- it meets its comprehension, has the same fault and the same schedules as the code's way.
 use mathlib.Core.Path.{_≡_}
 use mathlib.Core.Bool.{true}
 use mathlib.Core.List.{List, []}
@@ -13,8 +13,8 @@ use Rattle.accepted.specs.Accepted.{accepted}
 use Rattle.accepted.specs.Facts.{sheet-facts}
 use Rattle.trees.specs.Sheet.{sheetOf}
 use Rattle.analysis.specs.States.{sound, scheduleOf}
-use Rattle.once.specs.Queries.{analyzeQuerySnippetOnce, scheduleOnce}
 use Rattle.analysis.specs.RustWay.{analyzeQuerySnippet}
+use Rattle.once.specs.OnceWay.{analyzeQuerySnippetOnce, scheduleOnce}
 use Rattle.repeats.specs.Places.{family}
 use Rattle.repeats.specs.QueryRepeats.{queriesOnce, rust-fault, rust-schedules}
 use Rattle.repeats.specs.Counting.{once-distinct}
@@ -35,11 +35,11 @@ module _ (c : Counts) (x : Special) (t : List ℕ) (few : Within c) (none : firs
         first-at-most c x t (sheet-facts c (inTables t) few none) (accepted c (inTables t) none) (times k sheet deepest) (few .some-query) k (times-few k sheet deepest),
       ))
 
-  -- The Rust's fault is that of the definitions.
+  -- The Rust's fault is that of the code's way.
   pub accepted-fault : analyzeQuerySnippet (sheetOf c x t) .fault ≡ analyzeQuerySnippetOnce (sheetOf c x t) .fault
   accepted-fault = rust-fault (sheetOf c x t) accepted-once
 
-  -- Without a fault each query's schedule in the Rust's table, the last that it wrote, is that of the definitions.
+  -- Without a fault each query's schedule in the Rust's table, the last that it wrote, is that of the code's way.
   pub accepted-schedules : analyzeQuerySnippetOnce (sheetOf c x t) .fault ≡ sound
       → (q : ℕ) → scheduleOf (analyzeQuerySnippet (sheetOf c x t) .schedules) q ≡ scheduleOnce (sheetOf c x t) q
   accepted-schedules = rust-schedules (sheetOf c x t) accepted-once

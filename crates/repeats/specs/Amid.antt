@@ -68,7 +68,7 @@ module _ (levels : ℕ) (sheet : Sheet) (parents : List Scope) (T₀ : List Quer
 
   -- ---- a comprehension
 
-  -- A held one: skipped by the definitions, analysed again by the Rust.
+  -- A held one: skipped by the code's way, analysed again by the Rust.
   pub amid-held : (C : List Tree) (P : List ℕ) (K : List Tree) (e : Tree) → List·Memᴰ e C → (sc : Scope) (T U : List QuerySchedule)
       → Amid C P K sc T U → HeldAt sc e T → Amid C P (e ∷ K) sc T (runOf sc e .schedules ++ U)
   amid-held C P K e m sc T U r h = record {

@@ -18,17 +18,14 @@ use Rattle.uses.specs.Uses.{define, nameOf, assignedVars, indexVars, readsInput
 use Rattle.uses.specs.FirstUses.{addFirstUse}
 use Rattle.analysis.specs.States.{QuerySchedule, setScope, addFirstUses, addDefinitions, setRun, fail}
 use Rattle.analysis.specs.Using.{gatherUsedVars, checkFirstUse, checkAssigned, recordOne, recordEach, atLeastOne}
-use Rattle.once.specs.Comprs.{comprInputs, propagate, comprsUse, useCompr, allUsed, analyzeCompr, processCompr, processComprs, useExpr}
-use Rattle.analysis.specs.Exprs.{pairings, assignOneWay as assignOneWayBy, assignPairing as assignPairingBy, processAssignExpr as processAssignExprBy, processPlainExpr as processPlainExprBy, processExpr as processExprBy, processExtraArg as processExtraArgBy, processCall as processCallBy}
-use Rattle.once.specs.Exprs.{assignOneWay, assignPairing, processAssignExpr, processPlainExpr, processExpr, extraVars, processExtraArg}
-use Rattle.analysis.specs.Statements.{modsOf, processLiteral as processLiteralBy, processStmt as processStmtBy, processStmts as processStmtsBy}
-use Rattle.once.specs.Statements.{processLiteral, processStmt, processStmts}
-use Rattle.analysis.specs.Queries.{outputScope, scheduled, outputCompr as outputComprBy, analyzeOutputExpr as analyzeOutputExprBy, analyzeQuery as analyzeQueryBy}
-use Rattle.once.specs.Queries.{outputCompr, analyzeOutputExpr, analyzeQuery, analyzeOnce, analyzeQuerySnippetOnce}
+use Rattle.analysis.specs.Comprs.{propagate, comprsUse, useCompr, allUsed, processCompr, processComprs, useExpr}
+use Rattle.analysis.specs.Exprs.{pairings, assignOneWay, assignPairing, processAssignExpr, processPlainExpr, processExpr, processExtraArg, processCall}
+use Rattle.analysis.specs.Statements.{modsOf, processLiteral, processStmt, processStmts}
+use Rattle.analysis.specs.Queries.{outputScope, scheduled, outputCompr, analyzeOutputExpr, analyzeQuery}
+use Rattle.analysis.specs.RustWay.{take, rustWay, analyze, analyzeQuerySnippet}
+use Rattle.once.specs.OnceWay.{analyzeCompr, analyzeOnce, analyzeQuerySnippetOnce}
 use Rattle.repeats.specs.Events.{varsSeen}
 use Rattle.repeats.specs.RustWalk.{rustWalk}
-use Rattle.analysis.specs.Comprs.{propagate as propagateBy, comprsUse as comprsUseBy, useCompr as useComprBy, allUsed as allUsedBy, processCompr as processComprBy, processComprs as processComprsBy, useExpr as useExprBy}
-use Rattle.analysis.specs.RustWay.{take, rustWay, analyze, analyzeQuerySnippet}
 use Rattle.repeats.specs.Places.{exprComprs, literalComprs, stmtComprs, named, family}
 use Rattle.repeats.specs.QueryRepeats.{queriesOnce}
 
@@ -70,12 +67,12 @@ queryOf a = a .query
 
 -- What the Rust's analysis computes with.
 unfoldable rustQueries : Sheet → List ℕ
-unfolding analyzeQuerySnippet analyze rustWay take propagateBy comprsUseBy useComprBy allUsedBy processComprBy processComprsBy useExprBy assignOneWayBy assignPairingBy processAssignExprBy processPlainExprBy processExprBy processExtraArgBy processCallBy processLiteralBy processStmtBy processStmtsBy outputComprBy analyzeOutputExprBy analyzeQueryBy range isInput isSpecial decode treeAt chain traverse leaves getPathString getExtraArg literalOf stmtsFrom stmtsOf empty contains insert remove elements addLocal addUnscoped addInput useInput removeAll removeShadowed owns varExists assignVar gatherAssignedVars inputVar gatherInputVars loopVar gatherLoopVars gatherRead gatherVars gatherExpr gatherLiteral gatherStmt gatherLocalVars define assignedVars indexVars readsInput isUndefined undefinedVar isUse usedAt usedVars variablesUsed indexDefinitionsAt indexDefinitions addFirstUse setScope addFirstUses addDefinitions setRun fail gatherUsedVars checkFirstUse checkAssigned recordOne recordEach atLeastOne pairings modsOf outputScope scheduled
+unfolding analyzeQuerySnippet analyze rustWay take propagate comprsUse useCompr allUsed processCompr processComprs useExpr assignOneWay assignPairing processAssignExpr processPlainExpr processExpr processExtraArg processCall processLiteral processStmt processStmts outputCompr analyzeOutputExpr analyzeQuery range isInput isSpecial decode treeAt chain traverse leaves getPathString getExtraArg literalOf stmtsFrom stmtsOf empty contains insert remove elements addLocal addUnscoped addInput useInput removeAll removeShadowed owns varExists assignVar gatherAssignedVars inputVar gatherInputVars loopVar gatherLoopVars gatherRead gatherVars gatherExpr gatherLiteral gatherStmt gatherLocalVars define assignedVars indexVars readsInput isUndefined undefinedVar isUse usedAt usedVars variablesUsed indexDefinitionsAt indexDefinitions addFirstUse setScope addFirstUses addDefinitions setRun fail gatherUsedVars checkFirstUse checkAssigned recordOne recordEach atLeastOne pairings modsOf outputScope scheduled
 rustQueries s = map queryOf (analyzeQuerySnippet s .schedules)
 
--- And that of the definitions.
+-- And the code's way.
 unfoldable queries : Sheet → List ℕ
-unfolding analyzeQuerySnippetOnce analyzeOnce analyzeQuery analyzeOutputExpr outputCompr processStmts processStmt processLiteral processExtraArg extraVars processExpr processPlainExpr processAssignExpr assignPairing assignOneWay useExpr processComprs processCompr analyzeCompr allUsed useCompr comprsUse propagate comprInputs range isInput isSpecial decode treeAt chain traverse leaves getPathString getExtraArg literalOf stmtsFrom stmtsOf empty contains insert remove elements addLocal addUnscoped addInput useInput removeAll removeShadowed owns varExists assignVar gatherAssignedVars inputVar gatherInputVars loopVar gatherLoopVars gatherRead gatherVars gatherExpr gatherLiteral gatherStmt gatherLocalVars define assignedVars indexVars readsInput isUndefined undefinedVar isUse usedAt usedVars variablesUsed indexDefinitionsAt indexDefinitions addFirstUse setScope addFirstUses addDefinitions setRun fail gatherUsedVars checkFirstUse checkAssigned recordOne recordEach atLeastOne pairings modsOf outputScope scheduled
+unfolding analyzeQuerySnippetOnce analyzeOnce analyzeCompr propagate comprsUse useCompr allUsed processCompr processComprs useExpr assignOneWay assignPairing processAssignExpr processPlainExpr processExpr processExtraArg processCall processLiteral processStmt processStmts outputCompr analyzeOutputExpr analyzeQuery range isInput isSpecial decode treeAt chain traverse leaves getPathString getExtraArg literalOf stmtsFrom stmtsOf empty contains insert remove elements addLocal addUnscoped addInput useInput removeAll removeShadowed owns varExists assignVar gatherAssignedVars inputVar gatherInputVars loopVar gatherLoopVars gatherRead gatherVars gatherExpr gatherLiteral gatherStmt gatherLocalVars define assignedVars indexVars readsInput isUndefined undefinedVar isUse usedAt usedVars variablesUsed indexDefinitionsAt indexDefinitions addFirstUse setScope addFirstUses addDefinitions setRun fail gatherUsedVars checkFirstUse checkAssigned recordOne recordEach atLeastOne pairings modsOf outputScope scheduled
 queries s = map queryOf (analyzeQuerySnippetOnce s .schedules)
 
 -- The Rust analyses the comprehension's query four times, once for each pair and direction.
@@ -83,7 +80,7 @@ analyzed-four-times : rustQueries sheet ≡ 1 ∷ 2 ∷ 2 ∷ 2 ∷ 2 ∷ []
 unfolding rustQueries
 analyzed-four-times = refl
 
--- The definitions do so once.
+-- The code's way does so once.
 analyzed-once : queries sheet ≡ 1 ∷ 2 ∷ []
 unfolding queries
 analyzed-once = refl

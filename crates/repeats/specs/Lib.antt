@@ -8,7 +8,6 @@ pub mod OnceLists
 pub mod OnceSets
 pub mod BracketRepeats
 pub mod SameOuter
-pub mod MemoWay
 pub mod SameParents
 pub mod RustSame
 pub mod Beside
@@ -24,7 +23,7 @@ pub mod Distinct
 pub mod LookUps
 pub mod RustWrites
 pub mod Amid
-pub mod MemoRust
+pub mod OnceRust
 pub mod QueryRepeats
 pub mod Gated
 pub mod TakenComprs

@@ -1,5 +1,5 @@
 -- A query analysed under other parents with the same locals and unscoped comes to the same run: the same schedules and the same fault.
-use mathlib.Core.Path.{_≡_, refl, sym, ap, _∙_}
+use mathlib.Core.Path.{_≡_, refl, ap}
 use mathlib.Core.Bool.{false}
 use mathlib.Core.List.{List, [], _∷_}
 use Prim.Native.Nat.{ℕ, zero, suc}
@@ -8,20 +8,17 @@ use Rattle.trees.specs.Trees.{rowOf, outputsOf}
 use Rattle.scopes.specs.NameSets.{elements}
 use Rattle.scopes.specs.Scopes.{Scope, noScope}
 use Rattle.analysis.specs.States.{scheduleOf, setRun}
-use Rattle.once.specs.Comprs.{Nested, comprScope, unlessScheduled, analyzeCompr}
-use Rattle.once.specs.Exprs.{extraVars}
-use Rattle.once.specs.Queries.{analyzeOnce}
-use Rattle.repeats.specs.SameOuter.{SameOuter, below, same-own, varExists-same, gatherAssignedVars-same, gatherLocalVars-same}
 use Rattle.analysis.specs.Queries.{analyzeQuery}
-use Rattle.repeats.specs.MemoWay.{memoWay, analyzeQuery-memo}
+use Rattle.once.specs.OnceWay.{Nested, comprScope, unlessScheduled, analyzeCompr, onceWay, analyzeOnce}
+use Rattle.repeats.specs.SameOuter.{SameOuter, below, same-own, varExists-same, gatherAssignedVars-same, gatherLocalVars-same}
 
 -- The way below such parents is the same, if the analysis of what is nested is.
-memoWay-same : (sheet : Sheet) (nested : Nested) {ps qs : List Scope} → SameOuter ps qs
+onceWay-same : (sheet : Sheet) (nested : Nested) {ps qs : List Scope} → SameOuter ps qs
     → ((sc : Scope) → nested (sc ∷ ps) ≡ nested (sc ∷ qs))
     → ((inner sc : Scope) → nested (inner ∷ (sc ∷ ps)) ≡ nested (inner ∷ (sc ∷ qs)))
-    → memoWay sheet nested ps ≡ memoWay sheet nested qs
-unfolding memoWay analyzeCompr extraVars
-memoWay-same sheet nested {ps} {qs} h deeper twice =
+    → onceWay sheet nested ps ≡ onceWay sheet nested qs
+unfolding analyzeCompr
+onceWay-same sheet nested {ps} {qs} h deeper twice =
     λ i.
     record {
       start = gatherLocalVars-same sheet ps qs (varExists-same h) i;
@@ -39,8 +36,6 @@ unfolding analyzeOnce
 analyzeOnce-same zero sheet h = refl
 analyzeOnce-same (suc levels) sheet {ps} {qs} h =
     let nested : Nested = λ os q outputs r. analyzeOnce levels sheet os q outputs r in
-    analyzeQuery-memo sheet nested ps
-    ∙ ap (analyzeQuery sheet)
-    (memoWay-same sheet nested h (λ sc. analyzeOnce-same levels sheet (below (same-own sc) h))
+    ap (analyzeQuery sheet)
+    (onceWay-same sheet nested h (λ sc. analyzeOnce-same levels sheet (below (same-own sc) h))
     (λ inner sc. analyzeOnce-same levels sheet (below (same-own inner) (below (same-own sc) h))))
-    ∙ sym (analyzeQuery-memo sheet nested qs)

@@ -1,5 +1,5 @@
--- The definitions' way and the Rust's side by side: where each query stands at one place, a comprehension that the definitions skip is one
--- whose second analysis changes nothing in the table.
+-- The code's way and the Rust's side by side: where each query stands at one place, a comprehension that the code's way skips is one whose
+-- second analysis changes nothing in the table.
 use mathlib.Core.Path.{_≡_, refl, sym, ap, _∙_, subst, subst₂}
 use mathlib.Core.Bool.{Bool, true, false, cond, not}
 use mathlib.Core.List.{List, [], _∷_, _++_, map, foldl, append-nil, List·Memᴰ, List·Memᴰ·not-nil}
@@ -18,14 +18,11 @@ use Rattle.trees.specs.Statements.{Stmt, stmtsOf}
 use Rattle.scopes.specs.Scopes.{Scope, Span, addUnscoped}
 use Rattle.scopes.specs.NameSets.{insert}
 use Rattle.analysis.specs.States.{Fault, sound, QuerySchedule, Run, State, scheduleOf, scopeIn, setRun}
-use Rattle.once.specs.Comprs.{Nested, unlessScheduled, analyzeCompr}
-use Rattle.once.specs.Exprs.{extraVars}
 use Rattle.analysis.specs.Queries.{outputScope, analyzeQuery}
-use Rattle.once.specs.Queries.{analyzeOnce}
+use Rattle.analysis.specs.RustWay.{noRun, take, rustWay, analyze}
+use Rattle.once.specs.OnceWay.{Nested, unlessScheduled, analyzeCompr, onceWay, analyzeOnce}
 use Rattle.repeats.specs.SameOuter.{SameOwn}
 use Rattle.repeats.specs.Distinct.{distinct, apart-sym, elem-left, elem-right, distinct-left, distinct-right, distinct-apart, elem-concatMap, distinct-part}
-use Rattle.repeats.specs.MemoWay.{memoWay, analyzeQuery-memo}
-use Rattle.analysis.specs.RustWay.{noRun, take, rustWay, analyze}
 use Rattle.repeats.specs.Places.{stmtComprs, bodyOf, comprFamily, named, family}
 use Rattle.repeats.specs.Beside.{isSound, Own, stateOf, Tables, Beside, failed, going}
 use Rattle.repeats.specs.CoupledStmts.{StmtCoupling}
@@ -35,7 +32,7 @@ use Rattle.repeats.specs.RustWrites.{take-sound, family-has, rust-only, 
 use Rattle.repeats.specs.LookUps.{SameTable, Fresh, Only, Held, same-behind, fresh-kept}
 use Rattle.repeats.specs.Amid.{runOf, HeldAt, Amid, amid-again, amid-weaken, amid-held, amid-fresh}
 
--- What the definitions' run m and the Rust's run r of a query come to, where m began with the table T: one fault, or the same schedules.
+-- What the code's run m and the Rust's run r of a query come to, where m began with the table T: one fault, or the same schedules.
 pub data Agree (T : List QuerySchedule) (m r : Run) : Type 0 where
   stopped : m .fault ≡ r .fault → isSound (m .fault) ≡ false → Agree T m r
   agreed : m .fault ≡ sound → r .fault ≡ sound → SameTable (m .schedules) (r .schedules ++ T) → Agree T m r
@@ -54,16 +51,16 @@ setRun-sound r o T h =
     }) h
 
 -- A comprehension whose run is held is skipped.
-memo-held : (levels : ℕ) (sheet : Sheet) (parents ps : List Scope) (e : Tree) (o : Own) (T : List QuerySchedule)
+once-held : (levels : ℕ) (sheet : Sheet) (ps : List Scope) (e : Tree) (o : Own) (T : List QuerySchedule)
     → Held (analyze levels sheet ps (rowOf e .third) (outputsOf e)) (rowOf e .third) T
-    → analyzeCompr sheet (λ os q outputs r. analyzeOnce levels sheet os q outputs r) parents ps e (stateOf o T) ≡ stateOf o T
+    → analyzeCompr (λ os q outputs r. analyzeOnce levels sheet os q outputs r) ps e (stateOf o T) ≡ stateOf o T
 unfolding analyzeCompr analyzeOnce setRun
-memo-held zero sheet parents ps e o T h = go (scheduleOf T (rowOf e .third))
+once-held zero sheet ps e o T h = go (scheduleOf T (rowOf e .third))
   where
     go : (a : Option QuerySchedule) → unlessScheduled a (λ t. t) (stateOf o T) ≡ stateOf o T
     go none = refl
     go (some a) = refl
-memo-held (suc levels) sheet parents ps e o T h =
+once-held (suc levels) sheet ps e o T h =
     go (scheduleOf T (rowOf e .third))
     (ap isSome (h .look) ∙ rust-own levels sheet ps (rowOf e .third) (outputsOf e) (h .isSound))
     (λ t. setRun (analyzeOnce (suc levels) sheet ps (rowOf e .third) (outputsOf e) (t .run)) t)
@@ -96,7 +93,7 @@ module _ (levels : ℕ) (sheet : Sheet)
     → Fresh (family levels sheet q outputs) T
     → Agree T (analyzeOnce levels sheet ps q outputs (record { schedules = T; fault = sound })) (analyze levels sheet ps q outputs))
     (parents : List Scope) (T₀ : List QuerySchedule) where
-  -- The definitions' analysis of what is nested.
+  -- The code's analysis of what is nested.
   abbrev nested : Nested
   nested os q outputs r = analyzeOnce levels sheet os q outputs r
 
@@ -104,7 +101,7 @@ module _ (levels : ℕ) (sheet : Sheet)
   abbrev answer : List Scope → ℕ → List Tree → Run
   answer os q outputs = analyze levels sheet os q outputs
 
-  -- The run that the definitions' analysis of a fresh query gives, beside the Rust's.
+  -- The run that the code's analysis of a fresh query gives, beside the Rust's.
   entered : (σ : Tables) (ps : List Scope) (q : ℕ) (ts : List Tree) (o : Own) (T U : List QuerySchedule) → distinct (family levels sheet q ts) ≡ true
       → Fresh (family levels sheet q ts) T
       → ((T₁ : List QuerySchedule) → answer ps q ts .fault ≡ sound → SameTable T₁ (answer ps q ts .schedules ++ T)
@@ -122,10 +119,10 @@ module _ (levels : ℕ) (sheet : Sheet)
           subst₂ (λ (a b : State). Beside σ a b) (sym (setRun-sound m o T s)) (sym (take-sound (answer ps q ts) o U u))
           (going o (m .schedules) (answer ps q ts .schedules ++ U) (k (m .schedules) u now))
 
-  -- Both analyse a comprehension, or the definitions skip it.
+  -- Both analyse a comprehension, or the code's way skips it.
   enter : (C : List Tree) (P : List ℕ) (σ : Tables) (e : Tree) → List·Memᴰ e C → (K : List Tree) (sc : Scope) (o : Own) (T U : List QuerySchedule)
       → Amid levels sheet parents T₀ C P K sc T U → ((A B : List QuerySchedule) → Amid levels sheet parents T₀ C P (e ∷ K) sc A B → σ (o .scope) A B)
-      → Beside σ (analyzeCompr sheet nested parents (sc ∷ parents) e (stateOf o T)) (take (runOf levels sheet parents T₀ sc e) (stateOf o U))
+      → Beside σ (analyzeCompr nested (sc ∷ parents) e (stateOf o T)) (take (runOf levels sheet parents T₀ sc e) (stateOf o U))
   unfolding analyzeCompr
   enter C P σ e m K sc o T U r k =
       let cf = comprFamily (family levels sheet) in
@@ -139,7 +136,7 @@ module _ (levels : ℕ) (sheet : Sheet)
       (distinct-part cf C (distinct-left (concatMap cf C) P (r .apart)) e m) f
       (λ T₁ s now. k T₁ (runOf levels sheet parents T₀ sc e .schedules ++ U) (amid-fresh levels sheet parents T₀ C P K e m sc T U T₁ r f s now))))
       (λ (h : HeldAt levels sheet parents T₀ sc e T).
-      subst₂ (λ (a b : State). Beside σ a b) (sym (memo-held levels sheet parents (sc ∷ parents) e o T h))
+      subst₂ (λ (a b : State). Beside σ a b) (sym (once-held levels sheet (sc ∷ parents) e o T h))
       (sym (take-sound (runOf levels sheet parents T₀ sc e) o U (h .isSound)))
       (going o T (runOf levels sheet parents T₀ sc e .schedules ++ U)
       (k T (runOf levels sheet parents T₀ sc e .schedules ++ U) (amid-held levels sheet parents T₀ C P K e m sc T U r h))))
@@ -155,8 +152,8 @@ module _ (levels : ℕ) (sheet : Sheet)
 
   -- Both go through a statement.
   stmt-coupling : (outputs : List Tree) (st : Stmt) (stmts : List Stmt)
-      → StmtCoupling sheet (memoWay sheet nested parents) (rustWay sheet answer parents) st (Before outputs (st ∷ stmts)) (Before outputs stmts)
-  unfolding memoWay rustWay named
+      → StmtCoupling sheet (onceWay sheet nested parents) (rustWay sheet answer parents) st (Before outputs (st ∷ stmts)) (Before outputs stmts)
+  unfolding rustWay named
   stmt-coupling outputs st stmts =
       let cf = comprFamily (family levels sheet) in
       let C = stmtComprs sheet st in
@@ -206,8 +203,8 @@ module _ (levels : ℕ) (sheet : Sheet)
 
   -- Both go through the outputs.
   output-coupling : (outputs : List Tree)
-      → OutputCoupling (memoWay sheet nested parents) (rustWay sheet answer parents) (concatMap comprs outputs)
-  unfolding memoWay rustWay
+      → OutputCoupling (onceWay sheet nested parents) (rustWay sheet answer parents) (concatMap comprs outputs)
+  unfolding rustWay
   output-coupling outputs =
       let C = concatMap comprs outputs in
       record {
@@ -247,25 +244,21 @@ module _ (levels : ℕ) (sheet : Sheet)
   -- The claim, one level up.
   agree-more : (q : ℕ) (outputs : List Tree) → distinct (q ∷ named (family levels sheet) sheet (stmtsOf sheet q) outputs) ≡ true
       → Fresh (q ∷ named (family levels sheet) sheet (stmtsOf sheet q) outputs) T₀
-      → Agree T₀ (analyzeQuery sheet (memoWay sheet nested parents) q outputs (record { schedules = T₀; fault = sound }))
+      → Agree T₀ (analyzeQuery sheet (onceWay sheet nested parents) q outputs (record { schedules = T₀; fault = sound }))
       (analyzeQuery sheet (rustWay sheet answer parents) q outputs noRun)
-  unfolding memoWay rustWay extraVars output-coupling
+  unfolding rustWay output-coupling
   agree-more q outputs d f =
       let ns = named (family levels sheet) sheet (stmtsOf sheet q) outputs in
       ended-agree outputs q (length (stmtsOf sheet q))
-      (query-ended sheet (memoWay sheet nested parents) (rustWay sheet answer parents) (λ arg. refl) refl (Before outputs) (stmt-coupling outputs) q
+      (query-ended sheet (onceWay sheet nested parents) (rustWay sheet answer parents) (λ arg. refl) refl (Before outputs) (stmt-coupling outputs) q
       outputs (output-coupling outputs) (λ sc T U r. outputs-begin outputs (outputScope sc) T U r) T₀ []
       (record { apart = and-right (not (elem q ns)) _ d; fresh = λ x p. f x (or-right (eqb x q) _ p); same = λ x. refl }))
 
--- The definitions' analysis of a query and the Rust's agree, where each query at and below it stands at one place and has no schedule yet.
+-- The code's analysis of a query and the Rust's agree, where each query at and below it stands at one place and has no schedule yet.
 pub analyze-agree : (levels : ℕ) (sheet : Sheet) (ps : List Scope) (q : ℕ) (outputs : List Tree) (T : List QuerySchedule)
     → distinct (family levels sheet q outputs) ≡ true → Fresh (family levels sheet q outputs) T
     → Agree T (analyzeOnce levels sheet ps q outputs (record { schedules = T; fault = sound })) (analyze levels sheet ps q outputs)
 unfolding analyzeOnce analyze family
 analyze-agree zero sheet ps q outputs T d f = agreed refl refl (λ x. refl)
 analyze-agree (suc levels) sheet ps q outputs T d f =
-    subst
-    (λ (g : ℕ → List Tree → Run → Run).
-    Agree T (g q outputs (record { schedules = T; fault = sound })) (analyze (suc levels) sheet ps q outputs))
-    (sym (analyzeQuery-memo sheet (λ os b ts r. analyzeOnce levels sheet os b ts r) ps))
-    (agree-more levels sheet (λ os b ts U. analyze-agree levels sheet os b ts U) ps T q outputs d f)
+    agree-more levels sheet (λ os b ts U. analyze-agree levels sheet os b ts U) ps T q outputs d f
