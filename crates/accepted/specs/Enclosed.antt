@@ -8,6 +8,7 @@ use native.Mathlib.Omega.{arith}
 use lib.Dec.{eqb, leb, ltb}
 use lib.ListN.{getD}
 use borrow.Author.Tests.{eqb-true, le-leb, lt-leb, ltb-true}
+use Rattle.basics.specs.Limits as limits
 use Rattle.basics.specs.Truth.{lt-cases, bool-cases, not-both}
 use Rattle.basics.specs.Members.{filter-mem, mem-filter}
 use Rattle.records.specs.declared.Counts.{Counts}
@@ -29,7 +30,7 @@ use Rattle.naming.specs.PlaceLaws.{query-place, statement-place}
 abbrev pub Stands : Counts → ℕ → Type 0
 Stands c k =
     ((1 ≤ k) × (k ≤ c .queries))
-    ⊎ (((1 + 32 ≤ k) × (k ≤ statementRow (c .statements))) ⊎ ((1 + 160 ≤ k) × (k ≤ exprRow (c .exprs))))
+    ⊎ (((1 + limits.queries ≤ k) × (k ≤ statementRow (c .statements))) ⊎ ((1 + 160 ≤ k) × (k ≤ exprRow (c .exprs))))
 
 -- The one naming of a row that is named so.
 pub record Named (ns : List Naming) (k : ℕ) : Type 0 where
@@ -50,13 +51,13 @@ named-row ns k h = go (namers k ns) refl h
         record { naming = x; among = m .0; to-row = eqb-true (x .to) k (m .1); only = e; up = p }
     go (x ∷ y ∷ xs) e p = absurd (not-both p refl)
 
-pub up-below : (by k : ℕ) → 32 < k → upwards by k ≡ true → by < k
-up-below by k h p = ltb-true by k (rw (lt-leb k 32 h) at p)
+pub up-below : (by k : ℕ) → limits.queries < k → upwards by k ≡ true → by < k
+up-below by k h p = ltb-true by k (rw (lt-leb k limits.queries h) at p)
 
 module _ (c : Counts) (t : Rows) (few : Within c) (ok : Accepted c t) where
   -- ---- what `enclosing` says of a row
 
-  pub encloses-at-place : (k : ℕ) (n : Named (namings c t) k) → 32 < k → k ≤ exprRow (c .exprs) → n .naming .place < k
+  pub encloses-at-place : (k : ℕ) (n : Named (namings c t) k) → limits.queries < k → k ≤ exprRow (c .exprs) → n .naming .place < k
       → queryOf c t k ≡ queryOf c t (n .naming .place)
   encloses-at-place zero n h l p = absurd (omega arith)
   encloses-at-place (suc k) n h l p =
@@ -69,13 +70,13 @@ module _ (c : Counts) (t : Rows) (few : Within c) (ok : Accepted c t) where
 
   -- ---- a row that is named, and the row that it lies with
 
-  row-named : (k : ℕ) → Stands c k → 32 < k → Named (namings c t) k
+  row-named : (k : ℕ) → Stands c k → limits.queries < k → Named (namings c t) k
   unfolding isNamedSo
   row-named k (inl s) h = let f = few .few-queries in absurd (omega (arith, s .1))
   row-named k (inr (inl s)) h =
-      let e : statementRow (k - 32) ≡ k = omega arith in
+      let e : statementRow (k - limits.queries) ≡ k = omega arith in
       let l = s .1 in
-      let f = fine-statement-row c t (k - 32) (ok .fine-statement (k - 32) (omega arith) (omega arith)) in
+      let f = fine-statement-row c t (k - limits.queries) (ok .fine-statement (k - limits.queries) (omega arith) (omega arith)) in
       named-row (namings c t) k (subst (λ (j : ℕ). isNamedSo c t j ≡ true) e (f .named))
   row-named k (inr (inr s)) h =
       let l = s .1 in
@@ -115,14 +116,14 @@ module _ (c : Counts) (t : Rows) (few : Within c) (ok : Accepted c t) where
   InSheet : ℕ → Type 0
   InSheet k = (1 ≤ queryOf c t k) × (queryOf c t k ≤ c .queries)
 
-  query-in-sheet : (k : ℕ) → Stands c k → k ≤ 32 → InSheet k
+  query-in-sheet : (k : ℕ) → Stands c k → k ≤ limits.queries → InSheet k
   unfolding InSheet
   query-in-sheet k (inl s) h = let low = s .0 in let high = s .1 in let e = enclosing-query c t k h in (omega arith, omega arith)
   query-in-sheet k (inr (inl s)) h = absurd (omega (arith, s .0))
   query-in-sheet k (inr (inr s)) h = absurd (omega (arith, s .0))
 
   -- The row that it lies with is smaller.
-  row-in-sheet : (k : ℕ) → Stands c k → 32 < k → ((j : ℕ) → j < k → Stands c j → InSheet j) → InSheet k
+  row-in-sheet : (k : ℕ) → Stands c k → limits.queries < k → ((j : ℕ) → j < k → Stands c j → InSheet j) → InSheet k
   unfolding InSheet
   row-in-sheet k s h before =
       let x = row-named k s h in
@@ -142,4 +143,4 @@ module _ (c : Counts) (t : Rows) (few : Within c) (ok : Accepted c t) where
       go : (n k : ℕ) → k < n → Stands c k → InSheet k
       go zero k l s = absurd (omega arith)
       go (suc n) k l s =
-          ⊎-elim (λ (h : 32 < k). row-in-sheet k s h (λ j b. go n j (omega arith))) (λ (h : k ≤ 32). query-in-sheet k s h) (lt-cases 32 k)
+          ⊎-elim (λ (h : limits.queries < k). row-in-sheet k s h (λ j b. go n j (omega arith))) (λ (h : k ≤ limits.queries). query-in-sheet k s h) (lt-cases limits.queries k)

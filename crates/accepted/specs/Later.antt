@@ -6,6 +6,7 @@ use Prim.Native.Nat.{ℕ, zero, suc, _+_, _-_, _≤_, _<_}
 use native.Mathlib.Omega.{arith}
 use lib.Dec.{eqb, leb, ltb}
 use borrow.Author.Tests.{eq-eqb, ne-eqb, le-leb, lt-ltb}
+use Rattle.basics.specs.Limits as limits
 use Rattle.basics.specs.Members.{mem-filter}
 use Rattle.records.specs.declared.Counts.{Counts}
 use Rattle.records.specs.Layout.{Within}
@@ -29,7 +30,7 @@ target-in c e a b = rw (lt-ltb 0 (e .value) a, le-leb (e .value) (limitOf c (e .
 
 module _ (c : Counts) (t : Rows) (few : Within c) (ok : Accepted c t) where
   -- A row that is named so is named by a smaller one.
-  larger : (k to : ℕ) (x : Naming) → x .by ≡ k → x .to ≡ to → 32 < to → List·Memᴰ x (namings c t) → isNamedSo c t to ≡ true → k < to
+  larger : (k to : ℕ) (x : Naming) → x .by ≡ k → x .to ≡ to → limits.queries < to → List·Memᴰ x (namings c t) → isNamedSo c t to ≡ true → k < to
   unfolding isNamedSo namers
   larger k to x by e h m so =
       let m2 = mem-filter (λ y. eqb (y .to) to) (namings c t) m (eq-eqb (x .to) to e) in

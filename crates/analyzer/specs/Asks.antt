@@ -4,9 +4,12 @@ use mathlib.Core.Bool.{true, false}
 use mathlib.Core.List.{List, [], _∷_}
 use mathlib.Core.Logic.{_⊎_}
 use Prim.Native.Nat.{ℕ, zero, suc, _+_, _≤_}
-use lib.ListN.{length, getD}
+use lib.ListN.{length}
+use Rattle.basics.specs.Limits as limits
 use Rattle.basics.specs.Lists.{all}
 use Rattle.widths.specs.declared.Width.{Width}
+use Rattle.widths.specs.Widths as Widths
+use Rattle.blocks.specs.Layout.{answers}
 use Rattle.records.specs.declared.Statement.{Statement}
 use Rattle.records.specs.Layout.{statementAt}
 use Rattle.trees.specs.Trees.{Tree, treeAt}
@@ -18,7 +21,7 @@ use Rattle.analysis.specs.Exprs.{Pairing, pair, pairings}
 use Rattle.sizes.specs.Sizes.{total, size, literalSize}
 use Rattle.sizes.specs.Adds.{below}
 use Rattle.homes.specs.Lying.{StatementLies}
-use Rattle.gather.specs.Sheets.{countsAt, sheetAt}
+use Rattle.gather.specs.Sheets.{countsAt, sheetAt, Accepted, nameCount, exprCount, queryCount, statementCount}
 use Rattle.gather.specs.Exprs.{exprBy}
 use Rattle.gather.specs.Outers.{Outer}
 use Rattle.gather.specs.Queries.{stmtsLeft}
@@ -33,7 +36,41 @@ module _ (t : List ℕ) where
   abbrev pub tree : ℕ → Tree
   tree row = treeAt (sheetAt t) row
 
+  -- ---- what is lent has an element for each name; `Asks` is what a function asks besides
+
+  -- On the expression at a row, or none.
+  pub record OnRow (inner firsts : List ℕ) (row : ℕ) (Asks : Type 0) : Type 0 where
+    pub accepted : Accepted t
+    pub inner-room : limits.perName ≤ length inner
+    pub firsts-room : limits.perName ≤ length firsts
+    pub row-in : row ≤ exprCount t
+    pub asks : Asks
+
+  -- On the expressions at two rows.
+  pub record OnRows (inner firsts : List ℕ) (left right : ℕ) (Asks : Type 0) : Type 0 where
+    pub accepted : Accepted t
+    pub inner-room : limits.perName ≤ length inner
+    pub firsts-room : limits.perName ≤ length firsts
+    pub left-in : left ≤ exprCount t
+    pub right-in : right ≤ exprCount t
+    pub asks : Asks
+
+  -- On statements.
+  pub record OnStatement (outer spans firsts : List ℕ) (Asks : Type 0) : Type 0 where
+    pub accepted : Accepted t
+    pub outer-room : limits.perName ≤ length outer
+    pub spans-room : limits.perName ≤ length spans
+    pub firsts-room : limits.perName ≤ length firsts
+    pub asks : Asks
+
   -- ---- expressions
+
+  -- What an expression and its modifiers use, as the answers have it.
+  pub record AsksUsedBy (v : Width) (row mods : ℕ) (work : List ℕ) : Type 0 where
+    pub accepted : Accepted t
+    pub row-in : row ≤ exprCount t
+    pub mods-in : mods ≤ exprCount t
+    pub answers-room : answers v ≤ length work
 
   -- `process_comprs`: comprehensions add no definition to the query that they stand in.
   pub record AsksComprs (inner : List ℕ) (row : ℕ) (p : Progress) (firsts work : List ℕ) : Type 0 where
@@ -46,7 +83,7 @@ module _ (t : List ℕ) where
     pub first-lies : LiesIn t (inside .at .query) a
     pub second-lies : LiesIn t (inside .at .query) b
     pub mods-lie : LiesIn t (inside .at .query) (x .mods)
-    pub mods-low : x .mods ≤ getD t 2 0
+    pub mods-low : x .mods ≤ exprCount t
 
   -- ---- assignments
 
@@ -74,21 +111,21 @@ module _ (t : List ℕ) where
   pub record AsksWhole (outer spans : List ℕ) (row : ℕ) (x : Context) (p : Progress) (firsts work : List ℕ) : Type 0 where
     pub under : Under t outer spans p firsts work (suc (size (tree row)))
     pub there : 1 ≤ row
-    pub low : row ≤ getD t 2 0
+    pub low : row ≤ exprCount t
     pub lies : LiesIn t (under .at .query) row
     pub mods-lie : LiesIn t (under .at .query) (x .mods)
-    pub mods-low : x .mods ≤ getD t 2 0
+    pub mods-low : x .mods ≤ exprCount t
 
   -- A statement of the query.
   pub record AsksLiteral (outer spans : List ℕ) (st : Statement) (x : Context) (p : Progress) (firsts work : List ℕ) : Type 0 where
     pub under : Under t outer spans p firsts work (suc (literalSize (literalOf (sheetAt t) st)))
     pub row : ℕ
     pub there : 1 ≤ row
-    pub low : row ≤ getD t 3 0
+    pub low : row ≤ statementCount t
     pub is : st ≡ statementAt t row
     pub lies : StatementLies (countsAt t) t (under .at .query) row
     pub mods-lie : LiesIn t (under .at .query) (x .mods)
-    pub mods-low : x .mods ≤ getD t 2 0
+    pub mods-low : x .mods ≤ exprCount t
 
   -- The statements from a row on.
   abbrev pub stmtsAt : ℕ → List Stmt
@@ -105,9 +142,9 @@ module _ (t : List ℕ) where
   -- A query that is to be analysed.
   pub record Begun (v : Width) (outer work : List ℕ) (query key value : ℕ) : Type 0 where
     pub from : 1 ≤ query
-    pub to : query ≤ getD t 4 0
-    pub key-low : key ≤ getD t 2 0
-    pub value-low : value ≤ getD t 2 0
+    pub to : query ≤ queryCount t
+    pub key-low : key ≤ exprCount t
+    pub value-low : value ≤ exprCount t
     pub key-lies : LiesIn t query key
     pub value-lies : LiesIn t query value
     pub room : Room v (length work) (budgetAt t query + aboveAt t query)
@@ -119,3 +156,10 @@ module _ (t : List ℕ) where
   -- There may be none.
   abbrev pub AsksQuery : Width → List ℕ → List ℕ → ℕ → ℕ → ℕ → Type 0
   AsksQuery v outer work query key value = (query ≡ 0) ⊎ Begun v outer work query key value
+
+  -- ---- sheets
+
+  pub record AsksSheet (v : Width) (work : List ℕ) : Type 0 where
+    pub accepted : Accepted t
+    pub names-few : nameCount t ≤ Widths.names v
+    pub work-room : Widths.work v ≤ length work

@@ -4,6 +4,7 @@ use mathlib.Core.List.{List, [], _∷_}
 use Prim.Native.Nat.{ℕ, suc, _+_, _-_, _≤_, _<_}
 use native.Mathlib.Omega.{arith}
 use lib.ListN.{length, getD}
+use Rattle.basics.specs.Limits as limits
 use Rattle.widths.specs.declared.Width.{Width}
 use Rattle.widths.specs.declared.Width.the-variants.{Two, Eight}
 use Rattle.widths.specs.Widths.{work}
@@ -36,7 +37,7 @@ budget-sum (st ∷ l) = omega (arith, budget-sum l)
 
 module _ (t : List ℕ) where
   -- All queries of a sheet together.
-  budgets-fit : Accepted t → sumTo (budgetAt t) (getD t 4 0) ≤ 768
+  budgets-fit : Accepted t → sumTo (budgetAt t) (getD t 4 0) ≤ limits.definitions + limits.statements
   unfolding sheetAt
   budgets-fit ok =
       let c = countsAt t in
@@ -63,11 +64,11 @@ module _ (t : List ℕ) where
       )
 
   -- The outer query and all others.
-  pub all-fit : Accepted t → 1 ≤ getD t 4 0 → budgetAt t 1 + aboveAt t 1 ≤ 768
+  pub all-fit : Accepted t → 1 ≤ getD t 4 0 → budgetAt t 1 + aboveAt t 1 ≤ limits.definitions + limits.statements
   all-fit ok l =
       omega (arith, budgets-fit ok, sum-last (budgetAt t) 1 (omega arith), sum-longer (budgetAt t) 1 (getD t 4 0) l)
 
 -- So many rows, and the answers, have room in the work that a call is lent.
-pub work-fits : (v : Width) (n k : ℕ) → work v ≤ n → k ≤ 768 → Room v n k
+pub work-fits : (v : Width) (n k : ℕ) → work v ≤ n → k ≤ limits.definitions + limits.statements → Room v n k
 work-fits Two n k long few = record { enough = omega arith; rows = omega arith }
 work-fits Eight n k long few = record { enough = omega arith; rows = omega arith }

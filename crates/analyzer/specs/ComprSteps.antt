@@ -9,6 +9,7 @@ use Prim.Native.Nat.{ℕ, _+_, _-_, _*_, _≤_, _<_}
 use native.Mathlib.Omega.{arith}
 use lib.ListN.{length, getD, take}
 use borrow.Rule.Slice.PartMut.{postOf, put-same}
+use Rattle.basics.specs.Limits as limits
 use Rattle.basics.specs.Truth.{bool-cases, eq-cases}
 use Rattle.widths.specs.Widths as Widths
 use Rattle.blocks.specs.Layout.{answers}
@@ -39,7 +40,7 @@ use Rattle.analyzer.specs.Sites.{nestedBy, wayBy, Around, RunsIn}
 use Rattle.analyzer.specs.Queries.{DoesQuery}
 
 module _ (t : List ℕ) (ok : Accepted t) (inner : List ℕ) (levels row : ℕ) (there : row ≡ 0 → ⊥) (high : row ≤ getD t 2 0) (w : Row)
-    (is : w ≡ rowAt t row) (third : isCompr w ≡ true → (1 ≤ w .third) × (w .third ≤ 32)) (p : Progress) (firsts work : List ℕ)
+    (is : w ≡ rowAt t row) (third : isCompr w ≡ true → (1 ≤ w .third) × (w .third ≤ limits.queries)) (p : Progress) (firsts work : List ℕ)
     (a : ℕ) (a-is : a ≡ Widths.row (p .width) * p .count) (low : a + answers (p .width) ≤ length work)
     (query : ℕ) (asks : query ≡ pendingAt p w work) (fault : Fault) (part : List ℕ)
     (long : length part ≡ length (tail (p .width) work a low))

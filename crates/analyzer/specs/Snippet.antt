@@ -7,6 +7,7 @@ use native.Mathlib.Omega.{arith}
 use lib.Dec.{leb}
 use lib.ListN.{length, getD, replicate, getD-replicate}
 use borrow.Author.Tests.{lt-leb}
+use Rattle.basics.specs.Limits as limits
 use Rattle.widths.specs.declared.Width.{Width}
 use Rattle.widths.specs.Widths as limit
 use Rattle.trees.specs.Trees.{Tree}
@@ -25,11 +26,11 @@ use Rattle.analyzer.specs.Budgets.{all-fit, work-fits}
 use Rattle.analyzer.specs.Queries.{DoesQuery}
 
 -- A number past all lines for every name.
-pub nothing-around : Outer (replicate 512 65536) []
+pub nothing-around : Outer (replicate limits.perName 65536) []
 unfolding varExists
 nothing-around = record {
   has = λ w low lined.
-      sym (ap (λ (n : ℕ). leb n (w .line)) (getD-replicate 512 (w .name) 65536 0 low) ∙ lt-leb 65536 (w .line) lined);
+      sym (ap (λ (n : ℕ). leb n (w .line)) (getD-replicate limits.perName (w .name) 65536 0 low) ∙ lt-leb 65536 (w .line) lined);
 }
 
 -- No schedule, no fault.

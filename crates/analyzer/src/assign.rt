@@ -8,11 +8,12 @@ use recording::record::record_each;
 use using::Using;
 ghost use mathlib.Core.Bool.{false};
 ghost use Prim.Native.Nat.{_≤_, max};
-ghost use lib.ListN.{length, getD};
+ghost use lib.ListN.{length};
+ghost use Rattle.basics.specs.Limits as limits;
 ghost use Rattle.sizes.specs.Leaves.{patternVars};
-ghost use Rattle.gather.specs.Sheets.{Accepted};
+ghost use Rattle.gather.specs.Sheets.{Accepted, exprCount};
 ghost use Rattle.gather.specs.Exprs.{exprBy};
-ghost use Rattle.frame.specs.Frames.{Ready};
+ghost use Rattle.using.specs.Asks.{AsksUse};
 ghost use Rattle.analyzer.specs.OneWay.{Checked, Assigns};
 
 // The first uses of the target's names are looked at, if `check`; then each name that it assigns is defined from the names used, less
@@ -26,7 +27,7 @@ pub fn assign(
     firsts: &[u64],
     work: &mut [u64],
 ) -> Progress
-    requires { ⌜ Accepted (now tables) × (row ≤ getD (now tables) 2 0) × (512 ≤ length (now firsts)) × Ready (now tables) (u .progress) (now firsts) (now work) (max 1 (patternVars (exprBy (now tables) false row))) ⌝ }
+    requires { ⌜ AsksUse (now tables) row (u .progress) (now firsts) (now work) (max 1 (patternVars (exprBy (now tables) false row))) ⌝ }
     ensures { λ r. ⌜ Assigns (now (tables .entry)) (exprBy (now (tables .entry)) false row) check statement u (now (firsts .entry)) (now (work .entry)) r (now (work .exit)) ⌝ }
 {
     let names = u.names;
@@ -37,7 +38,7 @@ pub fn assign(
 }
 
 fn checked(tables: &[u16], row: usize, check: bool, p: Progress, firsts: &[u64]) -> Progress
-    requires { ⌜ Accepted (now tables) × (row ≤ getD (now tables) 2 0) × (512 ≤ length (now firsts)) ⌝ }
+    requires { ⌜ Accepted (now tables) × (row ≤ exprCount (now tables)) × (limits.perName ≤ length (now firsts)) ⌝ }
     ensures { λ r. ⌜ Checked (now (tables .entry)) row check p (now (firsts .entry)) r ⌝ }
 {
     if check {

@@ -8,12 +8,12 @@ use widths::Width;
 ghost use mathlib.Core.Path.{_≡_};
 ghost use mathlib.Core.Bool.{true};
 ghost use Prim.Native.Nat.{_+_, _*_, _≤_};
-ghost use lib.ListN.{length, getD};
+ghost use lib.ListN.{length};
 ghost use Rattle.widths.specs.Widths.{row};
 ghost use Rattle.blocks.specs.Layout.{answers};
-ghost use Rattle.gather.specs.Sheets.{Accepted};
 ghost use Rattle.frame.specs.Faults.{isSound};
 ghost use Rattle.frame.specs.Table.{answersOf, Based};
+ghost use Rattle.conclude.specs.Asks.{AsksConclude};
 ghost use Rattle.analyzer.specs.Ends.{begin, OpenedFrom, Finished};
 
 // Nothing is recorded yet.
@@ -46,7 +46,7 @@ pub fn finish(
     spans: &[u32],
     work: &mut [u64],
 ) -> Fault
-    requires { ⌜ Accepted (now tables) × (1 ≤ query) × (query ≤ getD (now tables) 4 0) × (512 ≤ length (now spans)) × (row (p .width) * p .count + answers (p .width) ≤ length (now work)) × (isSound (p .fault) ≡ true → Based (p .width) (now tables) (answersOf (p .width) (now work))) ⌝ }
+    requires { ⌜ AsksConclude (now tables) query (now spans) × (row (p .width) * p .count + answers (p .width) ≤ length (now work)) × (isSound (p .fault) ≡ true → Based (p .width) (now tables) (answersOf (p .width) (now work))) ⌝ }
     ensures { λ r. ⌜ Finished (now (tables .entry)) (now (work .entry)) query scope p (now (spans .entry)) r (now (work .exit)) ⌝ }
 {
     if p.is_sound() {

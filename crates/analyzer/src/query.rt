@@ -30,6 +30,7 @@ use literals::pairs::differ;
 use literals::pairs::pair_of;
 use literals::some::fail_if_some;
 use literals::some::non_var;
+use names::CAPACITY;
 use names::Names;
 use recording::checks::check_vars;
 use recording::least::at_least_one;
@@ -40,6 +41,10 @@ use recording::some::first_some;
 use recording::some::some_vars;
 use records::Statement;
 use records::first_at;
+use records::kinds::EVERY;
+use records::kinds::EXPR;
+use records::kinds::SOME_IN;
+use records::kinds::SOME_VARS;
 use records::row_at;
 use records::statement_at;
 use used::assigned::pattern_of;
@@ -49,26 +54,18 @@ use using::vars::use_vars;
 use widths::Width;
 ghost use mathlib.Core.Path.{_≡_};
 ghost use Prim.Native.Nat.{_≤_};
-ghost use lib.ListN.{length, getD};
+ghost use lib.ListN.{length};
+ghost use Rattle.basics.specs.Limits as limits;
 ghost use Rattle.trees.specs.Traverse.{comprs};
 ghost use Rattle.sizes.specs.Sizes.{total};
 ghost use Rattle.sizes.specs.Leaves.{bracketVars};
 ghost use Rattle.sizes.specs.Exprs.{pairCost};
-ghost use Rattle.gather.specs.Sheets.{Accepted};
+ghost use Rattle.gather.specs.Sheets.{Accepted, statementCount};
 ghost use Rattle.gather.specs.Exprs.{exprBy};
 ghost use Rattle.using.specs.Defined.{Listed};
-ghost use Rattle.analyzer.specs.Asks.{AsksComprs, AsksExpr, pairAt, pairsAt, otherAt, leavesAt, AsksWhole, AsksLiteral, AsksStmts, AsksQuery};
+ghost use Rattle.analyzer.specs.Asks.{OnRow, OnRows, OnStatement, AsksComprs, AsksExpr, pairAt, pairsAt, otherAt, leavesAt, AsksWhole, AsksLiteral, AsksStmts, AsksQuery};
 ghost use Rattle.analyzer.specs.Does.{DoesComprs, DoesUse, DoesPairs, DoesOthers, DoesNonVars, DoesStep, exprStep, someInStep, everyStep, literalStep, DoesStmts};
 ghost use Rattle.analyzer.specs.Queries.{DoesQuery};
-
-// The forms of a literal.
-const SOME_VARS: u16 = 1;
-
-const SOME_IN: u16 = 2;
-
-const EXPR: u16 = 3;
-
-const EVERY: u16 = 5;
 
 // `process_comprs`: the comprehensions of the expression at a row, with the rest of its chain if `rest`. Each query is analysed once, and
 // what it takes from around it rises. A call on no row would only copy the progress, so none is made.
@@ -82,7 +79,7 @@ fn process_comprs(
     firsts: &mut [u64],
     work: &mut [u64],
 ) -> Progress
-    requires { ⌜ Accepted (now tables) × (512 ≤ length (now inner)) × (512 ≤ length (now firsts)) × (row ≤ getD (now tables) 2 0) × AsksComprs (now tables) (now inner) row p (now firsts) (now work) ⌝ }
+    requires { ⌜ OnRow (now tables) (now inner) (now firsts) row (AsksComprs (now tables) (now inner) row p (now firsts) (now work)) ⌝ }
     ensures { λ r. ⌜ DoesComprs (now (tables .entry)) (now (inner .entry)) (comprs (exprBy (now (tables .entry)) rest row)) levels p (now (firsts .entry)) (now (work .entry)) r (now (firsts .exit)) (now (work .exit)) ⌝ }
 {
     if row == 0 {
@@ -132,7 +129,7 @@ fn use_expr(
     firsts: &mut [u64],
     work: &mut [u64],
 ) -> Using
-    requires { ⌜ Accepted (now tables) × (512 ≤ length (now inner)) × (512 ≤ length (now firsts)) × (row ≤ getD (now tables) 2 0) × Listed extras × AsksExpr (now tables) (now inner) row 0 context p (now firsts) (now work) (bracketVars (exprBy (now tables) rest row)) ⌝ }
+    requires { ⌜ OnRow (now tables) (now inner) (now firsts) row (AsksExpr (now tables) (now inner) row 0 context p (now firsts) (now work) (bracketVars (exprBy (now tables) rest row))) × Listed extras ⌝ }
     ensures { λ r. ⌜ DoesUse (now (tables .entry)) (now (inner .entry)) extras (exprBy (now (tables .entry)) rest row) context p (now (firsts .entry)) (now (work .entry)) r (now (firsts .exit)) (now (work .exit)) ⌝ }
 {
     let statement = context.statement;
@@ -171,7 +168,7 @@ fn assign_pair(
     firsts: &mut [u64],
     work: &mut [u64],
 ) -> Progress
-    requires { ⌜ Accepted (now tables) × (512 ≤ length (now inner)) × (512 ≤ length (now firsts)) × (left ≤ getD (now tables) 2 0) × (right ≤ getD (now tables) 2 0) × AsksExpr (now tables) (now inner) left right context p (now firsts) (now work) (total pairCost (pairAt (now tables) left right)) ⌝ }
+    requires { ⌜ OnRows (now tables) (now inner) (now firsts) left right (AsksExpr (now tables) (now inner) left right context p (now firsts) (now work) (total pairCost (pairAt (now tables) left right))) ⌝ }
     ensures { λ r. ⌜ DoesPairs (now (tables .entry)) (now (inner .entry)) (pairAt (now (tables .entry)) left right) check context p (now (firsts .entry)) (now (work .entry)) r (now (firsts .exit)) (now (work .exit)) ⌝ }
 {
     if left == 0 {
@@ -196,7 +193,7 @@ fn process_pairs(
     firsts: &mut [u64],
     work: &mut [u64],
 ) -> Progress
-    requires { ⌜ Accepted (now tables) × (512 ≤ length (now inner)) × (512 ≤ length (now firsts)) × (left ≤ getD (now tables) 2 0) × (right ≤ getD (now tables) 2 0) × AsksExpr (now tables) (now inner) left right context p (now firsts) (now work) (total pairCost (pairsAt (now tables) left right)) ⌝ }
+    requires { ⌜ OnRows (now tables) (now inner) (now firsts) left right (AsksExpr (now tables) (now inner) left right context p (now firsts) (now work) (total pairCost (pairsAt (now tables) left right))) ⌝ }
     ensures { λ r. ⌜ DoesPairs (now (tables .entry)) (now (inner .entry)) (pairsAt (now (tables .entry)) left right) check context p (now (firsts .entry)) (now (work .entry)) r (now (firsts .exit)) (now (work .exit)) ⌝ }
 {
     if left == 0 {
@@ -261,7 +258,7 @@ fn process_non_var(
     firsts: &mut [u64],
     work: &mut [u64],
 ) -> Progress
-    requires { ⌜ Accepted (now tables) × (512 ≤ length (now inner)) × (512 ≤ length (now firsts)) × (row ≤ getD (now tables) 2 0) × AsksExpr (now tables) (now inner) row 0 context p (now firsts) (now work) (total bracketVars (otherAt (now tables) row)) ⌝ }
+    requires { ⌜ OnRow (now tables) (now inner) (now firsts) row (AsksExpr (now tables) (now inner) row 0 context p (now firsts) (now work) (total bracketVars (otherAt (now tables) row))) ⌝ }
     ensures { λ r. ⌜ DoesOthers (now (tables .entry)) (now (inner .entry)) (otherAt (now (tables .entry)) row) context p (now (firsts .entry)) (now (work .entry)) r (now (firsts .exit)) (now (work .exit)) ⌝ }
 {
     if row == 0 {
@@ -293,7 +290,7 @@ fn process_non_vars(
     firsts: &mut [u64],
     work: &mut [u64],
 ) -> Progress
-    requires { ⌜ Accepted (now tables) × (512 ≤ length (now inner)) × (512 ≤ length (now firsts)) × (row ≤ getD (now tables) 2 0) × AsksExpr (now tables) (now inner) row 0 context p (now firsts) (now work) (total bracketVars (leavesAt (now tables) row)) ⌝ }
+    requires { ⌜ OnRow (now tables) (now inner) (now firsts) row (AsksExpr (now tables) (now inner) row 0 context p (now firsts) (now work) (total bracketVars (leavesAt (now tables) row))) ⌝ }
     ensures { λ r. ⌜ DoesNonVars (now (tables .entry)) (now (inner .entry)) row context p (now (firsts .entry)) (now (work .entry)) r (now (firsts .exit)) (now (work .exit)) ⌝ }
 {
     if row == 0 {
@@ -326,10 +323,10 @@ fn process_some_in(
     firsts: &mut [u64],
     work: &mut [u64],
 ) -> Progress
-    requires { ⌜ Accepted (now tables) × (512 ≤ length (now outer)) × (512 ≤ length (now spans)) × (512 ≤ length (now firsts)) × (st .form ≡ 2) × AsksLiteral (now tables) (now outer) (now spans) st context p (now firsts) (now work) ⌝ }
+    requires { ⌜ OnStatement (now tables) (now outer) (now spans) (now firsts) (AsksLiteral (now tables) (now outer) (now spans) st context p (now firsts) (now work)) × (st .form ≡ 2) ⌝ }
     ensures { λ r. ⌜ DoesStep (now (tables .entry)) (someInStep (now (tables .entry)) st context) (now (outer .entry)) (now (spans .entry)) context p (now (firsts .entry)) (now (work .entry)) r (now (firsts .exit)) (now (work .exit)) ⌝ }
 {
-    let mut inner: [u32; 512] = [0; 512];
+    let mut inner: [u32; CAPACITY] = [0; CAPACITY];
     enclose(outer, p.scope, spans, &mut inner);
     let none = Names::empty();
     let key = st.first as usize;
@@ -367,11 +364,11 @@ fn process_every(
     firsts: &mut [u64],
     work: &mut [u64],
 ) -> Progress
-    requires { ⌜ Accepted (now tables) × (512 ≤ length (now outer)) × (512 ≤ length (now spans)) × (512 ≤ length (now firsts)) × (st .form ≡ 5) × AsksLiteral (now tables) (now outer) (now spans) st context p (now firsts) (now work) ⌝ }
+    requires { ⌜ OnStatement (now tables) (now outer) (now spans) (now firsts) (AsksLiteral (now tables) (now outer) (now spans) st context p (now firsts) (now work)) × (st .form ≡ 5) ⌝ }
     ensures { λ r. ⌜ DoesStep (now (tables .entry)) (everyStep (now (tables .entry)) st context) (now (outer .entry)) (now (spans .entry)) context p (now (firsts .entry)) (now (work .entry)) r (now (firsts .exit)) (now (work .exit)) ⌝ }
 {
-    let mut inner: [u32; 512] = [0; 512];
-    let mut body: [u32; 512] = [0; 512];
+    let mut inner: [u32; CAPACITY] = [0; CAPACITY];
+    let mut body: [u32; CAPACITY] = [0; CAPACITY];
     enclose(outer, p.scope, spans, &mut inner);
     let none = Names::empty();
     let u = use_expr(
@@ -421,10 +418,10 @@ fn process_expr(
     firsts: &mut [u64],
     work: &mut [u64],
 ) -> Progress
-    requires { ⌜ Accepted (now tables) × (512 ≤ length (now outer)) × (512 ≤ length (now spans)) × (512 ≤ length (now firsts)) × AsksWhole (now tables) (now outer) (now spans) row context p (now firsts) (now work) ⌝ }
+    requires { ⌜ OnStatement (now tables) (now outer) (now spans) (now firsts) (AsksWhole (now tables) (now outer) (now spans) row context p (now firsts) (now work)) ⌝ }
     ensures { λ r. ⌜ DoesStep (now (tables .entry)) (exprStep (now (tables .entry)) call row context) (now (outer .entry)) (now (spans .entry)) context p (now (firsts .entry)) (now (work .entry)) r (now (firsts .exit)) (now (work .exit)) ⌝ }
 {
-    let mut inner: [u32; 512] = [0; 512];
+    let mut inner: [u32; CAPACITY] = [0; CAPACITY];
     let arg = extra_arg(tables, row, call);
     let extras = extra_vars(tables, outer, arg);
     let s = bind_extras(p, extras);
@@ -458,7 +455,7 @@ fn process_literal(
     firsts: &mut [u64],
     work: &mut [u64],
 ) -> Progress
-    requires { ⌜ Accepted (now tables) × (512 ≤ length (now outer)) × (512 ≤ length (now spans)) × (512 ≤ length (now firsts)) × AsksLiteral (now tables) (now outer) (now spans) st context p (now firsts) (now work) ⌝ }
+    requires { ⌜ OnStatement (now tables) (now outer) (now spans) (now firsts) (AsksLiteral (now tables) (now outer) (now spans) st context p (now firsts) (now work)) ⌝ }
     ensures { λ r. ⌜ DoesStep (now (tables .entry)) (literalStep (now (tables .entry)) st context) (now (outer .entry)) (now (spans .entry)) context p (now (firsts .entry)) (now (work .entry)) r (now (firsts .exit)) (now (work .exit)) ⌝ }
 {
     if st.form == SOME_VARS {
@@ -495,7 +492,7 @@ fn process_stmts(
     firsts: &mut [u64],
     work: &mut [u64],
 ) -> Progress
-    requires { ⌜ Accepted (now tables) × (512 ≤ length (now outer)) × (512 ≤ length (now spans)) × (512 ≤ length (now firsts)) × (row ≤ getD (now tables) 3 0) × AsksStmts (now tables) (now outer) (now spans) row statement p (now firsts) (now work) ⌝ }
+    requires { ⌜ OnStatement (now tables) (now outer) (now spans) (now firsts) (AsksStmts (now tables) (now outer) (now spans) row statement p (now firsts) (now work)) × (row ≤ statementCount (now tables)) ⌝ }
     ensures { λ r. ⌜ DoesStmts (now (tables .entry)) (now (outer .entry)) (now (spans .entry)) row statement levels p (now (firsts .entry)) (now (work .entry)) r (now (firsts .exit)) (now (work .exit)) ⌝ }
 {
     if row == 0 {
@@ -539,7 +536,7 @@ pub fn analyze_query(
     work: &mut [u64],
     width: Width,
 ) -> Fault
-    requires { ⌜ Accepted (now tables) × (512 ≤ length (now outer)) × AsksQuery (now tables) width (now outer) (now work) query key value ⌝ }
+    requires { ⌜ Accepted (now tables) × (limits.perName ≤ length (now outer)) × AsksQuery (now tables) width (now outer) (now work) query key value ⌝ }
     ensures { λ r. ⌜ DoesQuery (now (tables .entry)) width (now (outer .entry)) query key value levels (now (work .entry)) r (now (work .exit)) ⌝ }
 {
     if query == 0 {
@@ -548,9 +545,9 @@ pub fn analyze_query(
     if levels == 0 {
         return Fault::Sound;
     }
-    let mut spans: [u32; 512] = [0; 512];
-    let mut firsts: [u64; 512] = [0; 512];
-    let mut inner: [u32; 512] = [0; 512];
+    let mut spans: [u32; CAPACITY] = [0; CAPACITY];
+    let mut firsts: [u64; CAPACITY] = [0; CAPACITY];
+    let mut inner: [u32; CAPACITY] = [0; CAPACITY];
     let scope = gather_local_vars(tables, outer, query, key, value, &mut spans);
     let start = begun(scope, width);
     let row = first_at(tables, query) as usize;

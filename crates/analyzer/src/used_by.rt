@@ -15,11 +15,10 @@ ghost use mathlib.Core.Path.{_≡_};
 ghost use mathlib.Core.Bool.{_&&_};
 ghost use Prim.Native.Nat.{_≤_};
 ghost use lib.Dec.{eqb};
-ghost use lib.ListN.{length, getD};
-ghost use Rattle.blocks.specs.Layout.{answers};
 ghost use Rattle.trees.specs.Traverse.{comprs};
-ghost use Rattle.gather.specs.Sheets.{Accepted};
+ghost use Rattle.gather.specs.Sheets.{exprCount};
 ghost use Rattle.gather.specs.Exprs.{exprBy};
+ghost use Rattle.analyzer.specs.Asks.{AsksUsedBy};
 ghost use Rattle.analyzer.specs.AllUsed.{AllUsed, WithoutComprs, OthersUsed, OtherUsed, LeavesUsed};
 
 // Beside the names that it uses by itself. Its comprehensions are those at a row, with the rest of its chain if `rest`.
@@ -32,7 +31,7 @@ pub fn all_used(
     context: Context,
     work: &[u64],
 ) -> Names
-    requires { ⌜ Accepted (now tables) × (row ≤ getD (now tables) 2 0) × (context .mods ≤ getD (now tables) 2 0) × (answers (p .width) ≤ length (now work)) ⌝ }
+    requires { ⌜ AsksUsedBy (now tables) (p .width) row (context .mods) (now work) ⌝ }
     ensures { λ r. ⌜ AllUsed (now (tables .entry)) (p .width) (p .scope) names (comprs (exprBy (now (tables .entry)) rest row)) context (now (work .entry)) r ⌝ }
 {
     let scope = p.scope;
@@ -77,7 +76,7 @@ fn other_used(
     names: Names,
     width: Width,
 ) -> Names
-    requires { ⌜ Accepted (now tables) × (row ≤ getD (now tables) 2 0) × (mods ≤ getD (now tables) 2 0) × (answers width ≤ length (now work)) ⌝ }
+    requires { ⌜ AsksUsedBy (now tables) width row mods (now work) ⌝ }
     ensures { λ r. ⌜ OtherUsed (now (tables .entry)) width scope row mods (now (work .entry)) names r ⌝ }
 {
     if row == 0 {
@@ -102,7 +101,7 @@ fn leaves_used(
     work: &[u64],
     names: Names,
 ) -> Names
-    requires { ⌜ Accepted (now tables) × (row ≤ getD (now tables) 2 0) × (mods ≤ getD (now tables) 2 0) × (answers (p .width) ≤ length (now work)) ⌝ }
+    requires { ⌜ AsksUsedBy (now tables) (p .width) row mods (now work) ⌝ }
     ensures { λ r. ⌜ LeavesUsed (now (tables .entry)) (p .width) (p .scope) row mods (now (work .entry)) names r ⌝ }
 {
     if row == 0 {
@@ -134,7 +133,7 @@ pub fn others_used(
     context: Context,
     work: &[u64],
 ) -> Names
-    requires { ⌜ Accepted (now tables) × (key ≤ getD (now tables) 2 0) × (value ≤ getD (now tables) 2 0) × (context .mods ≤ getD (now tables) 2 0) × (answers (p .width) ≤ length (now work)) ⌝ }
+    requires { ⌜ AsksUsedBy (now tables) (p .width) key (context .mods) (now work) × (value ≤ exprCount (now tables)) ⌝ }
     ensures { λ r. ⌜ OthersUsed (now (tables .entry)) (p .width) (p .scope) key value context (now (work .entry)) r ⌝ }
 {
     let none = Names::empty();

@@ -6,6 +6,7 @@ use mathlib.Core.Option.{Option, none, some}
 use Prim.Native.Nat.{ℕ, _+_, _-_, _*_, _/_, _%_, _<_}
 use native.Mathlib.Omega.{arith}
 use lib.ListN.{getD}
+use Rattle.basics.specs.Limits as limits
 use Rattle.basics.specs.Ranges.{range}
 use Rattle.names.specs.Sets.{member}
 use Rattle.writer.specs.Decimal.{rowLine}
@@ -67,16 +68,16 @@ module _ (v : Width) (w : List ℕ) (q : ℕ) where
             let g : p .col ≡ spanAt v w q x % 65536 = omega (arith, n .line, n .col, n .both) in
             rw (sym h) (append-nil _ ∙ ap₂ (λ (l k : ℕ). rowLine (q ∷ 1 ∷ x ∷ l ∷ k ∷ [])) e g)
 
-    locals-analysed : concatMap rowLine (concatMap (λ x. localRow q x (spanIn (a .scope .locals) x)) (range 0 nameBound)) ≡ texts (localLine v w q) 0 512
+    locals-analysed : concatMap rowLine (concatMap (λ x. localRow q x (spanIn (a .scope .locals) x)) (range 0 nameBound)) ≡ texts (localLine v w q) 0 limits.perName
     unfolding texts
-    locals-analysed = concat-concat rowLine _ (range 0 nameBound) ∙ texts-same _ (localLine v w q) 0 512 (λ x l u. local-same x)
+    locals-analysed = concat-concat rowLine _ (range 0 nameBound) ∙ texts-same _ (localLine v w q) 0 limits.perName (λ x l u. local-same x)
 
     names-analysed : (set : ℕ) (names : NameSet) → ((x : ℕ) → contains names x ≡ member (setAt v w q (set - 1)) x)
-        → concatMap rowLine (map (λ x. q ∷ set ∷ x ∷ 0 ∷ 0 ∷ []) (elements names)) ≡ texts (nameLine v w q set) 0 512
+        → concatMap rowLine (map (λ x. q ∷ set ∷ x ∷ 0 ∷ 0 ∷ []) (elements names)) ≡ texts (nameLine v w q set) 0 limits.perName
     unfolding texts elements nameLine
     names-analysed set names has =
         concat-map rowLine _ (elements names) ∙ concat-filter _ (contains names) (range 0 nameBound)
-        ∙ texts-same _ (nameLine v w q set) 0 512 (λ x l u. ap (λ (b : Bool). cond b (rowLine (q ∷ set ∷ x ∷ 0 ∷ 0 ∷ [])) []) (has x))
+        ∙ texts-same _ (nameLine v w q set) 0 limits.perName (λ x l u. ap (λ (b : Bool). cond b (rowLine (q ∷ set ∷ x ∷ 0 ∷ 0 ∷ [])) []) (has x))
 
     sets-analysed : concatMap rowLine (setRows q (some a)) ≡ setsText v w q
     sets-analysed =

@@ -6,3 +6,4 @@ pub mod Texts
 pub mod Listed
 pub mod Agrees
 pub mod Sections
+pub mod Asks

@@ -5,6 +5,7 @@ use mathlib.Core.List.{List, [], _∷_}
 use mathlib.Core.Logic.{⊎-elim}
 use Prim.Native.Nat.{ℕ, _+_, _-_, _*_, _/_, _%_, _≤_, _<_}
 use native.Mathlib.Omega.{arith}
+use Rattle.basics.specs.Limits as limits
 use Rattle.basics.specs.Truth.{lt-cases, not-both}
 use Rattle.names.specs.Sets.{member, Next}
 use Rattle.names.specs.Laws.{member-out}
@@ -20,22 +21,22 @@ use Rattle.answer.specs.Texts.{localLine, nameLine}
 
 -- ---- the loop
 
--- The name x is the next of the set, or 512; and the lines of the names below it are written.
+-- The name x is the next of the set, or the end; and the lines of the names below it are written.
 pub record Listed (f : ℕ → List ℕ) (ws b : List ℕ) (at x : ℕ) (c : List ℕ) (r : ℕ) : Type 0 where
-  pub high : x ≤ 512
-  pub here : x < 512 → member ws x ≡ true
+  pub high : x ≤ limits.perName
+  pub here : x < limits.perName → member ws x ≡ true
   pub wrote : Puts b at (texts f 0 x) c r
 
 module _ (f : ℕ → List ℕ) (ws : List ℕ) (none : (n : ℕ) → member ws n ≡ false → f n ≡ []) (b : List ℕ) (at : ℕ) where
-  pub listed-first : (x : ℕ) → Next ws 512 0 x → Listed f ws b at x b at
+  pub listed-first : (x : ℕ) → Next ws limits.perName 0 x → Listed f ws b at x b at
   listed-first x n = record {
     high = n .high;
     here = n .found;
     wrote = run-skip f b at 0 0 x (omega arith) (omega arith) (λ k l u. none k (n .gap k l u)) b at (run-first f b at 0);
   }
 
-  pub listed-next : (x : ℕ) (c : List ℕ) (r : ℕ) → Listed f ws b at x c r → x < 512 → (d : List ℕ) (s : ℕ) → Puts c r (f x) d s
-      → (y : ℕ) → Next ws 512 (x + 1) y → Listed f ws b at y d s
+  pub listed-next : (x : ℕ) (c : List ℕ) (r : ℕ) → Listed f ws b at x c r → x < limits.perName → (d : List ℕ) (s : ℕ) → Puts c r (f x) d s
+      → (y : ℕ) → Next ws limits.perName (x + 1) y → Listed f ws b at y d s
   listed-next x c r l low d s put y n = record {
     high = n .high;
     here = n .found;
@@ -44,10 +45,10 @@ module _ (f : ℕ → List ℕ) (ws : List ℕ) (none : (n : ℕ) → member ws 
         (run-next f b at 0 x (omega arith) c r d s (l .wrote) put);
   }
 
-pub listed-all : (f : ℕ → List ℕ) (ws b : List ℕ) (at x : ℕ) (c : List ℕ) (r : ℕ) → Listed f ws b at x c r → 512 ≤ x → Puts b at (texts f 0 512) c r
+pub listed-all : (f : ℕ → List ℕ) (ws b : List ℕ) (at x : ℕ) (c : List ℕ) (r : ℕ) → Listed f ws b at x c r → limits.perName ≤ x → Puts b at (texts f 0 limits.perName) c r
 listed-all f ws b at x c r l h =
-    let e : x ≡ 512 = omega (arith, l .high) in
-    puts-as b at c r (texts f 0 x) (texts f 0 512) (ap (texts f 0) e) (l .wrote)
+    let e : x ≡ limits.perName = omega (arith, l .high) in
+    puts-as b at c r (texts f 0 x) (texts f 0 limits.perName) (ap (texts f 0) e) (l .wrote)
 
 -- ---- the sets
 

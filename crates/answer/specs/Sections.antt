@@ -6,6 +6,7 @@ use Prim.Native.Nat.{ℕ, suc, _+_, _≤_}
 use Prim.Native.String.{String}
 use native.Mathlib.Omega.{arith}
 use native.Mathlib.Numerals.{add-one}
+use Rattle.basics.specs.Limits as limits
 use Rattle.basics.specs.Ranges.{range}
 use Rattle.text.specs.Bytes.{newline, bytes}
 use Rattle.writer.specs.Writes.{Puts, puts-then}
@@ -35,7 +36,7 @@ abbrev pub PutsSection : (ℕ → Option QuerySchedule → List (List ℕ)) → 
 PutsSection rows heading v w n b at c r =
     (schedules : List QuerySchedule) → Stored v w schedules → Puts b at (section heading (allRows rows n schedules)) c r
 
-module _ (v : Width) (w : List ℕ) (n : ℕ) (few : n ≤ 32) (b : List ℕ) (at : ℕ) (c : List ℕ) (r : ℕ) where
+module _ (v : Width) (w : List ℕ) (n : ℕ) (few : n ≤ limits.queries) (b : List ℕ) (at : ℕ) (c : List ℕ) (r : ℕ) where
   -- The heading, the lines of the queries, and an empty line.
   pub put-section : (rows : ℕ → Option QuerySchedule → List (List ℕ)) (f : ℕ → List ℕ) (heading : String)
       → ((q : ℕ) (o : Option QuerySchedule) → StoredAt v w q o → concatMap rowLine (rows q o) ≡ f q)

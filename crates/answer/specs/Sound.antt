@@ -6,6 +6,7 @@ use mathlib.Core.Option.{Option, none, some}
 use Prim.Native.Nat.{ℕ, _+_, _≤_, _<_}
 use native.Mathlib.Omega.{arith}
 use lib.ListN.{getD}
+use Rattle.basics.specs.Limits as limits
 use Rattle.basics.specs.Truth.{not-both}
 use Rattle.names.specs.Sets.{member}
 use Rattle.turns.specs.Turns as turns
@@ -22,12 +23,12 @@ use Rattle.answer.specs.Stored.{Analysed, StoredAt, Stored}
 pub record Bounds (v : Width) (w : List ℕ) (q : ℕ) : Type 0 where
   pub state : wordAt v w q 0 ≤ 2
   pub input : wordAt v w q 1 ≤ 1
-  pub room : wordAt v w q 3 + wordAt v w q 2 ≤ 128
+  pub room : wordAt v w q 3 + wordAt v w q 2 ≤ limits.statements
   pub span : (x : ℕ) → member (setAt v w q 0) x ≡ true → spanAt v w q x < 4294967296
   pub place : (k : ℕ) → k < wordAt v w q 2 → placeAt v w q k < 131072
 
 abbrev pub Sound : Width → List ℕ → Type 0
-Sound v w = (q : ℕ) → 1 ≤ q → q ≤ 32 → 1 ≤ wordAt v w q 0 → Bounds v w q
+Sound v w = (q : ℕ) → 1 ≤ q → q ≤ limits.queries → 1 ≤ wordAt v w q 0 → Bounds v w q
 
 pub mark-low : (b : Bool) → mark b ≤ 1
 mark-low true = omega arith

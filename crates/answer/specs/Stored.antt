@@ -4,6 +4,7 @@ use mathlib.Core.List.{List}
 use mathlib.Core.Option.{Option, none, some}
 use Prim.Native.Nat.{ℕ, _+_, _*_, _≤_, _<_}
 use lib.ListN.{getD}
+use Rattle.basics.specs.Limits as limits
 use Rattle.names.specs.Sets.{member}
 use Rattle.widths.specs.declared.Width.{Width}
 use Rattle.blocks.specs.Layout.{wordAt, setAt, spanAt, placeAt}
@@ -30,7 +31,7 @@ pub record Analysed (v : Width) (w : List ℕ) (q : ℕ) (a : QuerySchedule) : T
   pub placed : wordAt v w q 0 ≡ 1 + mark (turns.placed (a .definitions) (a .count) nameBound)
   pub input : wordAt v w q 1 ≡ mark (a .scope .usesInput)
   pub count : wordAt v w q 2 ≡ a .count
-  pub room : wordAt v w q 3 + a .count ≤ 128
+  pub room : wordAt v w q 3 + a .count ≤ limits.statements
   pub locals : (x : ℕ) → isLocal (a .scope) x ≡ member (setAt v w q 0) x
   pub unscoped : (x : ℕ) → contains (a .scope .unscoped) x ≡ member (setAt v w q 1) x
   pub inputs : (x : ℕ) → contains (a .scope .inputs) x ≡ member (setAt v w q 2) x
@@ -46,4 +47,4 @@ StoredAt v w q (some a) = Analysed v w q a
 
 -- The words of a table of schedules.
 abbrev pub Stored : Width → List ℕ → List QuerySchedule → Type 0
-Stored v w schedules = (q : ℕ) → 1 ≤ q → q ≤ 32 → StoredAt v w q (scheduleOf schedules q)
+Stored v w schedules = (q : ℕ) → 1 ≤ q → q ≤ limits.queries → StoredAt v w q (scheduleOf schedules q)

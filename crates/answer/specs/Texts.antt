@@ -5,6 +5,7 @@ use mathlib.Core.List.{List, [], _∷_, _++_}
 use Prim.Native.Nat.{ℕ, _+_, _-_, _*_, _/_, _%_}
 use lib.Dec.{eqb}
 use borrow.Author.Tests.{eq-eqb, ne-eqb}
+use Rattle.basics.specs.Limits as limits
 use Rattle.names.specs.Sets.{member}
 use Rattle.writer.specs.Decimal.{rowLine}
 use Rattle.widths.specs.declared.Width.{Width}
@@ -35,7 +36,7 @@ module _ (v : Width) (w : List ℕ) (q : ℕ) where
   nameLine set x = cond (member (setAt v w q (set - 1)) x) (rowLine (q ∷ set ∷ x ∷ 0 ∷ 0 ∷ [])) []
 
   unfoldable pub setsText : List ℕ
-  setsText = analysed [] (texts localLine 0 512 ++ (texts (nameLine 2) 0 512 ++ texts (nameLine 3) 0 512))
+  setsText = analysed [] (texts localLine 0 limits.perName ++ (texts (nameLine 2) 0 limits.perName ++ texts (nameLine 3) 0 limits.perName))
 
   -- ---- by the first word
 
@@ -61,6 +62,6 @@ module _ (v : Width) (w : List ℕ) (q : ℕ) where
     unfolding placesText
     places-once = rw (ne-eqb (wordAt v w q 0) 0 once)
 
-    pub sets-once : setsText ≡ texts localLine 0 512 ++ (texts (nameLine 2) 0 512 ++ texts (nameLine 3) 0 512)
+    pub sets-once : setsText ≡ texts localLine 0 limits.perName ++ (texts (nameLine 2) 0 limits.perName ++ texts (nameLine 3) 0 limits.perName)
     unfolding setsText
     sets-once = rw (ne-eqb (wordAt v w q 0) 0 once)

@@ -11,6 +11,7 @@ use crate::sets::put_sets;
 use widths::Width;
 ghost use Prim.Native.Nat.{_≤_};
 ghost use lib.ListN.{length};
+ghost use Rattle.basics.specs.Limits as limits;
 ghost use Rattle.blocks.specs.Layout as layout;
 ghost use Rattle.answer.specs.Sound.{Sound};
 ghost use Rattle.answer.specs.Sections.{PutsAnswer};
@@ -23,7 +24,7 @@ pub fn put_answer(
     at: usize,
     width: Width,
 ) -> usize
-    requires { ⌜ (layout.answers width ≤ length (now answers)) × (queries ≤ 32) × Sound width (now answers) ⌝ }
+    requires { ⌜ (layout.answers width ≤ length (now answers)) × (queries ≤ limits.queries) × Sound width (now answers) ⌝ }
     ensures { λ r. ⌜ PutsAnswer width (now (answers .entry)) queries (now (answer .entry)) at (now (answer .exit)) r ⌝ }
 {
     let places = put_queries(answers, queries, answer, at, width);

@@ -11,7 +11,9 @@ use writer::put;
 use writer::put_bytes;
 ghost use Prim.Native.Nat.{_≤_};
 ghost use lib.ListN.{length};
+ghost use Rattle.basics.specs.Limits as limits;
 ghost use Rattle.blocks.specs.Layout as layout;
+ghost use Rattle.blocks.specs.Asks.{AsksBlock};
 ghost use Rattle.writer.specs.Writes.{Puts};
 ghost use Rattle.answers.specs.Rows.{placeRows};
 ghost use Rattle.answer.specs.Sound.{Sound};
@@ -20,7 +22,7 @@ ghost use Rattle.answer.specs.Sections.{PutsSection};
 
 // The lines of a query: none where it is never analysed.
 fn put_query_places(answers: &[u64], q: usize, answer: &mut [u8], at: usize, width: Width) -> usize
-    requires { ⌜ (layout.answers width ≤ length (now answers)) × (1 ≤ q) × (q ≤ 32) × Sound width (now answers) ⌝ }
+    requires { ⌜ AsksBlock width (now answers) q × Sound width (now answers) ⌝ }
     ensures { λ r. ⌜ Puts (now (answer .entry)) at (placesText width (now (answers .entry)) q) (now (answer .exit)) r ⌝ }
 {
     if word_at(width, answers, q, STATE) == 0 {
@@ -45,7 +47,7 @@ pub fn put_places(
     at: usize,
     width: Width,
 ) -> usize
-    requires { ⌜ (layout.answers width ≤ length (now answers)) × (queries ≤ 32) × Sound width (now answers) ⌝ }
+    requires { ⌜ (layout.answers width ≤ length (now answers)) × (queries ≤ limits.queries) × Sound width (now answers) ⌝ }
     ensures { λ r. ⌜ PutsSection placeRows "query place index reached" width (now (answers .entry)) queries (now (answer .entry)) at (now (answer .exit)) r ⌝ }
 {
     let mut place = put_bytes(answer, at, b"query place index reached\n");

@@ -9,7 +9,9 @@ use writer::put;
 use writer::put_bytes;
 ghost use Prim.Native.Nat.{_≤_};
 ghost use lib.ListN.{length};
+ghost use Rattle.basics.specs.Limits as limits;
 ghost use Rattle.blocks.specs.Layout as layout;
+ghost use Rattle.blocks.specs.Asks.{AsksBlock};
 ghost use Rattle.writer.specs.Writes.{Puts};
 ghost use Rattle.answers.specs.Rows.{queryRows};
 ghost use Rattle.answer.specs.Sound.{Sound};
@@ -18,7 +20,7 @@ ghost use Rattle.answer.specs.Sections.{PutsSection};
 
 // The line of a query. One that is never analysed has placed 2.
 fn put_query(answers: &[u64], q: usize, answer: &mut [u8], at: usize, width: Width) -> usize
-    requires { ⌜ (layout.answers width ≤ length (now answers)) × (1 ≤ q) × (q ≤ 32) × Sound width (now answers) ⌝ }
+    requires { ⌜ AsksBlock width (now answers) q × Sound width (now answers) ⌝ }
     ensures { λ r. ⌜ Puts (now (answer .entry)) at (queryText width (now (answers .entry)) q) (now (answer .exit)) r ⌝ }
 {
     let state = word_at(width, answers, q, STATE) as usize;
@@ -36,7 +38,7 @@ pub fn put_queries(
     at: usize,
     width: Width,
 ) -> usize
-    requires { ⌜ (layout.answers width ≤ length (now answers)) × (queries ≤ 32) × Sound width (now answers) ⌝ }
+    requires { ⌜ (layout.answers width ≤ length (now answers)) × (queries ≤ limits.queries) × Sound width (now answers) ⌝ }
     ensures { λ r. ⌜ PutsSection queryRows "query placed input" width (now (answers .entry)) queries (now (answer .entry)) at (now (answer .exit)) r ⌝ }
 {
     let mut place = put_bytes(answer, at, b"query placed input\n");

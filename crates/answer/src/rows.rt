@@ -3,11 +3,13 @@
 use writer::put_value;
 ghost use mathlib.Core.List.{[], _∷_};
 ghost use Prim.Native.Nat.{_≤_};
+ghost use Rattle.basics.specs.Limits as limits;
 ghost use Rattle.writer.specs.Writes.{Puts};
 ghost use Rattle.writer.specs.Decimal.{rowLine};
+ghost use Rattle.answer.specs.Asks.{FourValues, FiveValues};
 
 pub fn put_three(answer: &mut [u8], at: usize, a: usize, b: usize, c: usize) -> usize
-    requires { ⌜ (a ≤ 65535) × (b ≤ 65535) × (c ≤ 65535) ⌝ }
+    requires { ⌜ (a ≤ limits.value) × (b ≤ limits.value) × (c ≤ limits.value) ⌝ }
     ensures { λ r. ⌜ Puts (now (answer .entry)) at (rowLine (a ∷ b ∷ c ∷ [])) (now (answer .exit)) r ⌝ }
 {
     let second = put_value(answer, at, a, b' ');
@@ -16,7 +18,7 @@ pub fn put_three(answer: &mut [u8], at: usize, a: usize, b: usize, c: usize) -> 
 }
 
 pub fn put_four(answer: &mut [u8], at: usize, a: usize, b: usize, c: usize, d: usize) -> usize
-    requires { ⌜ (a ≤ 65535) × (b ≤ 65535) × (c ≤ 65535) × (d ≤ 65535) ⌝ }
+    requires { ⌜ FourValues a b c d ⌝ }
     ensures { λ r. ⌜ Puts (now (answer .entry)) at (rowLine (a ∷ b ∷ c ∷ d ∷ [])) (now (answer .exit)) r ⌝ }
 {
     let second = put_value(answer, at, a, b' ');
@@ -32,7 +34,7 @@ pub fn put_five(
     d: usize,
     e: usize,
 ) -> usize
-    requires { ⌜ (a ≤ 65535) × (b ≤ 65535) × (c ≤ 65535) × (d ≤ 65535) × (e ≤ 65535) ⌝ }
+    requires { ⌜ FiveValues a b c d e ⌝ }
     ensures { λ r. ⌜ Puts (now (answer .entry)) at (rowLine (a ∷ b ∷ c ∷ d ∷ e ∷ [])) (now (answer .exit)) r ⌝ }
 {
     let second = put_value(answer, at, a, b' ');

@@ -11,7 +11,9 @@ use writer::put;
 use writer::put_bytes;
 ghost use Prim.Native.Nat.{_≤_};
 ghost use lib.ListN.{length};
+ghost use Rattle.basics.specs.Limits as limits;
 ghost use Rattle.blocks.specs.Layout as layout;
+ghost use Rattle.blocks.specs.Asks.{AsksBlock};
 ghost use Rattle.writer.specs.Writes.{Puts};
 ghost use Rattle.answers.specs.Rows.{setRows};
 ghost use Rattle.answer.specs.Sound.{Sound, Bounds};
@@ -21,8 +23,8 @@ ghost use Rattle.answer.specs.Sections.{PutsSection};
 
 // The locals of a query.
 fn put_locals(answers: &[u64], q: usize, answer: &mut [u8], at: usize, width: Width) -> usize
-    requires { ⌜ (layout.answers width ≤ length (now answers)) × (1 ≤ q) × (q ≤ 32) × Bounds width (now answers) q ⌝ }
-    ensures { λ r. ⌜ Puts (now (answer .entry)) at (texts (localLine width (now (answers .entry)) q) 0 512) (now (answer .exit)) r ⌝ }
+    requires { ⌜ AsksBlock width (now answers) q × Bounds width (now answers) q ⌝ }
+    ensures { λ r. ⌜ Puts (now (answer .entry)) at (texts (localLine width (now (answers .entry)) q) 0 limits.perName) (now (answer .exit)) r ⌝ }
 {
     let names = set_at(width, answers, q, 0);
     let mut place = at;
@@ -44,8 +46,8 @@ fn put_names(
     at: usize,
     width: Width,
 ) -> usize
-    requires { ⌜ (layout.answers width ≤ length (now answers)) × (1 ≤ q) × (q ≤ 32) × (1 ≤ set) × (set ≤ 3) ⌝ }
-    ensures { λ r. ⌜ Puts (now (answer .entry)) at (texts (nameLine width (now (answers .entry)) q set) 0 512) (now (answer .exit)) r ⌝ }
+    requires { ⌜ AsksBlock width (now answers) q × (1 ≤ set) × (set ≤ 3) ⌝ }
+    ensures { λ r. ⌜ Puts (now (answer .entry)) at (texts (nameLine width (now (answers .entry)) q set) 0 limits.perName) (now (answer .exit)) r ⌝ }
 {
     let names = set_at(width, answers, q, set - 1);
     let mut place = at;
@@ -59,7 +61,7 @@ fn put_names(
 
 // The lines of a query: none where it is never analysed.
 fn put_query_sets(answers: &[u64], q: usize, answer: &mut [u8], at: usize, width: Width) -> usize
-    requires { ⌜ (layout.answers width ≤ length (now answers)) × (1 ≤ q) × (q ≤ 32) × Sound width (now answers) ⌝ }
+    requires { ⌜ AsksBlock width (now answers) q × Sound width (now answers) ⌝ }
     ensures { λ r. ⌜ Puts (now (answer .entry)) at (setsText width (now (answers .entry)) q) (now (answer .exit)) r ⌝ }
 {
     if word_at(width, answers, q, STATE) == 0 {
@@ -77,7 +79,7 @@ pub fn put_sets(
     at: usize,
     width: Width,
 ) -> usize
-    requires { ⌜ (layout.answers width ≤ length (now answers)) × (queries ≤ 32) × Sound width (now answers) ⌝ }
+    requires { ⌜ (layout.answers width ≤ length (now answers)) × (queries ≤ limits.queries) × Sound width (now answers) ⌝ }
     ensures { λ r. ⌜ PutsSection setRows "query set name line col" width (now (answers .entry)) queries (now (answer .entry)) at (now (answer .exit)) r ⌝ }
 {
     let mut place = put_bytes(answer, at, b"query set name line col\n");

@@ -1,5 +1,5 @@
 -- The most that a call takes of each thing, and the least that it is lent. The definitions say these numbers here alone.
-use Prim.Native.Nat.{ℕ}
+use Prim.Native.Nat.{ℕ, suc, _+_, _*_}
 
 -- ---- what the library and the printing program differ in
 
@@ -58,3 +58,37 @@ nesting = 8
 -- And the least: the entries of the tables.
 abbrev pub tables : ℕ
 tables = 8192
+
+-- ---- computed from these
+
+-- An element for each name that a sheet can have, and one for the empty name.
+abbrev pub perName : ℕ
+perName = suc (library .names)
+
+-- The rows that rows name, in one numbering: queries, statements, expressions.
+abbrev pub rows : ℕ
+rows = queries + statements + expressions
+
+-- A word for each of these rows, and one for no row.
+abbrev pub perRow : ℕ
+perRow = suc rows
+
+-- These, and a word for each expression and for none behind them.
+abbrev pub perChain : ℕ
+perChain = perRow + suc expressions
+
+-- The words of work that every call is lent.
+abbrev pub leastWork : ℕ
+leastWork = printing .work
+
+-- A cell for each statement of a list of definitions, then one for each definition.
+abbrev pub cells : ℕ
+cells = statements + definitions
+
+-- Two words, a set of statements, for each name.
+abbrev pub masks : ℕ
+masks = 2 * perName
+
+-- The words of as many definitions as the library takes.
+abbrev pub definitionWords : ℕ
+definitionWords = library .row * definitions

@@ -10,18 +10,19 @@ use lib.ListN.{length, getD, set, length-set}
 use lib.Seq.{getD-set-same, getD-set-other}
 use borrow.Author.Tests.{eq-eqb, ne-eqb, eqb-true, eqb-false}
 use borrow.Author.Count.{below-none, below-more}
+use Rattle.basics.specs.Limits as limits
 use Rattle.basics.specs.Truth.{bool-cases, eq-cases}
 use Rattle.widths.specs.declared.Width.{Width}
 use Rattle.widths.specs.declared.Width.the-variants.{Two, Eight}
 use Rattle.widths.specs.Widths.{words, Put}
 use Rattle.blocks.specs.Layout.{block, places, answers, both, half, spanAt, SpansPut}
 
--- A block has room for four words, three sets and half as many words as names; the places are behind 32 of them.
+-- A block has room for four words, three sets and half as many words as names; the places are behind them all.
 pub block-is : (v : Width) → block v ≡ 4 + 3 * words v + 32 * words v
 block-is Two = refl
 block-is Eight = refl
 
-pub block-in : (v : Width) (q : ℕ) → 1 ≤ q → q ≤ 32 → block v * (q - 1) + block v ≤ places v
+pub block-in : (v : Width) (q : ℕ) → 1 ≤ q → q ≤ limits.queries → block v * (q - 1) + block v ≤ places v
 block-in Two q l h = omega arith
 block-in Eight q l h = omega arith
 
@@ -29,15 +30,15 @@ pub block-apart : (v : Width) (p q : ℕ) → 1 ≤ p → p < q → block v * (p
 block-apart Two p q l h = omega arith
 block-apart Eight p q l h = omega arith
 
-pub answers-are : (v : Width) → answers v ≡ places v + 128
+pub answers-are : (v : Width) → answers v ≡ places v + limits.statements
 answers-are Two = refl
 answers-are Eight = refl
 
-pub places-few : (v : Width) → places v ≤ 9088
+pub places-few : (v : Width) → places v ≤ places Eight
 places-few Two = omega arith
 places-few Eight = omega arith
 
-pub block-few : (v : Width) → (4 ≤ block v) × (block v ≤ 284)
+pub block-few : (v : Width) → (4 ≤ block v) × (block v ≤ block Eight)
 block-few Two = (omega arith, omega arith)
 block-few Eight = (omega arith, omega arith)
 

@@ -8,7 +8,9 @@ use widths::store_set;
 ghost use mathlib.Core.Path.{_≡_};
 ghost use Prim.Native.Nat.{_+_, _-_, _*_, _≤_, _<_};
 ghost use lib.ListN.{length, getD};
+ghost use Rattle.basics.specs.Limits as limits;
 ghost use Rattle.widths.specs.Widths.{words, Same, Put};
+ghost use Rattle.blocks.specs.Asks.{AsksBlock};
 ghost use Rattle.blocks.specs.Layout.{block, places, answers, wordAt, spanAt, setAt, half, both, SpansPut};
 
 // 0: never analysed; 1: analysed and unplaced; 2: placed.
@@ -46,7 +48,7 @@ pub fn answers_of(width: Width) -> usize
 
 // Where word i of query q's block stands.
 pub fn place_of(width: Width, q: usize, i: usize) -> usize
-    requires { ⌜ (1 ≤ q) × (q ≤ 32) × (i ≤ block width) ⌝ }
+    requires { ⌜ (1 ≤ q) × (q ≤ limits.queries) × (i ≤ block width) ⌝ }
     ensures { λ r. ⌜ r ≡ block width * (q - 1) + i ⌝ }
 {
     block_of(width) * (q - 1) + i
@@ -54,7 +56,7 @@ pub fn place_of(width: Width, q: usize, i: usize) -> usize
 
 // Word i of query q's block, of the first four.
 pub fn word_at(width: Width, work: &[u64], q: usize, i: usize) -> u64
-    requires { ⌜ (answers width ≤ length (now work)) × (1 ≤ q) × (q ≤ 32) × (i ≤ 3) ⌝ }
+    requires { ⌜ AsksBlock width (now work) q × (i ≤ 3) ⌝ }
     ensures { λ r. ⌜ r ≡ wordAt width (now (work .entry)) q i ⌝ }
 {
     work[place_of(width, q, i)]
@@ -72,7 +74,7 @@ pub fn places_of(width: Width) -> usize
 
 // Place k of a query whose places begin at `base` among those of all.
 pub fn statement_at(width: Width, work: &[u64], base: usize, k: usize) -> u64
-    requires { ⌜ (answers width ≤ length (now work)) × (base + k < 128) ⌝ }
+    requires { ⌜ (answers width ≤ length (now work)) × (base + k < limits.statements) ⌝ }
     ensures { λ r. ⌜ r ≡ getD (now (work .entry)) (places width + base + k) 0 ⌝ }
 {
     work[places_of(width) + base + k]
@@ -80,7 +82,7 @@ pub fn statement_at(width: Width, work: &[u64], base: usize, k: usize) -> u64
 
 // The set s of query q: 0 the locals, 1 unscoped, 2 inputs.
 pub fn set_at(width: Width, work: &[u64], q: usize, s: usize) -> Names
-    requires { ⌜ (answers width ≤ length (now work)) × (1 ≤ q) × (q ≤ 32) × (s ≤ 2) ⌝ }
+    requires { ⌜ AsksBlock width (now work) q × (s ≤ 2) ⌝ }
     ensures { λ r. ⌜ Same (setAt width (now (work .entry)) q s) (r .words) ⌝ }
 {
     let at = place_of(width, q, 4 + width.words() * s);
@@ -89,7 +91,7 @@ pub fn set_at(width: Width, work: &[u64], q: usize, s: usize) -> Names
 
 // Puts the set s of query q, as many of its words as the width has.
 pub fn put_set(width: Width, work: &mut [u64], q: usize, s: usize, set: Names)
-    requires { ⌜ (answers width ≤ length (now work)) × (1 ≤ q) × (q ≤ 32) × (s ≤ 2) ⌝ }
+    requires { ⌜ AsksBlock width (now work) q × (s ≤ 2) ⌝ }
     ensures { λ _. ⌜ Put (words width) (now (work .entry)) (block width * (q - 1) + (4 + words width * s)) (set .words) (now (work .exit)) ⌝ }
 {
     let at = place_of(width, q, 4 + width.words() * s);
@@ -105,7 +107,7 @@ fn half_of(word: u64, upper: bool) -> u64
 
 // The position of the local x of query q.
 pub fn span_at(width: Width, work: &[u64], q: usize, x: usize) -> u64
-    requires { ⌜ (answers width ≤ length (now work)) × (1 ≤ q) × (q ≤ 32) × (x < 64 * words width) ⌝ }
+    requires { ⌜ AsksBlock width (now work) q × (x < 64 * words width) ⌝ }
     ensures { λ r. ⌜ r ≡ spanAt width (now (work .entry)) q x ⌝ }
 {
     let at = place_of(width, q, 4 + 3 * width.words() + x / 2);
@@ -121,7 +123,7 @@ fn both_of(lower: u32, upper: u32) -> u64
 
 // Puts the positions of query q's locals, `spans` having one for each name.
 pub fn put_spans(width: Width, work: &mut [u64], q: usize, spans: &[u32])
-    requires { ⌜ (answers width ≤ length (now work)) × (1 ≤ q) × (q ≤ 32) × (64 * words width ≤ length (now spans)) ⌝ }
+    requires { ⌜ AsksBlock width (now work) q × (64 * words width ≤ length (now spans)) ⌝ }
     ensures { λ _. ⌜ SpansPut width (now (work .entry)) q (now (spans .entry)) (now (work .exit)) ⌝ }
 {
     let first = place_of(width, q, 4 + 3 * width.words());

@@ -5,6 +5,7 @@ use mathlib.Core.List.{List, [], _∷_}
 use mathlib.Core.Logic.{_⊎_, inl, inr, ⊎-elim}
 use Prim.Native.Nat.{ℕ, zero, suc, _-_, _≤_, _<_}
 use native.Mathlib.Omega.{arith}
+use Rattle.basics.specs.Limits as limits
 use Rattle.basics.specs.Truth.{bool-cases, not-both}
 use Rattle.records.specs.declared.Counts.{Counts}
 use Rattle.records.specs.Layout.{Within, exprAt}
@@ -71,7 +72,7 @@ module _ (n r : ℕ) (w : Row) (d : Descends n r w) where
 -- ---- names
 
 module _ (c : Counts) (t : List ℕ) (within : Within c) (facts : SheetFacts c (inTables t)) where
-  low-by : (section v : ℕ) → v ≤ limitOf c section → (section ≡ nameSection) ⊎ (section ≡ 0) → v < 512
+  low-by : (section v : ℕ) → v ≤ limitOf c section → (section ≡ nameSection) ⊎ (section ≡ 0) → v < limits.perName
   low-by section v h (inl e) = let l : v ≤ limitOf c nameSection = subst (λ (k : ℕ). v ≤ limitOf c k) e h in omega (arith, within .few-names)
   low-by section v h (inr e) = let l : v ≤ limitOf c 0 = subst (λ (k : ℕ). v ≤ limitOf c k) e h in omega arith
 
@@ -84,7 +85,7 @@ module _ (c : Counts) (t : List ℕ) (within : Within c) (facts : SheetFacts c (
   unfolding rowAt
   name-counted r a b = counted-by _ (exprAt t r .name) (facts .expr r a b .name .fine .in-range) (name-in-kind (exprAt t r .kind))
 
-  pub name-low : (r : ℕ) → 1 ≤ r → r ≤ c .exprs → rowAt t r .name < 512
+  pub name-low : (r : ℕ) → 1 ≤ r → r ≤ c .exprs → rowAt t r .name < limits.perName
   unfolding rowAt
   name-low r a b = low-by _ (exprAt t r .name) (facts .expr r a b .name .fine .in-range) (name-in-kind (exprAt t r .kind))
 

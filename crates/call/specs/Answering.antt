@@ -4,7 +4,7 @@ use mathlib.Core.Bool.{true, false}
 use mathlib.Core.List.{List, [], _++_}
 use Prim.Native.Nat.{ℕ, _-_, _≤_, _<_}
 use native.Mathlib.Omega.{arith}
-use lib.ListN.{length, getD, take, drop, replicate, length-drop}
+use lib.ListN.{length, take, drop, replicate, length-drop}
 use lib.Seq.{take-length}
 use Rattle.basics.specs.Refusals as refusals
 use Rattle.basics.specs.Truth.{not-both}
@@ -25,7 +25,7 @@ use Rattle.answers.specs.Once.{analysedOnce}
 use Rattle.answer.specs.Stored.{Stored}
 use Rattle.answer.specs.Sound.{Sound, stored-sound}
 use Rattle.answer.specs.Sections.{PutsAnswer}
-use Rattle.gather.specs.Sheets.{sheetAt}
+use Rattle.gather.specs.Sheets.{sheetAt, queryCount}
 use Rattle.frame.specs.declared.Fault.{Fault}
 use Rattle.frame.specs.declared.Fault.the-variants as code
 use Rattle.frame.specs.Faults.{isSound, meaning}
@@ -105,13 +105,13 @@ module _ (v : Width) (t w : List ℕ) (f : Fault) (a : Analysed v t w f) where
     pub answers-sound : Sound v (answersOf v w)
     answers-sound = stored-sound v (answersOf v w) (run .schedules) (a .stored ends)
 
-    queries-count : length (sheetAt t .queries) ≡ getD t 4 0
+    queries-count : length (sheetAt t .queries) ≡ queryCount t
     unfolding sheetAt sheetOf
-    queries-count = rows-length (firstAt t) (getD t 4 0)
+    queries-count = rows-length (firstAt t) (queryCount t)
 
     -- The writer says what it does for any schedules that are stored.
     pub answering : (room : ℕ) (r : Reply) (b : List ℕ)
-        → ((schedules : List QuerySchedule) → Stored v (answersOf v w) schedules → Replies room (fitting room (answerText (getD t 4 0) schedules)) r b)
+        → ((schedules : List QuerySchedule) → Stored v (answersOf v w) schedules → Replies room (fitting room (answerText (queryCount t) schedules)) r b)
         → Replies room (analysedOnce (sheetAt t) room) r b
     unfolding analysedOnce
     answering room r b k =

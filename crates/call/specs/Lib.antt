@@ -2,3 +2,4 @@ pub mod Replies
 pub mod Answering
 pub mod ReadSheet
 pub mod Whole
+pub mod Asks

@@ -9,6 +9,7 @@ use lib.Dec.{leb}
 use lib.ListN.{length, getD, drop, length-replicate}
 use lib.Seq.{sets-eq, length-sets}
 use borrow.Author.Tests.{leb-true}
+use Rattle.basics.specs.Limits as limit
 use Rattle.basics.specs.Truth.{bool-cases, and-left, and-right}
 use Rattle.widths.specs.declared.Width.{Width}
 use Rattle.widths.specs.Widths.{limits, names, work}
@@ -26,11 +27,11 @@ use Rattle.trees.specs.Sheet.{sheetIn, sheetOf}
 use Rattle.gather.specs.Sheets.{countsAt, sheetAt, Accepted}
 
 module _ (s : List ℕ) where
-  rows-long : length (tables s emptyTables) ≡ 8192
+  rows-long : length (tables s emptyTables) ≡ limit.tables
   unfolding tables emptyTables
-  rows-long = length-putSections _ _ emptyTables ∙ length-replicate {A = ℕ} 8192 0
+  rows-long = length-putSections _ _ emptyTables ∙ length-replicate {A = ℕ} limit.tables 0
 
-  pub tables-long : length (readTables s) ≡ 8192
+  pub tables-long : length (readTables s) ≡ limit.tables
   unfolding readTables
   tables-long = length-sets (tables s emptyTables) 0 (headOf (readCounts s) (readSpecial s)) ∙ rows-long
 
@@ -48,12 +49,12 @@ module _ (s : List ℕ) where
 
   module _ (w : Width) (room long : ℕ) (h : verdict (limits w) s room long ≡ Read) where
     -- Question 1.
-    pub enough : (8192 ≤ room) × (work w ≤ long)
+    pub enough : (limit.tables ≤ room) × (work w ≤ long)
     unfolding verdict
-    enough = go (bool-cases (leb 8192 room && leb (work w) long))
+    enough = go (bool-cases (leb limit.tables room && leb (work w) long))
       where
-        go : ((leb 8192 room && leb (work w) long) ≡ true) ⊎ ((leb 8192 room && leb (work w) long) ≡ false) → (8192 ≤ room) × (work w ≤ long)
-        go (inl e) = (leb-true 8192 room (and-left _ _ e), leb-true (work w) long (and-right (leb 8192 room) _ e))
+        go : ((leb limit.tables room && leb (work w) long) ≡ true) ⊎ ((leb limit.tables room && leb (work w) long) ≡ false) → (limit.tables ≤ room) × (work w ≤ long)
+        go (inl e) = (leb-true limit.tables room (and-left _ _ e), leb-true (work w) long (and-right (leb limit.tables room) _ e))
         go (inr e) = let f : NoRoom ≡ Read = rw e at h in let z : _≡_ {A = ℕ} 0 1 = cc in absurd (omega arith)
 
     -- Question 5.

@@ -5,6 +5,7 @@ use Prim.Native.Nat.{ℕ, _-_, _≤_}
 use native.Mathlib.Omega.{arith}
 use lib.ListN.{length, getD, take, replicate, length-append, length-replicate}
 use lib.Seq.{take-at}
+use Rattle.basics.specs.Limits as limit
 use Rattle.basics.specs.Limits.{Limits}
 use Rattle.widths.specs.declared.Width.{Width}
 use Rattle.widths.specs.Widths.{limits, names, work}
@@ -18,7 +19,7 @@ use Rattle.trees.specs.Sheet.{Sheet}
 use Rattle.trees.specs.Sheet.{sheetIn}
 use Rattle.answers.specs.Once.{analysedOnce, analysed-once}
 use Rattle.answers.specs.Call.{analysed, afterReading, result, leftBy, left}
-use Rattle.gather.specs.Sheets.{sheetAt, Accepted}
+use Rattle.gather.specs.Sheets.{sheetAt, Accepted, nameCount}
 use Rattle.call.specs.declared.replies.Reply.{Reply}
 use Rattle.call.specs.Replies.{outcomeReply, asLeft, Replies, outcome-replies}
 use Rattle.call.specs.ReadSheet.{tables-long, sheet-same, enough, few-names, accepted}
@@ -61,33 +62,33 @@ module _ (w : Width) (s : List ℕ) (room long : ℕ) (o : Outcome) (t : List �
     is-read : verdict (limits w) s room long ≡ Read
     is-read = sym (k .came-to) ∙ read-number o h
 
-    tables-are : t ≡ readTables s ++ replicate (room - 8192) 0
+    tables-are : t ≡ readTables s ++ replicate (room - limit.tables) 0
     tables-are = k .tabled (ap isRead (read-number o h)) ∙ ap (leftTables s room) (read-number o h)
 
-    pub tables-enough : 8192 ≤ length t
-    tables-enough = omega (arith, ap length tables-are, length-append (readTables s) (replicate (room - 8192) 0), tables-long s)
+    pub tables-enough : limit.tables ≤ length t
+    tables-enough = omega (arith, ap length tables-are, length-append (readTables s) (replicate (room - limit.tables) 0), tables-long s)
 
     pub work-enough : work w ≤ long
     work-enough = enough s w room long is-read .1
 
-    lent-tables : take 8192 t ≡ readTables s
-    lent-tables = ap (take 8192) tables-are ∙ take-at (readTables s) (replicate (room - 8192) 0) 8192 (tables-long s)
+    lent-tables : take limit.tables t ≡ readTables s
+    lent-tables = ap (take limit.tables) tables-are ∙ take-at (readTables s) (replicate (room - limit.tables) 0) limit.tables (tables-long s)
 
-    pub lent-accepted : Accepted (take 8192 t)
+    pub lent-accepted : Accepted (take limit.tables t)
     lent-accepted = subst Accepted (sym lent-tables) (accepted s w room long is-read)
 
-    pub lent-names : getD (take 8192 t) 0 0 ≤ names w
+    pub lent-names : nameCount (take limit.tables t) ≤ names w
     lent-names = subst (λ (l : List ℕ). getD l 0 0 ≤ names w) (sym lent-tables) (few-names s w room long is-read)
 
-    lent-sheet : sheetAt (take 8192 t) ≡ sheetIn s
+    lent-sheet : sheetAt (take limit.tables t) ≡ sheetIn s
     lent-sheet = ap sheetAt lent-tables ∙ sheet-same s w room long is-read
 
-    once : (most : ℕ) → analysedOnce (sheetAt (take 8192 t)) most ≡ analysed (sheetAt (take 8192 t)) most
+    once : (most : ℕ) → analysedOnce (sheetAt (take limit.tables t)) most ≡ analysed (sheetAt (take limit.tables t)) most
     unfolding sheetAt
-    once most = sym (analysed-once _ _ (take 8192 t) (lent-accepted .within) (lent-accepted .fine) most)
+    once most = sym (analysed-once _ _ (take limit.tables t) (lent-accepted .within) (lent-accepted .fine) most)
 
     -- The other questions are put.
-    pub answers : (most : ℕ) (r : Reply) (a : List ℕ) → Replies most (analysedOnce (sheetAt (take 8192 t)) most) r a
+    pub answers : (most : ℕ) (r : Reply) (a : List ℕ) → Replies most (analysedOnce (sheetAt (take limit.tables t)) most) r a
         → Replies most (result (limits w) s room long most) r a
     unfolding result
     answers most r a replied entries words =

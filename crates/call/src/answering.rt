@@ -7,23 +7,21 @@ use blocks::answers_of;
 use widths::Width;
 ghost use mathlib.Core.Path.{_≡_};
 ghost use mathlib.Core.List.{List};
-ghost use Prim.Native.Nat.{_≤_};
-ghost use lib.ListN.{length, getD, replicate};
-ghost use Rattle.widths.specs.Widths.{limits};
-ghost use Rattle.blocks.specs.Layout.{answers};
+ghost use lib.ListN.{length, replicate};
 ghost use Rattle.analysis.specs.States.{QuerySchedule};
 ghost use Rattle.answers.specs.Text.{answerText};
 ghost use Rattle.answers.specs.Call.{fitting};
 ghost use Rattle.answers.specs.Once.{analysedOnce};
 ghost use Rattle.answer.specs.Stored.{Stored};
-ghost use Rattle.answer.specs.Sound.{Sound};
-ghost use Rattle.gather.specs.Sheets.{sheetAt, Accepted};
+ghost use Rattle.gather.specs.Sheets.{sheetAt};
 ghost use Rattle.frame.specs.Table.{answersOf};
+ghost use Rattle.analyzer.specs.Asks.{AsksSheet};
+ghost use Rattle.call.specs.Asks.{AsksAnswer};
 ghost use Rattle.call.specs.Replies.{Replies};
 
 // Question 8, of the answers in the last words of work. The lent bytes are zeros.
 fn write_answer(work: &[u64], queries: usize, answer: &mut [u8], width: Width) -> Reply
-    requires { ⌜ (answers width ≤ length (now work)) × (queries ≤ 32) × Sound width (answersOf width (now work)) × (now answer ≡ replicate (length (now answer)) 0) ⌝ }
+    requires { ⌜ AsksAnswer width (now work) queries (now answer) ⌝ }
     ensures { λ r. ⌜ ((schedules : List QuerySchedule) → Stored width (answersOf width (now (work .entry))) schedules → Replies (length (now (answer .entry))) (fitting (length (now (answer .entry))) (answerText queries schedules)) r (now (answer .exit))) ⌝ }
 {
     let from = work.len() - answers_of(width);
@@ -45,7 +43,7 @@ fn write_answer(work: &[u64], queries: usize, answer: &mut [u8], width: Width) -
 
 // The lent bytes are zeros.
 pub fn answer_sheet(tables: &[u16], work: &mut [u64], answer: &mut [u8], width: Width) -> Reply
-    requires { ⌜ Accepted (now tables) × (getD (now tables) 0 0 ≤ limits width .names) × (limits width .work ≤ length (now work)) × (now answer ≡ replicate (length (now answer)) 0) ⌝ }
+    requires { ⌜ AsksSheet (now tables) width (now work) × (now answer ≡ replicate (length (now answer)) 0) ⌝ }
     ensures { λ r. ⌜ Replies (length (now (answer .entry))) (analysedOnce (sheetAt (now (tables .entry))) (length (now (answer .entry)))) r (now (answer .exit)) ⌝ }
 {
     let fault = analyze_sheet(tables, work, width);

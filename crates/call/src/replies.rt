@@ -4,6 +4,7 @@ use frame::Fault;
 use sheet::Outcome;
 ghost use mathlib.Core.Path.{_≡_};
 ghost use Prim.Native.Nat.{_≤_};
+ghost use Rattle.basics.specs.Limits as limits;
 ghost use Rattle.sheet.specs.Verdict.{faultLine};
 ghost use Rattle.call.specs.Replies.{outcomeReply, faultReply};
 
@@ -15,7 +16,7 @@ pub struct Reply {
 
 // Questions 1 to 6.
 pub fn of_outcome(outcome: Outcome) -> Reply
-    requires { ⌜ faultLine outcome ≤ 65535 ⌝ }
+    requires { ⌜ faultLine outcome ≤ limits.value ⌝ }
     ensures { λ r. ⌜ r ≡ outcomeReply outcome ⌝ }
 {
     Reply {

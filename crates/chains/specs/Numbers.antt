@@ -10,6 +10,7 @@ use lib.Dec.{eqb, leb, ltb}
 use lib.ListN.{length, getD, set, length-set}
 use lib.Seq.{getD-set-same, getD-set-other}
 use borrow.Author.Tests.{eqb-true}
+use Rattle.basics.specs.Limits as limits
 use Rattle.basics.specs.Truth.{bool-cases, eq-cases}
 use Rattle.records.specs.declared.Counts.{Counts}
 use Rattle.records.specs.Layout.{exprAt}
@@ -70,24 +71,24 @@ code-more false false true false = refl
 code-more false false false true = refl
 code-more false false false false = refl
 
--- ---- the numbers in memory: row r's at 673 + r, behind the marks
+-- ---- the numbers in memory: row r's stands r behind the marks
 
 -- What comes after row r, whose `next` is this: nothing, which is all Vars and even; a later row's chain; or a chain that never ends.
 unfoldable pub restBy : Counts → List ℕ → ℕ → ℕ → ℕ
-restBy c w r next = cond (eqb next 0) 5 (cond (ltb r next && leb next (c .exprs)) (getD w (673 + next) 0) 1)
+restBy c w r next = cond (eqb next 0) 5 (cond (ltb r next && leb next (c .exprs)) (getD w (limits.perRow + next) 0) 1)
 
 unfoldable pub numberBy : Counts → List ℕ → List ℕ → ℕ → ℕ
 numberBy c t w r = oneMore (isVarAt c (inTables t) r) (restBy c w r (exprAt t r .next))
 
 -- The rows after row k have their numbers.
 pub record Chained (c : Counts) (t : List ℕ) (k : ℕ) (w : List ℕ) : Type 0 where
-  pub room : 1186 ≤ length w
-  pub number : (r : ℕ) → k < r → r ≤ c .exprs → getD w (673 + r) 0 ≡ chainNumber c t r
+  pub room : limits.perChain ≤ length w
+  pub number : (r : ℕ) → k < r → r ≤ c .exprs → getD w (limits.perRow + r) 0 ≡ chainNumber c t r
 
 -- All rows have them, and the marks are as before.
 pub record Followed (c : Counts) (t before after : List ℕ) : Type 0 where
   pub chains : Chained c t 0 after
-  pub marks : (j : ℕ) → j < 673 → getD after j 0 ≡ getD before j 0
+  pub marks : (j : ℕ) → j < limits.perRow → getD after j 0 ≡ getD before j 0
 
 module _ (c : Counts) (t : List ℕ) (k : ℕ) (w : List ℕ) (h : Chained c t k w) where
   rest-is : (r : ℕ) → k ≤ r → restBy c w r (exprAt t r .next) ≡ chainCode (restVars c t r) (restEnds c t false r) (restEnds c t true r)
@@ -110,15 +111,15 @@ module _ (c : Counts) (t : List ℕ) (k : ℕ) (w : List ℕ) (h : Chained c t k
       (ap (oneMore (isVarAt c (inTables t) r)) (rest-is r l) ∙ code-more (isVarAt c (inTables t) r) (restVars c t r) (restEnds c t false r) (restEnds c t true r))
 
   -- One row more.
-  pub number-more : (v : ℕ) → 1 ≤ k → k ≤ 512 → v ≡ numberBy c t w k → Chained c t (k - 1) (set w (673 + k) v)
+  pub number-more : (v : ℕ) → 1 ≤ k → k ≤ limits.expressions → v ≡ numberBy c t w k → Chained c t (k - 1) (set w (limits.perRow + k) v)
   number-more v l m e = record {
-    room = omega (arith, length-set w (673 + k) v, h .room);
+    room = omega (arith, length-set w (limits.perRow + k) v, h .room);
     number = λ r p q. ⊎-elim
         (λ (s : r ≡ k).
-        ap (λ (j : ℕ). getD (set w (673 + k) v) (673 + j) 0) s ∙ getD-set-same w (673 + k) v 0 (omega (arith, h .room)) ∙ e
+        ap (λ (j : ℕ). getD (set w (limits.perRow + k) v) (limits.perRow + j) 0) s ∙ getD-set-same w (limits.perRow + k) v 0 (omega (arith, h .room)) ∙ e
         ∙ number-is k (omega arith) ∙ ap (chainNumber c t) (sym s))
         (λ (s : r ≡ k → ⊥).
-        getD-set-other w (673 + k) (673 + r) v 0 (λ z. s (omega arith)) ∙ h .number r (less r p s) q)
+        getD-set-other w (limits.perRow + k) (limits.perRow + r) v 0 (λ z. s (omega arith)) ∙ h .number r (less r p s) q)
         (eq-cases r k);
   }
     where

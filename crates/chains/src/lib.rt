@@ -3,17 +3,17 @@
 
 use marks::ROWS;
 use records::Counts;
+use records::kinds::VAR;
 use records::row_at;
 ghost use mathlib.Core.Path.{_≡_};
 ghost use Prim.Native.Nat.{_≤_};
 ghost use lib.ListN.{length};
+ghost use Rattle.basics.specs.Limits as limits;
 ghost use Rattle.records.specs.Layout.{Within};
 ghost use Rattle.naming.specs.Chains.{isVarAt, allVars, endsOdd};
-ghost use Rattle.chains.specs.Numbers.{oneMore, restBy, numberBy, Chained, Followed};
+ghost use Rattle.chains.specs.Asks.{AsksNumber, AsksChain};
+ghost use Rattle.chains.specs.Numbers.{oneMore, restBy, numberBy, Followed};
 ghost use Rattle.records.specs.Rows.{inTables};
-
-// The kind of a variable.
-const VAR: u16 = 6;
 
 // Where row 0's number would stand.
 const CHAIN_ROW: usize = ROWS;
@@ -25,7 +25,7 @@ const NO_END: u64 = 1;
 
 // Is expression `row` a Var?
 pub fn is_var(tables: &[u16], counts: Counts, row: usize) -> bool
-    requires { ⌜ (8192 ≤ length (now tables)) × (row ≤ 512) ⌝ }
+    requires { ⌜ (limits.tables ≤ length (now tables)) × (row ≤ limits.expressions) ⌝ }
     ensures { λ r. ⌜ r ≡ isVarAt counts (inTables (now (tables .entry))) row ⌝ }
 {
     let x = row_at(tables, row);
@@ -47,7 +47,7 @@ fn one_more(var: bool, rest: u64) -> u64
 
 // What comes after `row`, whose `next` is this.
 fn rest_after(work: &[u64], counts: Counts, row: usize, next: usize) -> u64
-    requires { ⌜ (1186 ≤ length (now work)) × Within counts ⌝ }
+    requires { ⌜ (limits.perChain ≤ length (now work)) × Within counts ⌝ }
     ensures { λ r. ⌜ r ≡ restBy counts (now (work .entry)) row next ⌝ }
 {
     if next == 0 {
@@ -64,7 +64,7 @@ fn rest_after(work: &[u64], counts: Counts, row: usize, next: usize) -> u64
 
 // What the chain from `row` on comes to, by the numbers of later rows.
 fn number_of(work: &[u64], tables: &[u16], counts: Counts, row: usize) -> u64
-    requires { ⌜ (1186 ≤ length (now work)) × (8192 ≤ length (now tables)) × (row ≤ 512) × Within counts ⌝ }
+    requires { ⌜ AsksNumber counts (now work) (now tables) row ⌝ }
     ensures { λ r. ⌜ r ≡ numberBy counts (now (tables .entry)) (now (work .entry)) row ⌝ }
 {
     let x = row_at(tables, row);
@@ -74,7 +74,7 @@ fn number_of(work: &[u64], tables: &[u16], counts: Counts, row: usize) -> u64
 
 // The numbers of all rows, the last row's first. The marks stay.
 pub fn follow_all(work: &mut [u64], tables: &[u16], counts: Counts)
-    requires { ⌜ (1186 ≤ length (now work)) × (8192 ≤ length (now tables)) × Within counts ⌝ }
+    requires { ⌜ (limits.perChain ≤ length (now work)) × (limits.tables ≤ length (now tables)) × Within counts ⌝ }
     ensures { λ _. ⌜ Followed counts (now (tables .entry)) (now (work .entry)) (now (work .exit)) ⌝ }
 {
     let mut row = counts.exprs;
@@ -88,7 +88,7 @@ pub fn follow_all(work: &mut [u64], tables: &[u16], counts: Counts)
 
 // Is each member of the chain from `row` on a Var?
 pub fn all_vars(work: &[u64], tables: &[u16], counts: Counts, row: usize) -> bool
-    requires { ⌜ Chained counts (now tables) 0 (now work) × (8192 ≤ length (now tables)) × (row ≤ 512) × Within counts ⌝ }
+    requires { ⌜ AsksChain counts (now work) (now tables) row ⌝ }
     ensures { λ r. ⌜ r ≡ allVars counts (inTables (now (tables .entry))) row ⌝ }
 {
     number_of(work, tables, counts, row) % 2 == 1
@@ -96,7 +96,7 @@ pub fn all_vars(work: &[u64], tables: &[u16], counts: Counts, row: usize) -> boo
 
 // Does the chain from `row` on end, after an odd number of members?
 pub fn ends_odd(work: &[u64], tables: &[u16], counts: Counts, row: usize) -> bool
-    requires { ⌜ Chained counts (now tables) 0 (now work) × (8192 ≤ length (now tables)) × (row ≤ 512) × Within counts ⌝ }
+    requires { ⌜ AsksChain counts (now work) (now tables) row ⌝ }
     ensures { λ r. ⌜ r ≡ endsOdd counts (inTables (now (tables .entry))) row ⌝ }
 {
     number_of(work, tables, counts, row) / 2 % 2 == 1

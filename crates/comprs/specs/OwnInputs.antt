@@ -5,6 +5,7 @@ use mathlib.Core.List.{List, [], _∷_}
 use mathlib.Core.Logic.{_⊎_, inl, inr}
 use Prim.Native.Nat.{ℕ, _<_}
 use native.Mathlib.Omega.{arith}
+use Rattle.basics.specs.Limits as limits
 use Rattle.basics.specs.Truth.{bool-cases, bool-ext, and-intro, and-left}
 use Rattle.basics.specs.Lists.{filter, elem, elem-filter}
 use Rattle.basics.specs.Ranges.{range, elem-range}
@@ -38,12 +39,12 @@ own-inputs k inputs a b r da db dr s h x =
 
 -- ---- lists of names
 
--- A set whose names are below 512 has the names on its list.
-pub elem-elements : (s : NameSet) → ((x : ℕ) → contains s x ≡ true → x < 512) → (x : ℕ) → elem x (elements s) ≡ contains s x
+-- A set whose names are in bounds has the names on its list.
+pub elem-elements : (s : NameSet) → ((x : ℕ) → contains s x ≡ true → x < limits.perName) → (x : ℕ) → elem x (elements s) ≡ contains s x
 unfolding elements
 elem-elements s low x =
-    elem-filter (contains s) x (range 0 512)
-    ∙ bool-ext _ _ (and-left (contains s x) _) (λ m. and-intro _ _ m (elem-range x 0 512 (omega arith) (low x m)))
+    elem-filter (contains s) x (range 0 limits.perName)
+    ∙ bool-ext _ _ (and-left (contains s x) _) (λ m. and-intro _ _ m (elem-range x 0 limits.perName (omega arith) (low x m)))
 
 -- A filter of a filter asks both.
 pub filter-both : (f g h : ℕ → Bool) → ((x : ℕ) → h x ≡ (g x && f x)) → (l : List ℕ) → filter f (filter g l) ≡ filter h l

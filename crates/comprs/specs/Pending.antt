@@ -7,6 +7,7 @@ use Prim.Native.Nat.{ℕ, _≤_}
 use native.Mathlib.Omega.{arith}
 use lib.Dec.{eqb}
 use borrow.Author.Tests.{ne-eqb}
+use Rattle.basics.specs.Limits as limits
 use Rattle.widths.specs.declared.Width.{Width}
 use Rattle.blocks.specs.Layout.{wordAt}
 use Rattle.records.specs.declared.Row.{Row}
@@ -47,7 +48,7 @@ module _ (p : Progress) (w : Row) (work : List ℕ) (b : Bool) (is : b ≡ isCom
 
 -- ---- what it says of the schedules
 
-module _ (v : Width) (work : List ℕ) (schedules : List QuerySchedule) (stored : Stored v (answersOf v work) schedules) (q : ℕ) (from : 1 ≤ q) (to : q ≤ 32) where
+module _ (v : Width) (work : List ℕ) (schedules : List QuerySchedule) (stored : Stored v (answersOf v work) schedules) (q : ℕ) (from : 1 ≤ q) (to : q ≤ limits.queries) where
   some-schedule : unscheduledAt v work q ≡ 0 → (a : QuerySchedule) × (scheduleOf schedules q ≡ some a)
   some-schedule z = go (scheduleOf schedules q) (stored q from to)
     where
@@ -66,7 +67,7 @@ module _ (v : Width) (work : List ℕ) (schedules : List QuerySchedule) (stored 
           absurd (ne e)
 
 module _ (p : Progress) (w : Row) (work : List ℕ) (schedules : List QuerySchedule) (stored : Stored (p .width) (answersOf (p .width) work) schedules)
-    (from : 1 ≤ w .third) (to : w .third ≤ 32) (is : isCompr w ≡ true) (sound : isSound (p .fault) ≡ true) where
+    (from : 1 ≤ w .third) (to : w .third ≤ limits.queries) (is : isCompr w ≡ true) (sound : isSound (p .fault) ≡ true) where
   asks : pendingAt p w work ≡ unscheduledAt (p .width) work (w .third)
   asks = rw (is, sound)
 

@@ -8,6 +8,7 @@ use native.Mathlib.Omega.{arith}
 use lib.Dec.{leb}
 use lib.ListN.{getD}
 use borrow.Author.Tests.{leb-true}
+use Rattle.basics.specs.Limits as limits
 use Rattle.basics.specs.Truth.{eq-cases, and-left, and-right}
 use Rattle.records.specs.Layout.{exprAt}
 use Rattle.fields.specs.Fields.{kinds, kindOf}
@@ -19,7 +20,7 @@ use Rattle.gather.specs.Sheets.{Accepted}
 
 -- If w is a comprehension, its query has a block.
 abbrev pub QueryIn : Row → Type 0
-QueryIn w = isCompr w ≡ true → (1 ≤ w .third) × (w .third ≤ 32)
+QueryIn w = isCompr w ≡ true → (1 ≤ w .third) × (w .third ≤ limits.queries)
 
 -- ---- the ways out of the test
 
@@ -50,7 +51,7 @@ module _ (t : List ℕ) (ok : Accepted t) (r : ℕ) (from : 1 ≤ r) (to : r ≤
       let h = ok .facts .expr r from to .in-third .fine .in-range in
       rw (query-field (exprAt t r .kind) is .0) at h
 
-  pub query-low : rowAt t r .third ≤ 32
+  pub query-low : rowAt t r .third ≤ limits.queries
   query-low = omega (arith, query-to, ok .within .few-queries)
 
 -- The row that a walk has read.

@@ -3,6 +3,7 @@ use mathlib.Core.Path.{_≡_, refl, sym, ap, ap₂, _∙_, subst}
 use mathlib.Core.Bool.{Bool, true, false, not, _&&_}
 use mathlib.Core.List.{List, [], _∷_, foldl}
 use Prim.Native.Nat.{ℕ}
+use Rattle.basics.specs.Limits as limits
 use Rattle.basics.specs.Truth.{not-both}
 use Rattle.basics.specs.Lists.{filter, elem-filter}
 use Rattle.basics.specs.Ranges.{range}
@@ -82,11 +83,11 @@ module _ (e : Tree) (s : State) (k : Scope) (a : Sets k (s .scope)) (tk : Taken)
 
   -- And those that are, in order.
   own-listed : (sc : spec.Scope) → ((x : ℕ) → owns sc x ≡ owns (s .scope) x)
-      → filter (owns sc) (comprInputs s e) ≡ filter (member (own .words)) (range 0 512)
+      → filter (owns sc) (comprInputs s e) ≡ filter (member (own .words)) (range 0 limits.perName)
   unfolding elements
   own-listed sc same =
       filter-both (owns sc) (contains (comprScope s e .inputs)) (member (own .words))
-      (λ x. owned (s .scope) a x ∙ ap₂ _&&_ (sym (takes .inputs x)) (sym (same x))) (range 0 512)
+      (λ x. owned (s .scope) a x ∙ ap₂ _&&_ (sym (takes .inputs x)) (sym (same x))) (range 0 limits.perName)
 
 -- ---- a comprehension's turn
 
@@ -114,7 +115,7 @@ module _ (w : Row) (work : List ℕ) (p : Progress) (ws : List ℕ) (tk : Taken)
     unfolding flagged names useInput owns
     same-owns x = joined-owns flagged names (foldl addInput flagged names) joined x
 
-    uses-listed : comprsUse sheet way (e ∷ []) (propagate sheet way (s .scope) e s) ≡ filter (member (own .words)) (range 0 512)
+    uses-listed : comprsUse sheet way (e ∷ []) (propagate sheet way (s .scope) e s) ≡ filter (member (own .words)) (range 0 limits.perName)
     unfolding comprsUse propagate setScope flagged names
     uses-listed =
         append-nil _ ∙ own-listed e s (p .scope) (h .scope .sets) tk takes own owned (foldl addInput flagged names) same-owns

@@ -8,6 +8,7 @@ use native.Mathlib.Omega.{arith}
 use lib.Dec.{eqb}
 use lib.ListN.{length, getD, drop}
 use lib.Seq.{getD-drop}
+use Rattle.basics.specs.Limits as limits
 use Rattle.basics.specs.Truth.{not-both}
 use Rattle.names.specs.Sets.{member, Empty}
 use Rattle.names.specs.Laws.{member-below}
@@ -27,7 +28,7 @@ use Rattle.comprs.specs.declared.taken.Taken.{Taken}
 -- The inputs of the scope, which are names, and its flag.
 pub record Takes (sc : Scope) (r : Taken) : Type 0 where
   pub inputs : (x : ℕ) → contains (sc .inputs) x ≡ member (r .inputs .words) x
-  pub low : (x : ℕ) → contains (sc .inputs) x ≡ true → x < 512
+  pub low : (x : ℕ) → contains (sc .inputs) x ≡ true → x < limits.perName
   pub uses : sc .usesInput ≡ r .uses
 
 -- For every table that the words hold.
@@ -56,7 +57,7 @@ marked : (b : Bool) → b ≡ eqb (mark b) 1
 marked true = refl
 marked false = refl
 
-module _ (v : Width) (w : List ℕ) (q : ℕ) (from : 1 ≤ q) (to : q ≤ 32) (state : ℕ) (is : state ≡ wordAt v (answersOf v w) q 0) where
+module _ (v : Width) (w : List ℕ) (q : ℕ) (from : 1 ≤ q) (to : q ≤ limits.queries) (state : ℕ) (is : state ≡ wordAt v (answersOf v w) q 0) where
   pub taken-none : state ≡ 0 → (k : Names) → Empty (k .words) → TakenBy v w q (record { inputs = k; uses = false })
   unfolding contains empty
   taken-none z k clear schedules stored = go (scheduleOf schedules q) (stored q from to)

@@ -13,7 +13,9 @@ use used::row::is_compr;
 ghost use mathlib.Core.Path.{_≡_};
 ghost use Prim.Native.Nat.{_≤_, _<_};
 ghost use lib.ListN.{length};
+ghost use Rattle.basics.specs.Limits as limits;
 ghost use Rattle.blocks.specs.Layout.{answers};
+ghost use Rattle.blocks.specs.Asks.{AsksBlock};
 ghost use Rattle.comprs.specs.Queries.{QueryIn};
 ghost use Rattle.comprs.specs.Propagated.{Propagated};
 ghost use Rattle.comprs.specs.Uses.{named, UsesNames};
@@ -38,7 +40,7 @@ fn propagate(scope: Scope, uses: bool, names: Names) -> Scope
 
 // A variable of this name where w stands.
 fn with_name(w: Row, name: usize) -> Row
-    requires { ⌜ name < 512 ⌝ }
+    requires { ⌜ name < limits.perName ⌝ }
     ensures { λ r. ⌜ r ≡ named w name ⌝ }
 {
     Row {
@@ -55,7 +57,7 @@ fn with_name(w: Row, name: usize) -> Row
 
 // Each of the names is used where w stands.
 fn use_names(w: Row, names: Names, firsts: &mut [u64])
-    requires { ⌜ 512 ≤ length (now firsts) ⌝ }
+    requires { ⌜ limits.perName ≤ length (now firsts) ⌝ }
     ensures { λ _. ⌜ UsesNames w names (now (firsts .entry)) (now (firsts .exit)) ⌝ }
 {
     let mut x = names.next(0);
@@ -68,7 +70,7 @@ fn use_names(w: Row, names: Names, firsts: &mut [u64])
 
 // The comprehension w, whose query is analysed without a fault. Of its inputs those that are own names are used, and the others are inputs again.
 fn rise(w: Row, p: Progress, firsts: &mut [u64], work: &[u64]) -> Progress
-    requires { ⌜ (512 ≤ length (now firsts)) × (answers (p .width) ≤ length (now work)) × (1 ≤ w .third) × (w .third ≤ 32) ⌝ }
+    requires { ⌜ (limits.perName ≤ length (now firsts)) × AsksBlock (p .width) (now work) (w .third) ⌝ }
     ensures { λ r. ⌜ Risen w (now (work .entry)) p (now (firsts .entry)) r (now (firsts .exit)) ⌝ }
 {
     let query = w.third as usize;
@@ -85,7 +87,7 @@ fn rise(w: Row, p: Progress, firsts: &mut [u64], work: &[u64]) -> Progress
 
 // After the query of w was analysed with this fault, if w is a comprehension and p has none.
 pub fn after_compr(w: Row, p: Progress, fault: Fault, firsts: &mut [u64], work: &[u64]) -> Progress
-    requires { ⌜ (512 ≤ length (now firsts)) × (answers (p .width) ≤ length (now work)) × QueryIn w ⌝ }
+    requires { ⌜ (limits.perName ≤ length (now firsts)) × (answers (p .width) ≤ length (now work)) × QueryIn w ⌝ }
     ensures { λ r. ⌜ AfterCompr w (now (work .entry)) p fault (now (firsts .entry)) r (now (firsts .exit)) ⌝ }
 {
     if is_compr(w) {

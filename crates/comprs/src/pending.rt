@@ -10,12 +10,13 @@ ghost use mathlib.Core.Path.{_≡_};
 ghost use Prim.Native.Nat.{_≤_};
 ghost use lib.ListN.{length};
 ghost use Rattle.blocks.specs.Layout.{answers};
+ghost use Rattle.blocks.specs.Asks.{AsksBlock};
 ghost use Rattle.comprs.specs.Queries.{QueryIn};
 ghost use Rattle.comprs.specs.Pending.{unscheduledAt, pendingAt};
 
 // The query, or 0 where it has a schedule: each is analysed at most once.
 fn unscheduled(work: &[u64], query: usize, width: Width) -> usize
-    requires { ⌜ (answers width ≤ length (now work)) × (1 ≤ query) × (query ≤ 32) ⌝ }
+    requires { ⌜ AsksBlock width (now work) query ⌝ }
     ensures { λ r. ⌜ r ≡ unscheduledAt width (now (work .entry)) query ⌝ }
 {
     let state = block_word(work, query, STATE, width);

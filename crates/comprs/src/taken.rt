@@ -8,10 +8,10 @@ use names::Names;
 use widths::Width;
 use widths::load_set;
 ghost use mathlib.Core.Path.{_≡_};
-ghost use Prim.Native.Nat.{_≤_, _<_};
-ghost use lib.ListN.{length};
+ghost use Prim.Native.Nat.{_≤_};
 ghost use Rattle.widths.specs.Widths.{Same};
-ghost use Rattle.blocks.specs.Layout.{answers, wordAt, setAt};
+ghost use Rattle.blocks.specs.Layout.{wordAt, setAt};
+ghost use Rattle.blocks.specs.Asks.{AsksBlock};
 ghost use Rattle.frame.specs.Table.{answersOf};
 ghost use Rattle.comprs.specs.Takes.{TakenBy};
 
@@ -23,7 +23,7 @@ pub struct Taken {
 
 // A word of the query's block, of the first four.
 pub fn block_word(work: &[u64], query: usize, i: usize, width: Width) -> u64
-    requires { ⌜ (answers width ≤ length (now work)) × (1 ≤ query) × (query ≤ 32) × (i ≤ 3) ⌝ }
+    requires { ⌜ AsksBlock width (now work) query × (i ≤ 3) ⌝ }
     ensures { λ r. ⌜ r ≡ wordAt width (answersOf width (now (work .entry))) query i ⌝ }
 {
     let first = work.len() - answers_of(width);
@@ -33,7 +33,7 @@ pub fn block_word(work: &[u64], query: usize, i: usize, width: Width) -> u64
 
 // The inputs of the query.
 fn block_inputs(work: &[u64], query: usize, width: Width) -> Names
-    requires { ⌜ (answers width ≤ length (now work)) × (1 ≤ query) × (query ≤ 32) ⌝ }
+    requires { ⌜ AsksBlock width (now work) query ⌝ }
     ensures { λ r. ⌜ Same (setAt width (answersOf width (now (work .entry))) query 2) (r .words) ⌝ }
 {
     let first = work.len() - answers_of(width);
@@ -43,7 +43,7 @@ fn block_inputs(work: &[u64], query: usize, width: Width) -> Names
 
 // Nothing, where the query is not analysed.
 pub fn taken_by(work: &[u64], query: usize, width: Width) -> Taken
-    requires { ⌜ (answers width ≤ length (now work)) × (1 ≤ query) × (query ≤ 32) ⌝ }
+    requires { ⌜ AsksBlock width (now work) query ⌝ }
     ensures { λ r. ⌜ TakenBy width (now (work .entry)) query r ⌝ }
 {
     let state = block_word(work, query, STATE, width);

@@ -11,9 +11,9 @@ use records::row_at;
 use used::row::is_compr;
 use widths::Width;
 ghost use Prim.Native.Nat.{_≤_};
-ghost use lib.ListN.{length, getD};
+ghost use lib.ListN.{length};
 ghost use Rattle.blocks.specs.Layout.{answers};
-ghost use Rattle.gather.specs.Sheets.{Accepted};
+ghost use Rattle.gather.specs.Sheets.{Accepted, exprCount};
 ghost use Rattle.comprs.specs.Queries.{QueryIn};
 ghost use Rattle.comprs.specs.Used.{ComprStep, ComprsUsed};
 
@@ -43,7 +43,7 @@ pub fn comprs_used(
     names: Names,
     width: Width,
 ) -> Names
-    requires { ⌜ Accepted (now tables) × (row ≤ getD (now tables) 2 0) × (answers width ≤ length (now work)) ⌝ }
+    requires { ⌜ Accepted (now tables) × (row ≤ exprCount (now tables)) × (answers width ≤ length (now work)) ⌝ }
     ensures { λ r. ⌜ ComprsUsed (now (tables .entry)) width scope (now (work .entry)) row rest names r ⌝ }
 {
     if row == 0 {

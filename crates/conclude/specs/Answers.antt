@@ -6,9 +6,11 @@ use native.Mathlib.Omega.{arith}
 use lib.ListN.{length, getD, take, drop, length-drop, List·getD-append}
 use lib.Seq.{take-all, drop-at, drop-length, getD-take, length-take-le}
 use borrow.Rule.Slice.PartMut.{midOf, postOf, putMid, same-len-mid}
+use Rattle.basics.specs.Limits as limits
 use Rattle.widths.specs.declared.Width.{Width}
 use Rattle.blocks.specs.Layout.{answers, wordAt}
 use Rattle.frame.specs.Table.{answersOf, countAt, Based}
+use Rattle.gather.specs.Sheets.{queryCount}
 use Rattle.conclude.specs.Bases.{Roomy}
 
 -- They are the last m.
@@ -23,8 +25,8 @@ module _ (v : Width) (w : List ℕ) (m : ℕ) (m-is : m ≡ answers v) (enough :
   lent-long = omega (arith, ap length lent-is, length-drop (length w - answers v) w)
 
   -- It has room for the places of a query.
-  pub lent-room : (t : List ℕ) → Based v t (answersOf v w) → Roomy t → (q : ℕ) → 1 ≤ q → q ≤ getD t 4 0 → (n : ℕ) → n ≡ countAt t q
-      → wordAt v (midOf (length w - m) (length w - (length w - m)) w) q 3 + n ≤ 128
+  pub lent-room : (t : List ℕ) → Based v t (answersOf v w) → Roomy t → (q : ℕ) → 1 ≤ q → q ≤ queryCount t → (n : ℕ) → n ≡ countAt t q
+      → wordAt v (midOf (length w - m) (length w - (length w - m)) w) q 3 + n ≤ limits.statements
   lent-room t based roomy q low high n is =
       omega (arith, ap (λ (l : List ℕ). wordAt v l q 3) lent-is, based q low high, roomy q low high, is)
 

@@ -6,6 +6,7 @@ use Prim.Native.Nat.{ℕ, zero, suc, _+_, _-_, _*_, _≤_, _<_}
 use native.Mathlib.Omega.{arith}
 use lib.ListN.{length, getD, set, length-set}
 use lib.Seq.{getD-drop, getD-set-same, getD-set-other}
+use Rattle.basics.specs.Limits as limits
 use Rattle.basics.specs.Truth.{eq-cases}
 use Rattle.widths.specs.declared.Width.{Width}
 use Rattle.widths.specs.declared.Width.the-variants.{Two, Eight}
@@ -15,7 +16,7 @@ use Rattle.blocks.specs.Layout.{block, answers, wordAt}
 use Rattle.sizes.specs.Sums.{sumTo}
 use Rattle.sizes.specs.LowNames.{names-under}
 use Rattle.homes.specs.Bases.{base, base-fits}
-use Rattle.gather.specs.Sheets.{countsAt, specialAt, sheetAt, Accepted}
+use Rattle.gather.specs.Sheets.{countsAt, specialAt, sheetAt, Accepted, nameCount, queryCount}
 use Rattle.frame.specs.Table.{answersOf, countAt, baseAt, Table}
 use Rattle.conclude.specs.Counts.{count-few}
 
@@ -59,7 +60,7 @@ module _ (v : Width) (w : List ℕ) (enough : answers v ≤ length w) (p k : ℕ
       ∙ sym (getD-drop (length w - answers v) w i 0)
 
 -- A word of the block of query n + 1 lies among the answers, and apart from the words of other blocks.
-pub block-inside : (v : Width) (n i : ℕ) → n < 32 → i < 4 → block v * n + i < answers v
+pub block-inside : (v : Width) (n i : ℕ) → n < limits.queries → i < 4 → block v * n + i < answers v
 block-inside Two n i few low = omega arith
 block-inside Eight n i few low = omega arith
 
@@ -68,7 +69,7 @@ blocks-apart Two q n i j l a b e = (omega arith, omega arith)
 blocks-apart Eight q n i j l a b e = (omega arith, omega arith)
 
 -- Word i of the block of query n + 1 is set to x.
-module _ (v : Width) (w : List ℕ) (enough : answers v ≤ length w) (n i : ℕ) (few : n < 32) (low : i < 4) (p : ℕ)
+module _ (v : Width) (w : List ℕ) (enough : answers v ≤ length w) (n i : ℕ) (few : n < limits.queries) (low : i < 4) (p : ℕ)
     (is : p ≡ length w - answers v + (block v * n + i)) (x : ℕ) where
   word-set : (q : ℕ) → q ≡ n + 1 → wordAt v (answersOf v (set w p x)) q i ≡ x
   word-set q e =
@@ -90,7 +91,7 @@ FreshTo v w n = (q : ℕ) → 1 ≤ q → q ≤ n → wordAt v (answersOf v w) q
 pub fresh-none : (v : Width) (w : List ℕ) → FreshTo v w 0
 fresh-none v w q l u = absurd (omega arith)
 
-pub fresh-next : (v : Width) (w : List ℕ) (n : ℕ) → FreshTo v w n → answers v ≤ length w → n < 32 → (p : ℕ)
+pub fresh-next : (v : Width) (w : List ℕ) (n : ℕ) → FreshTo v w n → answers v ≤ length w → n < limits.queries → (p : ℕ)
     → p ≡ length w - answers v + (block v * n + 0) → FreshTo v (set w p 0) (n + 1)
 fresh-next v w n h enough few p is q l u = go (eq-cases q (n + 1))
   where
@@ -110,28 +111,28 @@ module _ (t : List ℕ) where
 
   -- There is room for the places of each query: in every sheet that passes the questions 1 to 6.
   abbrev pub Roomy : Type 0
-  Roomy = (q : ℕ) → 1 ≤ q → q ≤ getD t 4 0 → baseAt t q + countAt t q ≤ 128
+  Roomy = (q : ℕ) → 1 ≤ q → q ≤ queryCount t → baseAt t q + countAt t q ≤ limits.statements
 
   pub roomy : Accepted t → Roomy
   unfolding sheetAt base
   roomy ok q low high = base-fits (countsAt t) (specialAt t) t (ok .within) (ok .fine) q low high
 
-  pub bases-few : Accepted t → (n : ℕ) → sumTo (countAt t) n ≤ 128 * n
-  bases-few ok = sum-few (countAt t) 128 (count-few t ok)
+  pub bases-few : Accepted t → (n : ℕ) → sumTo (countAt t) n ≤ limits.statements * n
+  bases-few ok = sum-few (countAt t) limits.statements (count-few t ok)
 
   -- ---- how they are written
 
   module _ (v : Width) where
     -- The bases of the first n queries are written, and no query is analysed.
     pub record BasedTo (w : List ℕ) (n : ℕ) : Type 0 where
-      pub fresh : FreshTo v w 32
+      pub fresh : FreshTo v w limits.queries
       pub based : (q : ℕ) → 1 ≤ q → q ≤ n → wordAt v (answersOf v w) q 3 ≡ baseAt t q
 
-    pub based-none : (w : List ℕ) → FreshTo v w 32 → BasedTo w 0
+    pub based-none : (w : List ℕ) → FreshTo v w limits.queries → BasedTo w 0
     based-none w fresh = record { fresh = fresh; based = λ q l h. absurd (omega arith) }
 
     module _ (w : List ℕ) (n : ℕ) (h : BasedTo w n) (enough : answers v ≤ length w) where
-      pub based-next : n < 32 → (p : ℕ) → p ≡ length w - answers v + (block v * n + 3) → (x : ℕ) → x ≡ sumTo (countAt t) n
+      pub based-next : n < limits.queries → (p : ℕ) → p ≡ length w - answers v + (block v * n + 3) → (x : ℕ) → x ≡ sumTo (countAt t) n
           → BasedTo (set w p x) (n + 1)
       based-next few p is x sum = record {
         fresh = λ q l u. other q 0 l (omega arith) (λ e f. omega (arith, f)) ∙ h .fresh q l u;
@@ -148,7 +149,7 @@ module _ (t : List ℕ) where
           go q l u (inr ne) = other q 3 l (omega arith) (λ e f. ne e) ∙ h .based q l (omega (arith, u, ne))
 
       -- The table of no schedule, where the sheet has no more names than the width has room for.
-      pub no-schedule : Accepted t → getD t 0 0 ≤ names v → getD t 4 0 ≤ n → Table v t w []
+      pub no-schedule : Accepted t → nameCount t ≤ names v → queryCount t ≤ n → Table v t w []
       unfolding sheetAt
       no-schedule ok low all = record {
         enough = enough;

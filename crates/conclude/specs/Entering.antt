@@ -9,6 +9,7 @@ use native.Mathlib.Omega.{arith}
 use lib.Dec.{eqb}
 use lib.ListN.{length, getD, take}
 use borrow.Author.Tests.{eqb-true}
+use Rattle.basics.specs.Limits as limit
 use Rattle.basics.specs.Truth.{lt-cases}
 use Rattle.widths.specs.declared.Width.{Width}
 use Rattle.widths.specs.Widths.{limits, words, row}
@@ -24,7 +25,7 @@ use Rattle.turns.specs.Turns.{mark}
 use Rattle.sizes.specs.Lists.{find-some}
 use Rattle.sizes.specs.Adds.{Fits}
 use Rattle.gather.specs.declared.scope.Scope.{Scope}
-use Rattle.gather.specs.Sheets.{sheetAt, Accepted}
+use Rattle.gather.specs.Sheets.{sheetAt, Accepted, queryCount}
 use Rattle.answer.specs.Stored.{PlaceIn, StoredAt, Stored}
 use Rattle.store.specs.Words.{placeWord}
 use Rattle.store.specs.Kept.{Gives, Apart, stored-next, bases-stay, span-in}
@@ -44,15 +45,15 @@ is-placed false = refl
 
 -- The rows that the scheduler was lent, where a row has m words.
 pub scheduled-rows : (v : Width) (w : List ℕ) (m c n : ℕ) (r : Outcome) (order reached : List ℕ) → m ≡ row v
-    → Scheduled (limits v) (take (m * c) w) n 128 128 r order reached → Scheduled (limits v) (take (row v * c) w) n 128 128 r order reached
-scheduled-rows v w m c n r order reached = subst (λ (y : ℕ). Scheduled (limits v) (take (y * c) w) n 128 128 r order reached)
+    → Scheduled (limits v) (take (m * c) w) n limit.statements limit.statements r order reached → Scheduled (limits v) (take (row v * c) w) n limit.statements limit.statements r order reached
+scheduled-rows v w m c n r order reached = subst (λ (y : ℕ). Scheduled (limits v) (take (y * c) w) n limit.statements limit.statements r order reached)
 
-module _ (v : Width) (t : List ℕ) (ok : Accepted t) (roomy : Roomy t) (w : List ℕ) (q : ℕ) (low : 1 ≤ q) (high : q ≤ getD t 4 0) where
+module _ (v : Width) (t : List ℕ) (ok : Accepted t) (roomy : Roomy t) (w : List ℕ) (q : ℕ) (low : 1 ≤ q) (high : q ≤ queryCount t) where
   -- The places of the other queries in the table lie elsewhere.
   apart : (schedules : List QuerySchedule) → Table v t w schedules → Apart v (answersOf v w) q (wordAt v (answersOf v w) q 3) (countAt t q)
   apart schedules table p from to other analysed some-place = go (scheduleOf schedules p) refl (table .stored p from to)
     where
-      beside : countAt t p ≡ wordAt v (answersOf v w) p 2 → (p ≤ getD t 4 0)
+      beside : countAt t p ≡ wordAt v (answersOf v w) p 2 → (p ≤ queryCount t)
           → (wordAt v (answersOf v w) p 3 + wordAt v (answersOf v w) p 2 ≤ wordAt v (answersOf v w) q 3)
           ⊎ (wordAt v (answersOf v w) q 3 + countAt t q ≤ wordAt v (answersOf v w) p 3)
       beside count within = side (lt-cases p q)
@@ -71,12 +72,12 @@ module _ (v : Width) (t : List ℕ) (ok : Accepted t) (roomy : Roomy t) (w : Lis
           let r = find-some (λ (x : QuerySchedule). eqb (x .query) p) schedules e in
           let count : countAt t p ≡ wordAt v (answersOf v w) p 2 =
           ap (countAt t) (sym (eqb-true (b .query) p (r .1))) ∙ sym (table .fits b (r .0) .whole) ∙ sym (s .count) in
-          ⊎-elim (λ (h : p < getD t 4 0 + 1). beside count (omega arith))
-          (λ (h : getD t 4 0 + 1 ≤ p). absurd (omega (arith, count, count-past t ok p (omega arith), some-place)))
-          (lt-cases p (getD t 4 0 + 1))
+          ⊎-elim (λ (h : p < queryCount t + 1). beside count (omega arith))
+          (λ (h : queryCount t + 1 ≤ p). absurd (omega (arith, count, count-past t ok p (omega arith), some-place)))
+          (lt-cases p (queryCount t + 1))
 
   module _ (k : Scope) (l : List ℕ) (c : ℕ) (room : row v * c + answers v ≤ length w) (n : ℕ) (count : n ≡ countAt t q) (r : Outcome)
-      (order reached : List ℕ) (s : Scheduled (limits v) (take (row v * c) w) n 128 128 r order reached) where
+      (order reached : List ℕ) (s : Scheduled (limits v) (take (row v * c) w) n limit.statements limit.statements r order reached) where
     -- What is stored is of the schedule.
     gives : (a : QuerySchedule) → Finished v t w q k l c a → Gives v a k l n (isPlaced r) order reached
     gives a f = record {
@@ -94,7 +95,7 @@ module _ (v : Width) (t : List ℕ) (ok : Accepted t) (roomy : Roomy t) (w : Lis
           subst (λ (m : ℕ).
           let i = getD (turns.order (a .definitions) m nameBound) j 0 in
           PlaceIn (placeWord order reached j) i (mark (turns.reached (a .definitions) m nameBound i)))
-          (sym e) (rw (s .ordered, s .marked) (place-in (limits v) (take (row v * c) w) n 128 128 met (a .definitions) up down j h));
+          (sym e) (rw (s .ordered, s .marked) (place-in (limits v) (take (row v * c) w) n limit.statements limit.statements met (a .definitions) up down j h));
     }
       where
         e : a .count ≡ n
@@ -109,10 +110,10 @@ module _ (v : Width) (t : List ℕ) (ok : Accepted t) (roomy : Roomy t) (w : Lis
         down : Within (a .definitions) (definitions (row v) (take (row v * c) w))
         down = within-rows v w c (omega (arith, room)) (a .definitions) exact
 
-        met : accepts (limits v) (take (row v * c) w) n 128 128 ≡ true
+        met : accepts (limits v) (take (row v * c) w) n limit.statements limit.statements ≡ true
         met =
-            let small : n ≤ 128 = omega (arith, e, f .bounds .few-statements) in
-            rows-accepted v w c (omega (arith, room)) (a .definitions) exact (omega (arith, f .few, f .bounds .few-definitions)) n 128 128
+            let small : n ≤ limit.statements = omega (arith, e, f .bounds .few-statements) in
+            rows-accepted v w c (omega (arith, room)) (a .definitions) exact (omega (arith, f .few, f .bounds .few-definitions)) n limit.statements limit.statements
             small small small (λ d m. omega (arith, f .bounds .stated d m, e)) (f .bounds .named)
 
     pub concluded : (placed : Bool) → placed ≡ isPlaced r → (y : List ℕ) → y ≡ answersOf v w → (p : List ℕ)
@@ -125,7 +126,7 @@ module _ (v : Width) (t : List ℕ) (ok : Accepted t) (roomy : Roomy t) (w : Lis
             subst (λ (b : Bool). AnswerWritten v (answersOf v w) q k l n b order reached p) says
             (subst (λ (x : List ℕ). AnswerWritten v x q k l n placed order reached p) lent stores)
 
-        few : getD t 4 0 ≤ 32
+        few : queryCount t ≤ limit.queries
         few = ok .within .few-queries
 
         enters : (a : QuerySchedule) (schedules : List QuerySchedule) → Finished v t w q k l c a → Table v t w schedules → Table v t u (a ∷ schedules)
@@ -149,5 +150,5 @@ module _ (v : Width) (t : List ℕ) (ok : Accepted t) (roomy : Roomy t) (w : Lis
               (λ (i : List·Memᴰ b schedules). table .low b i) (List·Memᴰ·cases-cons m);
         }
           where
-            within : wordAt v (answersOf v w) q 3 + n ≤ 128
+            within : wordAt v (answersOf v w) q 3 + n ≤ limit.statements
             within = omega (arith, table .based q low high, roomy q low high, count)

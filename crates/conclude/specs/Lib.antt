@@ -6,3 +6,4 @@ pub mod Places
 pub mod Answers
 pub mod Concluded
 pub mod Entering
+pub mod Asks

@@ -8,6 +8,7 @@ use native.Mathlib.Omega.{arith}
 use lib.Dec.{eqb}
 use lib.ListN.{length, getD, replicate, length-map, List·getD-append}
 use borrow.Author.Tests.{eqb-true}
+use Rattle.basics.specs.Limits as limits
 use Rattle.basics.specs.Truth.{bool-cases}
 use Rattle.basics.specs.Limits.{Limits}
 use Rattle.basics.specs.Ranges.{range}
@@ -57,21 +58,21 @@ module _ (defs : List Definition) (n m : ℕ) where
 
 module _ (lim : Limits) (ws : List ℕ) (n : ℕ) where
   -- Whatever the scheduler answers, the entries of the order are indexes of the marks.
-  entries-low : (room : ℕ) (k : ℕ) → k < n → getD (orderBuffer lim ws n room 128) k 0 < 128
-  entries-low room k l = go (bool-cases (accepts lim ws n room 128))
+  entries-low : (room : ℕ) (k : ℕ) → k < n → getD (orderBuffer lim ws n room limits.statements) k 0 < limits.statements
+  entries-low room k l = go (bool-cases (accepts lim ws n room limits.statements))
     where
-      go : (accepts lim ws n room 128 ≡ true) ⊎ (accepts lim ws n room 128 ≡ false) → getD (orderBuffer lim ws n room 128) k 0 < 128
+      go : (accepts lim ws n room limits.statements ≡ true) ⊎ (accepts lim ws n room limits.statements ≡ false) → getD (orderBuffer lim ws n room limits.statements) k 0 < limits.statements
       go (inl a) =
-          let o = order (definitions (lim .row) ws) n 512 in
-          let few = accepted lim ws n room 128 a .few in
+          let o = order (definitions (lim .row) ws) n limits.perName in
+          let few = accepted lim ws n room limits.statements a .few in
           rw a (omega (
             arith,
-            List·getD-append o (replicate (room - n) 0) 0 k (omega (arith, order-length (definitions (lim .row) ws) n 512)),
-            order-below (definitions (lim .row) ws) n 512 k l,
+            List·getD-append o (replicate (room - n) 0) 0 k (omega (arith, order-length (definitions (lim .row) ws) n limits.perName)),
+            order-below (definitions (lim .row) ws) n limits.perName k l,
           ))
       go (inr a) = rw a (omega (arith, zero-at room k))
 
-  pub entries-in : (room : ℕ) (r : Outcome) (o m : List ℕ) → Scheduled lim ws n room 128 r o m → length m ≡ 128 → (k : ℕ) → k < n
+  pub entries-in : (room : ℕ) (r : Outcome) (o m : List ℕ) → Scheduled lim ws n room limits.statements r o m → length m ≡ limits.statements → (k : ℕ) → k < n
       → getD o k 0 < length m
   entries-in room r o m s long k l = omega (arith, ap (λ (x : List ℕ). getD x k 0) (s .ordered), entries-low room k l, long)
 
@@ -79,28 +80,28 @@ module _ (lim : Limits) (ws : List ℕ) (n : ℕ) where
       (down : Within defs (definitions (lim .row) ws)) where
     -- A place: its statement, and whether that was reached.
     pub place-in : (k : ℕ) → k < n
-        → (let i = getD (order defs n 512) k 0 in
-        PlaceIn (placeWord (orderBuffer lim ws n room marks) (reachedBuffer lim ws n room marks) k) i (mark (reached defs n 512 i)))
+        → (let i = getD (order defs n limits.perName) k 0 in
+        PlaceIn (placeWord (orderBuffer lim ws n room marks) (reachedBuffer lim ws n room marks) k) i (mark (reached defs n limits.perName i)))
     place-in k l = record { index = omega (arith, low, accepted lim ws n room marks a .few); both = rw a both }
       where
-        low : getD (order defs n 512) k 0 < n
-        low = order-below defs n 512 k l
+        low : getD (order defs n limits.perName) k 0 < n
+        low = order-below defs n limits.perName k l
 
-        first : getD (order (definitions (lim .row) ws) n 512 ++ replicate (room - n) 0) k 0 ≡ getD (order defs n 512) k 0
+        first : getD (order (definitions (lim .row) ws) n limits.perName ++ replicate (room - n) 0) k 0 ≡ getD (order defs n limits.perName) k 0
         first =
-            List·getD-append (order (definitions (lim .row) ws) n 512) (replicate (room - n) 0) 0 k (omega (arith, order-length (definitions (lim .row) ws) n 512))
-            ∙ ap (λ (o : List ℕ). getD o k 0) (same-order (definitions (lim .row) ws) defs up down n 512)
+            List·getD-append (order (definitions (lim .row) ws) n limits.perName) (replicate (room - n) 0) 0 k (omega (arith, order-length (definitions (lim .row) ws) n limits.perName))
+            ∙ ap (λ (o : List ℕ). getD o k 0) (same-order (definitions (lim .row) ws) defs up down n limits.perName)
 
-        second : getD (map (λ i. mark (reached (definitions (lim .row) ws) n 512 i)) (range 0 n) ++ replicate (marks - n) 0) (getD (order defs n 512) k 0) 0
-            ≡ mark (reached defs n 512 (getD (order defs n 512) k 0))
+        second : getD (map (λ i. mark (reached (definitions (lim .row) ws) n limits.perName i)) (range 0 n) ++ replicate (marks - n) 0) (getD (order defs n limits.perName) k 0) 0
+            ≡ mark (reached defs n limits.perName (getD (order defs n limits.perName) k 0))
         second =
-            let f : ℕ → ℕ = λ i. mark (reached (definitions (lim .row) ws) n 512 i) in
-            let i = getD (order defs n 512) k 0 in
+            let f : ℕ → ℕ = λ i. mark (reached (definitions (lim .row) ws) n limits.perName i) in
+            let i = getD (order defs n limits.perName) k 0 in
             List·getD-append (map f (range 0 n)) (replicate (marks - n) 0) 0 i (omega (arith, low, length-map (range 0 n) f, length-range n))
-            ∙ getD-map-range f n i low ∙ ap mark (same-reached (definitions (lim .row) ws) defs up down n 512 i)
+            ∙ getD-map-range f n i low ∙ ap mark (same-reached (definitions (lim .row) ws) defs up down n limits.perName i)
 
-        both : placeWord (order (definitions (lim .row) ws) n 512 ++ replicate (room - n) 0) (map (λ i. mark (reached (definitions (lim .row) ws) n 512 i)) (range 0 n) ++ replicate (marks - n) 0) k
-            ≡ 2 * getD (order defs n 512) k 0 + mark (reached defs n 512 (getD (order defs n 512) k 0))
+        both : placeWord (order (definitions (lim .row) ws) n limits.perName ++ replicate (room - n) 0) (map (λ i. mark (reached (definitions (lim .row) ws) n limits.perName i)) (range 0 n) ++ replicate (marks - n) 0) k
+            ≡ 2 * getD (order defs n limits.perName) k 0 + mark (reached defs n limits.perName (getD (order defs n limits.perName) k 0))
         both =
-            let marked = map (λ i. mark (reached (definitions (lim .row) ws) n 512 i)) (range 0 n) ++ replicate (marks - n) 0 in
-            ap (λ (i : ℕ). 2 * i + getD marked i 0) first ∙ ap (λ (r : ℕ). 2 * getD (order defs n 512) k 0 + r) second
+            let marked = map (λ i. mark (reached (definitions (lim .row) ws) n limits.perName i)) (range 0 n) ++ replicate (marks - n) 0 in
+            ap (λ (i : ℕ). 2 * i + getD marked i 0) first ∙ ap (λ (r : ℕ). 2 * getD (order defs n limits.perName) k 0 + r) second

@@ -8,6 +8,7 @@ use native.Mathlib.Omega.{arith}
 use lib.ListN.{length, take}
 use lib.Seq.{getD-take, length-take-le}
 use borrow.Author.Tests.{lt-ltb, le-leb}
+use Rattle.basics.specs.Limits as limit
 use Rattle.basics.specs.Truth.{and-intro}
 use Rattle.basics.specs.Lists.{all}
 use Rattle.widths.specs.declared.Width.{Width}
@@ -56,7 +57,7 @@ module _ (v : Width) (w : List ℕ) (c : ℕ) (long : row v * c ≤ length w) (d
       (row-listed (row v) (take (row v * c) w) (r .0) (omega (arith, r .1, rows-counted)))
 
   -- The scheduler's question is met.
-  pub rows-accepted : c ≤ 640 → (n room marks : ℕ) → n ≤ 128 → n ≤ room → n ≤ marks
+  pub rows-accepted : c ≤ limit.definitions → (n room marks : ℕ) → n ≤ limit.statements → n ≤ room → n ≤ marks
       → ((d : Definition) → List·Memᴰ d defs → d .statement < n) → ((d : Definition) → List·Memᴰ d defs → d .var ≤ names v)
       → accepts (limits v) (take (row v * c) w) n room marks ≡ true
   rows-accepted few n room marks small ordered marked stated named =

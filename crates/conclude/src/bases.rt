@@ -9,17 +9,18 @@ use records::QUERIES;
 use widths::Width;
 ghost use mathlib.Core.List.{[]};
 ghost use Prim.Native.Nat.{_≤_};
-ghost use lib.ListN.{length, getD};
+ghost use lib.ListN.{length};
+ghost use Rattle.basics.specs.Limits as limits;
 ghost use Rattle.widths.specs.Widths.{names};
 ghost use Rattle.blocks.specs.Layout.{answers};
-ghost use Rattle.gather.specs.Sheets.{Accepted};
+ghost use Rattle.gather.specs.Sheets.{Accepted, nameCount};
 ghost use Rattle.frame.specs.Table.{Table};
 ghost use Rattle.conclude.specs.Bases.{FreshTo};
 
 // No query is analysed yet, whatever stood in work.
 fn clear_states(work: &mut [u64], width: Width)
     requires { ⌜ answers width ≤ length (now work) ⌝ }
-    ensures { λ _. ⌜ FreshTo width (now (work .exit)) 32 ⌝ }
+    ensures { λ _. ⌜ FreshTo width (now (work .exit)) limits.queries ⌝ }
 {
     let first = work.len() - answers_of(width);
     for q in 0..QUERIES {
@@ -29,7 +30,7 @@ fn clear_states(work: &mut [u64], width: Width)
 
 // Each query's places begin behind those of the queries before it.
 pub fn set_bases(tables: &[u16], work: &mut [u64], width: Width)
-    requires { ⌜ Accepted (now tables) × (getD (now tables) 0 0 ≤ names width) × (answers width ≤ length (now work)) ⌝ }
+    requires { ⌜ Accepted (now tables) × (nameCount (now tables) ≤ names width) × (answers width ≤ length (now work)) ⌝ }
     ensures { λ _. ⌜ Table width (now (tables .entry)) (now (work .exit)) [] ⌝ }
 {
     clear_states(work, width);

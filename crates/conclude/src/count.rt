@@ -4,14 +4,14 @@ use records::first_at;
 use records::statement_at;
 ghost use mathlib.Core.Path.{_≡_};
 ghost use Prim.Native.Nat.{_+_, _≤_};
-ghost use lib.ListN.{getD};
-ghost use Rattle.gather.specs.Sheets.{Accepted};
+ghost use Rattle.basics.specs.Limits as limits;
+ghost use Rattle.gather.specs.Sheets.{Accepted, queryCount, statementCount};
 ghost use Rattle.frame.specs.Table.{countAt};
 ghost use Rattle.conclude.specs.Counts.{countFrom};
 
 // Those from a row on, after `seen` others.
 fn count_from(tables: &[u16], row: usize, seen: usize) -> usize
-    requires { ⌜ Accepted (now tables) × (row ≤ getD (now tables) 3 0) × (seen + countFrom (now tables) row ≤ 128) ⌝ }
+    requires { ⌜ Accepted (now tables) × (row ≤ statementCount (now tables)) × (seen + countFrom (now tables) row ≤ limits.statements) ⌝ }
     ensures { λ r. ⌜ r ≡ seen + countFrom (now (tables .entry)) row ⌝ }
 {
     if row == 0 {
@@ -22,7 +22,7 @@ fn count_from(tables: &[u16], row: usize, seen: usize) -> usize
 }
 
 pub(crate) fn count_stmts(tables: &[u16], query: usize) -> usize
-    requires { ⌜ Accepted (now tables) × (1 ≤ query) × (query ≤ getD (now tables) 4 0) ⌝ }
+    requires { ⌜ Accepted (now tables) × (1 ≤ query) × (query ≤ queryCount (now tables)) ⌝ }
     ensures { λ r. ⌜ r ≡ countAt (now (tables .entry)) query ⌝ }
 {
     let row = first_at(tables, query) as usize;

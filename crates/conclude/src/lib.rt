@@ -5,17 +5,21 @@ use blocks::BASE;
 use blocks::answers_of;
 use blocks::word_at;
 use gather::scope::Scope;
+use rows::STATEMENTS;
 use schedule::Outcome;
 use store::block::store_block;
 use store::places::store_places;
 use widths::Width;
 ghost use mathlib.Core.Path.{_≡_};
-ghost use Prim.Native.Nat.{ℕ, _+_, _*_, _≤_, _<_};
-ghost use lib.ListN.{length, getD};
+ghost use Prim.Native.Nat.{_+_, _*_, _≤_};
+ghost use lib.ListN.{length};
+ghost use Rattle.basics.specs.Limits as limits;
 ghost use Rattle.widths.specs.Widths.{row};
 ghost use Rattle.blocks.specs.Layout as layout;
-ghost use Rattle.gather.specs.Sheets.{Accepted};
+ghost use Rattle.blocks.specs.Asks.{AsksBlock};
+ghost use Rattle.store.specs.Asks.{AsksPlaces};
 ghost use Rattle.frame.specs.Table.{answersOf, Based};
+ghost use Rattle.conclude.specs.Asks.{AsksConclude};
 ghost use Rattle.conclude.specs.Concluded.{isPlaced, AnswerWritten, Concluded};
 
 pub mod bases;
@@ -43,8 +47,8 @@ fn store_answer(
     reached: &[u16],
     width: Width,
 )
-    requires { ⌜ (layout.answers width ≤ length (now answers)) × (1 ≤ query) × (query ≤ 32) × (512 ≤ length (now spans)) ⌝ }
-    requires { ⌜ (layout.wordAt width (now answers) query 3 + count ≤ 128) × (count ≤ length (now order)) × ((k : ℕ) → k < count → getD (now order) k 0 < length (now reached)) ⌝ }
+    requires { ⌜ AsksBlock width (now answers) query × (limits.perName ≤ length (now spans)) ⌝ }
+    requires { ⌜ AsksPlaces (layout.wordAt width (now answers) query 3) count (now order) (now reached) ⌝ }
     ensures { λ _. ⌜ AnswerWritten width (now (answers .entry)) query scope (now (spans .entry)) count placed (now (order .entry)) (now (reached .entry)) (now (answers .exit)) ⌝ }
 {
     let base = word_at(width, answers, query, BASE) as usize;
@@ -62,13 +66,13 @@ pub fn conclude(
     work: &mut [u64],
     width: Width,
 )
-    requires { ⌜ Accepted (now tables) × (1 ≤ query) × (query ≤ getD (now tables) 4 0) × (512 ≤ length (now spans)) ⌝ }
+    requires { ⌜ AsksConclude (now tables) query (now spans) ⌝ }
     requires { ⌜ (row width * count + layout.answers width ≤ length (now work)) × Based width (now tables) (answersOf width (now work)) ⌝ }
     ensures { λ _. ⌜ Concluded width (now (tables .entry)) (now (work .entry)) query scope (now (spans .entry)) count (now (work .exit)) ⌝ }
 {
     let n = count_stmts(tables, query);
-    let mut order: [u16; 128] = [0; 128];
-    let mut reached: [u16; 128] = [0; 128];
+    let mut order: [u16; STATEMENTS] = [0; STATEMENTS];
+    let mut reached: [u16; STATEMENTS] = [0; STATEMENTS];
     let rows = width.row() * count;
     let outcome = schedule::schedule(width, &work[..rows], n, &mut order, &mut reached);
     let placed = is_placed(outcome);

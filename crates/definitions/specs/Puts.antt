@@ -6,6 +6,7 @@ use native.Mathlib.Numerals.{add-one}
 use native.Mathlib.Omega.{arith}
 use lib.ListN.{length, getD, set, take, length-set}
 use lib.Seq.{take-suc-set, take-suc}
+use Rattle.basics.specs.Limits as limits
 use Rattle.widths.specs.Widths.{wordsAt}
 use Rattle.definitions.specs.declared.Definition.{Definition}
 use Rattle.definitions.specs.Rows.{usedWords, rowOfRecord, rowsOfRecords}
@@ -32,16 +33,16 @@ words-snoc (suc n) ws at =
 -- The first k words of the used set stand behind the statement and the name.
 pub record Putting (before : List ℕ) (i : ℕ) (used now : List ℕ) (k : ℕ) : Type 0 where
   pub few : k ≤ 8
-  pub long : length now ≡ 6400
+  pub long : length now ≡ limits.definitionWords
   pub put : take (10 * i + 2 + k) now ≡ take (10 * i + 2) before ++ wordsAt k used 0
 
 module _ (before : List ℕ) (i : ℕ) (used : List ℕ) where
-  pub putting-first : length before ≡ 6400 → Putting before i used before 0
+  pub putting-first : length before ≡ limits.definitionWords → Putting before i used before 0
   putting-first l =
       let e : 10 * i + 2 + 0 ≡ 10 * i + 2 = omega arith in
       record { few = omega arith; long = l; put = ap (λ (n : ℕ). take n before) e ∙ sym (append-nil (take (10 * i + 2) before)) }
 
-  pub putting-next : (now : List ℕ) (k : ℕ) → i < 640 → k < 8 → Putting before i used now k
+  pub putting-next : (now : List ℕ) (k : ℕ) → i < limits.definitions → k < 8 → Putting before i used now k
       → Putting before i used (set now (10 * i + 2 + k) (getD used k 0)) (k + 1)
   putting-next now k low more p = record {
     few = omega arith;
@@ -55,7 +56,7 @@ module _ (before : List ℕ) (i : ℕ) (used : List ℕ) where
   }
 
 -- All eight: the row is put.
-pub putting-all : (ws : List ℕ) (i : ℕ) (d : Definition) (now : List ℕ) (k : ℕ) → length ws ≡ 6400 → i < 640 → 8 ≤ k
+pub putting-all : (ws : List ℕ) (i : ℕ) (d : Definition) (now : List ℕ) (k : ℕ) → length ws ≡ limits.definitionWords → i < limits.definitions → 8 ≤ k
     → Putting (set (set ws (10 * i) (d .statement)) (10 * i + 1) (d .name)) i (d .used .words) now k → RowPut ws i d now
 putting-all ws i d now k long low done p =
     let e : k ≡ 8 = omega (arith, p .few) in

@@ -33,7 +33,7 @@ module _ (ds : List Definition) (n room marks : ℕ) where
   unfolding accepts acceptsRecords
   accepts-rows = rw (eq-eqb _ 0 (rows-whole ds), rows-count ds, rows-define ds)
 
-  pub too-many : 640 < length ds → Scheduled library (rowsOfRecords ds) n room marks Refused (replicate room 0) (replicate marks 0)
+  pub too-many : limits.definitions < length ds → Scheduled library (rowsOfRecords ds) n room marks Refused (replicate room 0) (replicate marks 0)
   too-many h =
       refused library (rowsOfRecords ds) n room marks
       (⊎-elim (λ (a : accepts library (rowsOfRecords ds) n room marks ≡ true). absurd (omega (arith, accepted library (rowsOfRecords ds) n room marks a .fits, rows-count ds, h)))

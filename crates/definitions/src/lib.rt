@@ -9,6 +9,7 @@ ghost use mathlib.Core.Path.{_≡_};
 ghost use mathlib.Core.List.{List};
 ghost use Prim.Native.Nat.{_*_, _<_, _≤_};
 ghost use lib.ListN.{length, take};
+ghost use Rattle.basics.specs.Limits as limits;
 ghost use Rattle.basics.specs.Limits.{library};
 ghost use Rattle.schedule.specs.Call.{Scheduled};
 ghost use Rattle.definitions.specs.declared.Definition.{Definition};
@@ -42,7 +43,7 @@ fn blank() -> [Definition; DEFINITIONS] {
 
 // How many of `len` records there is room for.
 fn taken(len: usize) -> usize
-    ensures { λ r. ⌜ (r ≤ len) × (r ≤ 640) × (len ≤ 640 → r ≡ len) ⌝ }
+    ensures { λ r. ⌜ (r ≤ len) × (r ≤ limits.definitions) × (len ≤ limits.definitions → r ≡ len) ⌝ }
 {
     if len <= DEFINITIONS { len } else { DEFINITIONS }
 }
@@ -63,7 +64,7 @@ pub fn copied(records: &[Definition]) -> [Definition; DEFINITIONS]
 
 // Makes row i the record's.
 fn put_row(words: &mut [u64; ROWS], i: usize, definition: Definition)
-    requires { ⌜ (length (now words) ≡ 6400) × (i < 640) ⌝ }
+    requires { ⌜ (length (now words) ≡ limits.definitionWords) × (i < limits.definitions) ⌝ }
     ensures { λ _. ⌜ RowPut (now (words .entry)) i definition (now (words .exit)) ⌝ }
 {
     words[ROW * i] = definition.statement as u64;
@@ -76,7 +77,7 @@ fn put_row(words: &mut [u64; ROWS], i: usize, definition: Definition)
 
 // The rows of the first `len` records.
 fn rows_of(all: [Definition; DEFINITIONS], len: usize) -> [u64; ROWS]
-    requires { ⌜ len ≤ 640 ⌝ }
+    requires { ⌜ len ≤ limits.definitions ⌝ }
     ensures { λ r. ⌜ take (10 * len) r ≡ rowsOfRecords (take len all) ⌝ }
 {
     let mut words = [0u64; ROWS];

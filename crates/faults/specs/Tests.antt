@@ -9,6 +9,7 @@ use native.Mathlib.Omega.{arith}
 use lib.Dec.{eqb, leb, ltb}
 use lib.ListN.{length, getD}
 use borrow.Author.Tests.{eqb-true, leb-false, eq-eqb, ne-eqb, lt-ltb, le-ltb}
+use Rattle.basics.specs.Limits as limits
 use Rattle.basics.specs.Truth.{bool-cases, eq-cases}
 use Rattle.records.specs.declared.Counts.{Counts}
 use Rattle.records.specs.declared.Builtin.{Builtin}
@@ -40,19 +41,19 @@ unfoldable pub misnestedBy : Counts → List ℕ → Field → ℕ → ℕ → B
 misnestedBy c w f v q = eqb (f .section) 4 && (leb v q || (eqb v 1 || leb 8 (levelBy (exprRow (c .exprs)) w (c .queries) q)))
 
 module _ (c : Counts) (within : Within c) where
-  -- No section has more than 512 rows.
-  pub limit-small : (s v : ℕ) → v ≤ limitOf c s → v ≤ 512
+  -- No section has more rows than the expressions.
+  pub limit-small : (s v : ℕ) → v ≤ limitOf c s → v ≤ limits.expressions
   limit-small s v h = go (bool-cases (eqb s 1)) (bool-cases (eqb s 2)) (bool-cases (eqb s 3)) (bool-cases (eqb s 4))
     where
       go : (eqb s 1 ≡ true) ⊎ (eqb s 1 ≡ false) → (eqb s 2 ≡ true) ⊎ (eqb s 2 ≡ false) → (eqb s 3 ≡ true) ⊎ (eqb s 3 ≡ false)
-          → (eqb s 4 ≡ true) ⊎ (eqb s 4 ≡ false) → v ≤ 512
+          → (eqb s 4 ≡ true) ⊎ (eqb s 4 ≡ false) → v ≤ limits.expressions
       go (inl p) q r u = let l : v ≤ c .names = rw p at h in omega arith
       go (inr p) (inl q) r u = let l : v ≤ c .exprs = rw (p, q) at h in omega arith
       go (inr p) (inr q) (inl r) u = let l : v ≤ c .statements = rw (p, q, r) at h in omega arith
       go (inr p) (inr q) (inr r) (inl u) = let l : v ≤ c .queries = rw (p, q, r, u) at h in omega arith
       go (inr p) (inr q) (inr r) (inr u) = let l : v ≤ 0 = rw (p, q, r, u) at h in omega arith
 
-  pub queries-small : (s v : ℕ) → s ≡ 4 → v ≤ limitOf c s → v ≤ 32
+  pub queries-small : (s v : ℕ) → s ≡ 4 → v ≤ limitOf c s → v ≤ limits.queries
   queries-small s v e h = let l : v ≤ c .queries = subst (λ (k : ℕ). v ≤ limitOf c k) e h in omega arith
 
 -- Has a row a part?
@@ -169,17 +170,17 @@ module _ (c : Counts) (t : List ℕ) where
           parts-are (getD (enclosing c (inTables t)) (160 + r) 0) (inChain (160 + r) (namers (160 + r) (namings c (inTables t)))) r,
         )
 
-    pub statement-is : (r : ℕ) → 1 ≤ r → r ≤ c .statements → statementBy (getD w (32 + r) 0) (statementAt t r) ≡ statementFault c (inTables t) r
+    pub statement-is : (r : ℕ) → 1 ≤ r → r ≤ c .statements → statementBy (getD w (limits.queries + r) 0) (statementAt t r) ≡ statementFault c (inTables t) r
     unfolding statementBy statementFault isNamedSo
     statement-is r l h =
         let b = known .within .few-statements in
         rw (
-          so-is c t w known (32 + r) (omega arith),
-          query-is c t w known (32 + r) (omega arith) (omega arith),
-          fields-are (getD (enclosing c (inTables t)) (32 + r) 0) r,
+          so-is c t w known (limits.queries + r) (omega arith),
+          query-is c t w known (limits.queries + r) (omega arith) (omega arith),
+          fields-are (getD (enclosing c (inTables t)) (limits.queries + r) 0) r,
         )
 
-    pub query-fault-is : (q : ℕ) → q ≤ 32 → queryBy (getD w q 0) q (firstAt t q) ≡ queryFault c (inTables t) q
+    pub query-fault-is : (q : ℕ) → q ≤ limits.queries → queryBy (getD w q 0) q (firstAt t q) ≡ queryFault c (inTables t) q
     unfolding queryBy queryFault isNamedSo
     query-fault-is q h = rw (so-is c t w known q (omega arith), first-is q)
 

@@ -6,6 +6,7 @@ use records::builtin_at;
 ghost use mathlib.Core.Path.{_≡_};
 ghost use Prim.Native.Nat.{_≤_};
 ghost use lib.ListN.{length};
+ghost use Rattle.basics.specs.Limits as limits;
 ghost use Rattle.naming.specs.Faults.{builtinFault};
 ghost use Rattle.faults.specs.Tests.{samePathBy, gapBy, beyondBy, pathBy, builtinBy};
 ghost use Rattle.records.specs.Rows.{inTables};
@@ -24,7 +25,7 @@ fn same_path(a: Builtin, b: Builtin) -> bool
 
 // Has one of the first n built-ins the path?
 fn path_before(tables: &[u16], n: usize, b: Builtin) -> bool
-    requires { ⌜ (8192 ≤ length (now tables)) × (n ≤ 64) ⌝ }
+    requires { ⌜ (limits.tables ≤ length (now tables)) × (n ≤ limits.builtIns) ⌝ }
     ensures { λ r. ⌜ r ≡ pathBy (now (tables .entry)) n b ⌝ }
 {
     let mut left = n;
@@ -65,7 +66,7 @@ fn is_beyond(counts: Counts, b: Builtin) -> bool
 
 // Is a built-in at fault that follows n others?
 fn judge_builtin(tables: &[u16], counts: Counts, n: usize, b: Builtin) -> bool
-    requires { ⌜ (8192 ≤ length (now tables)) × (n ≤ 64) ⌝ }
+    requires { ⌜ (limits.tables ≤ length (now tables)) × (n ≤ limits.builtIns) ⌝ }
     ensures { λ r. ⌜ r ≡ builtinBy counts (now (tables .entry)) n b ⌝ }
 {
     if 255 < b.arity {
@@ -81,7 +82,7 @@ fn judge_builtin(tables: &[u16], counts: Counts, n: usize, b: Builtin) -> bool
 }
 
 pub(crate) fn builtin_fault(tables: &[u16], counts: Counts, row: usize) -> bool
-    requires { ⌜ (8192 ≤ length (now tables)) × (1 ≤ row) × (row ≤ 64) ⌝ }
+    requires { ⌜ (limits.tables ≤ length (now tables)) × (1 ≤ row) × (row ≤ limits.builtIns) ⌝ }
     ensures { λ r. ⌜ r ≡ builtinFault counts (inTables (now (tables .entry))) row ⌝ }
 {
     let b = builtin_at(tables, row);

@@ -12,6 +12,7 @@ use records::Counts;
 ghost use mathlib.Core.Path.{_≡_};
 ghost use Prim.Native.Nat.{_≤_};
 ghost use lib.ListN.{length};
+ghost use Rattle.basics.specs.Limits as limits;
 ghost use Rattle.records.specs.Layout.{Within};
 ghost use Rattle.naming.specs.Faults.{notVar, unpaired};
 ghost use Rattle.faults.specs.Known.{Known};
@@ -20,7 +21,7 @@ ghost use Rattle.records.specs.Rows.{inTables};
 
 // Is the row, or a member of the chain, no Var though it should be one?
 fn not_var(work: &[u64], tables: &[u16], counts: Counts, field: Field, v: usize) -> bool
-    requires { ⌜ Known counts (now tables) (now work) × (v ≤ 512) ⌝ }
+    requires { ⌜ Known counts (now tables) (now work) × (v ≤ limits.expressions) ⌝ }
     ensures { λ r. ⌜ r ≡ notVar counts (inTables (now (tables .entry))) field v ⌝ }
 {
     if field.var {
@@ -34,7 +35,7 @@ fn not_var(work: &[u64], tables: &[u16], counts: Counts, field: Field, v: usize)
 
 // Does a chain of keys and values lack the last value?
 fn lacks_value(work: &[u64], tables: &[u16], counts: Counts, field: Field, v: usize) -> bool
-    requires { ⌜ Known counts (now tables) (now work) × (v ≤ 512) ⌝ }
+    requires { ⌜ Known counts (now tables) (now work) × (v ≤ limits.expressions) ⌝ }
     ensures { λ r. ⌜ r ≡ unpaired counts (inTables (now (tables .entry))) field v ⌝ }
 {
     if field.pairs {
@@ -45,7 +46,7 @@ fn lacks_value(work: &[u64], tables: &[u16], counts: Counts, field: Field, v: us
 
 // Is query v, which the field nests in query q, not larger, or is query q as deep as a query may be?
 fn is_misnested(work: &[u64], counts: Counts, field: Field, v: usize, q: usize) -> bool
-    requires { ⌜ (673 ≤ length (now work)) × Within counts ⌝ }
+    requires { ⌜ (limits.perRow ≤ length (now work)) × Within counts ⌝ }
     ensures { λ r. ⌜ r ≡ misnestedBy counts (now (work .entry)) field v q ⌝ }
 {
     if field.section != fields::QUERIES {

@@ -14,6 +14,7 @@ use records::Counts;
 ghost use mathlib.Core.Path.{_≡_};
 ghost use Prim.Native.Nat.{_≤_};
 ghost use lib.ListN.{length};
+ghost use Rattle.basics.specs.Limits as limits;
 ghost use Rattle.records.specs.Layout.{Within};
 ghost use Rattle.naming.specs.Faults.{exprFault, statementFault, queryFault, builtinFault};
 ghost use Rattle.naming.specs.Lines.{firstAtFault, firstLine};
@@ -23,8 +24,8 @@ ghost use Rattle.records.specs.Rows.{inTables};
 // ---- the first row at fault of each section, or 0
 
 fn first_builtin(tables: &[u16], counts: Counts) -> usize
-    requires { ⌜ (8192 ≤ length (now tables)) × Within counts ⌝ }
-    ensures { λ r. ⌜ (r ≡ firstAtFault (builtinFault counts (inTables (now (tables .entry)))) 1 (counts .builtins)) × (r ≤ 64) ⌝ }
+    requires { ⌜ (limits.tables ≤ length (now tables)) × Within counts ⌝ }
+    ensures { λ r. ⌜ (r ≡ firstAtFault (builtinFault counts (inTables (now (tables .entry)))) 1 (counts .builtins)) × (r ≤ limits.builtIns) ⌝ }
 {
     let mut row = 1;
     while row <= counts.builtins {
@@ -38,7 +39,7 @@ fn first_builtin(tables: &[u16], counts: Counts) -> usize
 
 fn first_expr(work: &[u64], tables: &[u16], counts: Counts) -> usize
     requires { ⌜ Known counts (now tables) (now work) ⌝ }
-    ensures { λ r. ⌜ (r ≡ firstAtFault (exprFault counts (inTables (now (tables .entry)))) 1 (counts .exprs)) × (r ≤ 512) ⌝ }
+    ensures { λ r. ⌜ (r ≡ firstAtFault (exprFault counts (inTables (now (tables .entry)))) 1 (counts .exprs)) × (r ≤ limits.expressions) ⌝ }
 {
     let mut row = 1;
     while row <= counts.exprs {
@@ -52,7 +53,7 @@ fn first_expr(work: &[u64], tables: &[u16], counts: Counts) -> usize
 
 fn first_statement(work: &[u64], tables: &[u16], counts: Counts) -> usize
     requires { ⌜ Known counts (now tables) (now work) ⌝ }
-    ensures { λ r. ⌜ (r ≡ firstAtFault (statementFault counts (inTables (now (tables .entry)))) 1 (counts .statements)) × (r ≤ 128) ⌝ }
+    ensures { λ r. ⌜ (r ≡ firstAtFault (statementFault counts (inTables (now (tables .entry)))) 1 (counts .statements)) × (r ≤ limits.statements) ⌝ }
 {
     let mut row = 1;
     while row <= counts.statements {
@@ -66,7 +67,7 @@ fn first_statement(work: &[u64], tables: &[u16], counts: Counts) -> usize
 
 fn first_query(work: &[u64], tables: &[u16], counts: Counts) -> usize
     requires { ⌜ Known counts (now tables) (now work) ⌝ }
-    ensures { λ r. ⌜ (r ≡ firstAtFault (queryFault counts (inTables (now (tables .entry)))) 1 (counts .queries)) × (r ≤ 32) ⌝ }
+    ensures { λ r. ⌜ (r ≡ firstAtFault (queryFault counts (inTables (now (tables .entry)))) 1 (counts .queries)) × (r ≤ limits.queries) ⌝ }
 {
     let mut row = 1;
     while row <= counts.queries {
@@ -82,7 +83,7 @@ fn first_query(work: &[u64], tables: &[u16], counts: Counts) -> usize
 
 // What the tests ask the memory for: the marks of the rows, and what their chains come to.
 fn note_rows(work: &mut [u64], tables: &[u16], counts: Counts)
-    requires { ⌜ (8192 ≤ length (now tables)) × (8192 ≤ length (now work)) × Within counts ⌝ }
+    requires { ⌜ (limits.tables ≤ length (now tables)) × (limits.leastWork ≤ length (now work)) × Within counts ⌝ }
     ensures { λ _. ⌜ Known counts (now (tables .entry)) (now (work .exit)) ⌝ }
 {
     mark_all(work, tables, counts);
@@ -91,7 +92,7 @@ fn note_rows(work: &mut [u64], tables: &[u16], counts: Counts)
 
 // The first line at fault, in the order of the sheet, or 0.
 pub fn first_line(tables: &[u16], counts: Counts, work: &mut [u64]) -> usize
-    requires { ⌜ (8192 ≤ length (now tables)) × (8192 ≤ length (now work)) × Within counts ⌝ }
+    requires { ⌜ (limits.tables ≤ length (now tables)) × (limits.leastWork ≤ length (now work)) × Within counts ⌝ }
     ensures { λ r. ⌜ r ≡ firstLine counts (inTables (now (tables .entry))) ⌝ }
 {
     let b = first_builtin(tables, counts);

@@ -4,7 +4,7 @@ use mathlib.Core.Bool.{true}
 use mathlib.Core.List.{List, List·Memᴰ}
 use Prim.Native.Nat.{ℕ, _+_, _-_, _*_, _≤_, _<_}
 use lib.Dec.{ltb}
-use lib.ListN.{length, getD, drop}
+use lib.ListN.{length, drop}
 use Rattle.basics.specs.Lists.{all}
 use Rattle.widths.specs.declared.Width.{Width}
 use Rattle.widths.specs.Widths.{words}
@@ -19,7 +19,7 @@ use Rattle.once.specs.Schedules.{Each}
 use Rattle.sizes.specs.Adds.{Fits}
 use Rattle.sizes.specs.Sums.{sumTo}
 use Rattle.answer.specs.Stored.{Stored}
-use Rattle.gather.specs.Sheets.{sheetAt}
+use Rattle.gather.specs.Sheets.{sheetAt, queryCount}
 
 -- The words of all answers.
 abbrev pub answersOf : Width → List ℕ → List ℕ
@@ -43,7 +43,7 @@ module _ (t : List ℕ) where
 module _ (v : Width) (t : List ℕ) where
   -- Each block says where its query's places begin.
   abbrev pub Based : List ℕ → Type 0
-  Based l = (q : ℕ) → 1 ≤ q → q ≤ getD t 4 0 → wordAt v l q 3 ≡ baseAt t q
+  Based l = (q : ℕ) → 1 ≤ q → q ≤ queryCount t → wordAt v l q 3 ≡ baseAt t q
 
   -- The words hold these schedules, which are those of queries of this sheet. Its names have room in the width's words, and so have those of
   -- all that is stored.

@@ -5,7 +5,7 @@ use mathlib.Core.List.{List}
 use mathlib.Core.Logic.{_⊎_, inl, inr}
 use Prim.Native.Nat.{ℕ, _≤_, _<_}
 use native.Mathlib.Omega.{arith}
-use lib.ListN.{length, getD, set}
+use lib.ListN.{length, set}
 use lib.Dec.{eqb}
 use borrow.Author.Tests.{eqb-true, eq-eqb, ne-eqb}
 use Rattle.basics.specs.Truth.{bool-cases, or-cases}
@@ -18,7 +18,7 @@ use Rattle.scopes.specs.Scopes as spec
 use Rattle.scopes.specs.Gather.{assignVar, gatherAssignedVars}
 use Rattle.branches.specs.Walks.{alone, leavesBy, leavesBy-none, leavesBy-row}
 use Rattle.gather.specs.declared.scope.Scope.{Scope}
-use Rattle.gather.specs.Sheets.{countsAt, specialAt, sheetAt, Accepted}
+use Rattle.gather.specs.Sheets.{countsAt, specialAt, sheetAt, Accepted, exprCount}
 use Rattle.gather.specs.Agrees.{WithLocal, WithUnscoped, WithInput, WithFlag}
 use Rattle.gather.specs.Spans.{spanWord, Short, Agrees, Steps, agrees-local, agrees-unscoped, agrees-input, agrees-flag}
 use Rattle.gather.specs.Outers.{Exists}
@@ -91,7 +91,7 @@ module _ (t outer : List ℕ) where
     as-walk false s row = fold-vars (assignVar (sheetAt t) parents shadow) s (leaves (alone (treeAt (sheetAt t) row)))
 
     -- The row, what it is made of, the rest of its chain.
-    over-row : (rest : Bool) (s : spec.Scope) (row : ℕ) → 1 ≤ row → row ≤ getD t 2 0
+    over-row : (rest : Bool) (s : spec.Scope) (row : ℕ) → 1 ≤ row → row ≤ exprCount t
         → let w = rowAt t row in
         overRow rest s row
         ≡ overRow true (overRow true (cond (isVar w) (assignVar (sheetAt t) parents shadow s w) s) (cond (isPattern w) (w .first) 0)) (cond rest (w .next) 0)
@@ -112,7 +112,7 @@ module _ (t outer : List ℕ) where
       subst (Agrees k l)
       (sym (as-walk ok shadow parents rest s 0 ∙ leavesBy-none (countsAt t) (specialAt t) t (ok .facts) (step ok shadow parents) rest s)) a
 
-  walk-row : Accepted t → (row : ℕ) → 1 ≤ row → row ≤ getD t 2 0 → (rest shadow : Bool) (k s₀ s₁ s₂ : Scope) (l l₀ l₁ l₂ : List ℕ)
+  walk-row : Accepted t → (row : ℕ) → 1 ≤ row → row ≤ exprCount t → (rest shadow : Bool) (k s₀ s₁ s₂ : Scope) (l l₀ l₁ l₂ : List ℕ)
       → let w = rowAt t row in
       AssignStep w shadow k l s₀ l₀ → AssignWalk (cond (isPattern w) (w .first) 0) true shadow s₀ l₀ s₁ l₁
       → AssignWalk (cond rest (w .next) 0) true shadow s₁ l₁ s₂ l₂ → AssignWalk row rest shadow k l s₂ l₂
@@ -123,7 +123,7 @@ module _ (t outer : List ℕ) where
       subst (Agrees s₂ l₂) (sym (as-walk ok shadow parents rest s row ∙ over-row ok shadow parents rest s row low high)) a₂
 
   -- The same of the row that was read, as the code has it.
-  pub walk-turn : Accepted t → (row : ℕ) → (row ≡ 0 → ⊥) → row ≤ getD t 2 0 → (rest shadow : Bool) (w : Row) → w ≡ rowAt t row
+  pub walk-turn : Accepted t → (row : ℕ) → (row ≡ 0 → ⊥) → row ≤ exprCount t → (rest shadow : Bool) (w : Row) → w ≡ rowAt t row
       → (items : ℕ) → items ≡ cond (isPattern w) (w .first) 0 → (next : ℕ) → next ≡ cond rest (w .next) 0
       → (k s₀ s₁ s₂ : Scope) (l l₀ l₁ l₂ : List ℕ)
       → AssignStep w shadow k l s₀ l₀ → AssignWalk items true shadow s₀ l₀ s₁ l₁ → AssignWalk next true shadow s₁ l₁ s₂ l₂

@@ -6,7 +6,7 @@ use mathlib.Core.Option.{Option, none, some}
 use Prim.Native.Nat.{ℕ, _+_, _≤_, _<_}
 use native.Mathlib.Omega.{arith}
 use lib.Dec.{eqb, ltb}
-use lib.ListN.{length, getD}
+use lib.ListN.{length}
 use Rattle.basics.specs.Ranges.{range, range-nil, range-cons}
 use Rattle.records.specs.declared.Builtin.{Builtin}
 use Rattle.records.specs.Layout.{builtinAt}
@@ -15,7 +15,7 @@ use Rattle.trees.specs.Lists.{find}
 use Rattle.text.specs.Form.{same}
 use Rattle.trees.specs.Paths.{pathOf, builtinWith}
 use Rattle.gather.specs.declared.paths.Path.{Path}
-use Rattle.gather.specs.Sheets.{sheetAt}
+use Rattle.gather.specs.Sheets.{sheetAt, builtinCount}
 use Rattle.gather.specs.Paths.{shortOf, appended, samePath}
 
 -- ---- the path of a built-in
@@ -120,7 +120,7 @@ takes (some b) = b .arity + 1
 
 module _ (t : List ℕ) where
   abbrev from : ℕ → List Builtin
-  from row = map (builtinAt t) (range row (getD t 1 0 + 1))
+  from row = map (builtinAt t) (range row (builtinCount t + 1))
 
   unfoldable pub takesFrom : ℕ → Path → ℕ
   takesFrom row p = takes (find (named p) (from row))
@@ -130,14 +130,14 @@ module _ (t : List ℕ) where
   takes-path o = ap takes (sym (found-is o (from 1)))
 
   module _ (row : ℕ) (p : Path) where
-    pub takes-past : getD t 1 0 < row → 0 ≡ takesFrom row p
+    pub takes-past : builtinCount t < row → 0 ≡ takesFrom row p
     unfolding takesFrom
-    takes-past h = rw (range-nil row (getD t 1 0 + 1) (omega arith))
+    takes-past h = rw (range-nil row (builtinCount t + 1) (omega arith))
 
-    module _ (high : row ≤ getD t 1 0) (b : Builtin) (is : b ≡ builtinAt t row) (found : Bool) (test : found ≡ named p b) where
+    module _ (high : row ≤ builtinCount t) (b : Builtin) (is : b ≡ builtinAt t row) (found : Bool) (test : found ≡ named p b) where
       turn : takesFrom row p ≡ takes (cond (named p b) (some b) (find (named p) (from (row + 1))))
       unfolding takesFrom
-      turn = rw (range-cons row (getD t 1 0 + 1) (omega arith), is)
+      turn = rw (range-cons row (builtinCount t + 1) (omega arith), is)
 
       pub takes-here : found ≡ true → b .arity + 1 ≡ takesFrom row p
       takes-here e = sym (turn ∙ rw (sym test, e))

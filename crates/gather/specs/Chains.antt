@@ -3,13 +3,12 @@ use mathlib.Core.Path.{_≡_, sym}
 use mathlib.Core.Bool.{Bool, true, false}
 use mathlib.Core.List.{List, [], _∷_, foldl}
 use Prim.Native.Nat.{ℕ, _≤_}
-use lib.ListN.{getD}
 use Rattle.trees.specs.Sheet.{rowAt}
 use Rattle.trees.specs.Trees.{Tree, treeAt, chain}
 use Rattle.scopes.specs.Scopes as spec
 use Rattle.scopes.specs.Gather.{gatherRead, gatherVars}
 use Rattle.gather.specs.declared.scope.Scope.{Scope}
-use Rattle.gather.specs.Sheets.{sheetAt, Accepted}
+use Rattle.gather.specs.Sheets.{sheetAt, Accepted, exprCount}
 use Rattle.gather.specs.Spans.{Steps}
 use Rattle.gather.specs.Exprs.{exprBy, none-is, tree-is}
 
@@ -22,7 +21,7 @@ module _ (t : List ℕ) where
     unfolding chain
     chain-none = rw (none-is t ok true)
 
-    pub chain-row : (row : ℕ) → (row ≡ 0 → ⊥) → row ≤ getD t 2 0 → chainAt row ≡ exprBy t false row ∷ chainAt (rowAt t row .next)
+    pub chain-row : (row : ℕ) → (row ≡ 0 → ⊥) → row ≤ exprCount t → chainAt row ≡ exprBy t false row ∷ chainAt (rowAt t row .next)
     unfolding chain
     chain-row row some high = rw (tree-is t ok row some high)
 
@@ -44,7 +43,7 @@ module _ (t : List ℕ) where
       pub each-none : row ≡ 0 → (k : Scope) (l : List ℕ) → Each f row k l k l
       each-none z k l parents o s a = rw (z, chain-none ok) a
 
-      pub each-row : (row ≡ 0 → ⊥) → row ≤ getD t 2 0 → (next : ℕ) → next ≡ rowAt t row .next → (k s₀ s₁ : Scope) (l l₀ l₁ : List ℕ)
+      pub each-row : (row ≡ 0 → ⊥) → row ≤ exprCount t → (next : ℕ) → next ≡ rowAt t row .next → (k s₀ s₁ : Scope) (l l₀ l₁ : List ℕ)
           → At f row k l s₀ l₀ → Each f next s₀ l₀ s₁ l₁ → Each f row k l s₁ l₁
       each-row some high next is k s₀ s₁ l l₀ l₁ h₀ h₁ parents o s a =
           rw (chain-row ok row some high, sym is) (h₁ parents o _ (h₀ parents o s a))

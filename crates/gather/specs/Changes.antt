@@ -7,6 +7,7 @@ use Prim.Native.Nat.{ℕ, _+_, _≤_, _<_}
 use native.Mathlib.Omega.{arith}
 use lib.ListN.{length, getD, set, length-set}
 use lib.Seq.{getD-set-same, getD-set-other}
+use Rattle.basics.specs.Limits as limits
 use Rattle.basics.specs.Truth.{lt-cases, eq-cases}
 use Rattle.names.specs.Sets.{member, Next}
 
@@ -15,19 +16,19 @@ abbrev pub changed : List ℕ → (ℕ → ℕ → ℕ) → ℕ → ℕ → ℕ
 changed ws f x v = cond (member ws x) (f x v) v
 
 module _ (ws : List ℕ) (f : ℕ → ℕ → ℕ) (l : List ℕ) where
-  -- The numbers of the names below n are changed, and the others not yet; n is the next member, or 512.
+  -- The numbers of the names below n are changed, and the others not yet; n is the next member, or the end.
   pub record Changing (m : List ℕ) (n : ℕ) : Type 0 where
-    pub high : n ≤ 512
-    pub here : n < 512 → member ws n ≡ true
+    pub high : n ≤ limits.perName
+    pub here : n < limits.perName → member ws n ≡ true
     pub size : length m ≡ length l
     pub done : (x : ℕ) → x < n → getD m x 0 ≡ changed ws f x (getD l x 0)
     pub rest : (x : ℕ) → n ≤ x → getD m x 0 ≡ getD l x 0
 
   -- All of them are changed.
   pub record Changed (m : List ℕ) : Type 0 where
-    pub has : (x : ℕ) → x < 512 → getD m x 0 ≡ changed ws f x (getD l x 0)
+    pub has : (x : ℕ) → x < limits.perName → getD m x 0 ≡ changed ws f x (getD l x 0)
 
-  pub changing-first : (n : ℕ) → Next ws 512 0 n → Changing l n
+  pub changing-first : (n : ℕ) → Next ws limits.perName 0 n → Changing l n
   changing-first n next = record {
     high = next .high;
     here = next .found;
@@ -37,7 +38,7 @@ module _ (ws : List ℕ) (f : ℕ → ℕ → ℕ) (l : List ℕ) where
   }
 
   module _ (m : List ℕ) (n : ℕ) (c : Changing m n) where
-    pub changing-next : n < 512 → n < length m → (v : ℕ) → v ≡ f n (getD m n 0) → (y : ℕ) → Next ws 512 (n + 1) y → Changing (set m n v) y
+    pub changing-next : n < limits.perName → n < length m → (v : ℕ) → v ≡ f n (getD m n 0) → (y : ℕ) → Next ws limits.perName (n + 1) y → Changing (set m n v) y
     changing-next low room v is y next = record {
       high = next .high;
       here = next .found;
@@ -55,5 +56,5 @@ module _ (ws : List ℕ) (f : ℕ → ℕ → ℕ) (l : List ℕ) where
         go x under (inr ne) (inr above) =
             getD-set-other m n x v 0 ne ∙ c .rest x above ∙ sym (rw (next .gap x (omega arith) under))
 
-    pub changing-all : 512 ≤ n → Changed m
+    pub changing-all : limits.perName ≤ n → Changed m
     changing-all end = record { has = λ x low. c .done x (omega arith) }

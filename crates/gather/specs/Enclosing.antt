@@ -10,6 +10,7 @@ use lib.Dec.{leb}
 use lib.ListN.{length, getD, set}
 use lib.Seq.{getD-set-same, getD-set-other}
 use borrow.Author.Tests.{le-leb, lt-leb}
+use Rattle.basics.specs.Limits as limits
 use Rattle.basics.specs.Truth.{lt-cases, eq-cases}
 use Rattle.names.specs.Sets.{member}
 use Rattle.records.specs.declared.Row.{Row}
@@ -33,7 +34,7 @@ Lined spans s = (x : ℕ) (p : Span) → spanIn (s .locals) x ≡ some p → get
 
 -- The numbers of names are those with the scope k.
 abbrev LeastLines : List ℕ → Scope → List ℕ → List ℕ → Type 0
-LeastLines outer k spans inner = (x : ℕ) → x < 512 → getD inner x 0 ≡ leastLine k x (getD outer x 0) (getD spans x 0 / 65536)
+LeastLines outer k spans inner = (x : ℕ) → x < limits.perName → getD inner x 0 ≡ leastLine k x (getD outer x 0) (getD spans x 0 / 65536)
 
 -- ---- the three steps of the code
 
@@ -51,7 +52,7 @@ copied-more outer inner n room h = record { has = λ x low. go x low (eq-cases x
     go x low (inl e) = rw e (getD-set-same inner n (getD outer n 0) 0 room)
     go x low (inr ne) = getD-set-other inner n x (getD outer n 0) 0 ne ∙ h .has x (omega arith)
 
-pub copied-all : (outer inner : List ℕ) (n : ℕ) → n ≤ 512 → 512 ≤ n → Copied outer n inner → Copied outer 512 inner
+pub copied-all : (outer inner : List ℕ) (n : ℕ) → n ≤ limits.perName → limits.perName ≤ n → Copied outer n inner → Copied outer limits.perName inner
 copied-all outer inner n high low h = record { has = λ x under. h .has x (omega arith) }
 
 -- A local exists from its line on.
@@ -68,7 +69,7 @@ cleared x v = 0
 abbrev pub Cleared : List ℕ → List ℕ → List ℕ → Type 0
 Cleared unscoped = Changed unscoped cleared
 
-least-lines : (outer : List ℕ) (k : Scope) (spans a b inner : List ℕ) → Copied outer 512 a → Lowered (k .locals .words) spans a b
+least-lines : (outer : List ℕ) (k : Scope) (spans a b inner : List ℕ) → Copied outer limits.perName a → Lowered (k .locals .words) spans a b
     → Cleared (k .unscoped .words) b inner → LeastLines outer k spans inner
 unfolding leastLine
 least-lines outer k spans a b inner copied low clear x h = rw (clear .has x h, low .has x h, copied .has x h)
@@ -106,14 +107,14 @@ Encloses outer k spans inner =
     (parents : List spec.Scope) → Outer outer parents → (s : spec.Scope) → Sets k s → Lined spans s → Outer inner (s ∷ parents)
 
 encloses-at : (outer : List ℕ) (k : Scope) (spans inner : List ℕ) → LeastLines outer k spans inner → (parents : List spec.Scope)
-    → Outer outer parents → (s : spec.Scope) → Sets k s → Lined spans s → (w : Row) → w .name < 512 → w .line < 65536
+    → Outer outer parents → (s : spec.Scope) → Sets k s → Lined spans s → (w : Row) → w .name < limits.perName → w .line < 65536
     → varExists (s ∷ parents) w ≡ leb (getD inner (w .name) 0) (w .line)
 unfolding varExists
 encloses-at outer k spans inner h parents o s a lined w low line =
     ap (λ (b : Bool). contains (s .unscoped) (w .name) || (notBelow (spanIn (s .locals) (w .name)) w || b)) (o .has w low line)
     ∙ sym (found-least k s a w spans lined (getD outer (w .name) 0) line) ∙ sym (ap (λ (n : ℕ). leb n (w .line)) (h (w .name) low))
 
-pub encloses : (outer : List ℕ) (k : Scope) (spans a b inner : List ℕ) → Copied outer 512 a → Lowered (k .locals .words) spans a b
+pub encloses : (outer : List ℕ) (k : Scope) (spans a b inner : List ℕ) → Copied outer limits.perName a → Lowered (k .locals .words) spans a b
     → Cleared (k .unscoped .words) b inner → Encloses outer k spans inner
 encloses outer k spans a b inner copied low clear parents o s agrees lined = record {
   has = λ w name line. encloses-at outer k spans inner (least-lines outer k spans a b inner copied low clear) parents o s agrees lined w name line;

@@ -4,12 +4,11 @@ use mathlib.Core.Bool.{Bool, true, false, cond}
 use mathlib.Core.List.{List}
 use Prim.Native.Nat.{ℕ, _≤_}
 use native.Mathlib.Omega.{arith}
-use lib.ListN.{getD}
 use Rattle.trees.specs.Sheet.{rowAt}
 use Rattle.trees.specs.Trees.{Tree, nil, node, thirdOf, rowOf, firstOf, secondOf, treeAt}
 use Rattle.branches.specs.RowTrees.{tree-none, tree-row}
 use Rattle.branches.specs.Walks.{alone}
-use Rattle.gather.specs.Sheets.{countsAt, specialAt, sheetAt, Accepted}
+use Rattle.gather.specs.Sheets.{countsAt, specialAt, sheetAt, Accepted, exprCount}
 
 module _ (t : List ℕ) where
   -- With the rest if `rest`.
@@ -22,7 +21,7 @@ module _ (t : List ℕ) where
     none-is true = tree-none (countsAt t) (specialAt t) t (ok .facts)
     none-is false = ap alone (tree-none (countsAt t) (specialAt t) t (ok .facts))
 
-    module _ (row : ℕ) (some : row ≡ 0 → ⊥) (high : row ≤ getD t 2 0) where
+    module _ (row : ℕ) (some : row ≡ 0 → ⊥) (high : row ≤ exprCount t) where
       pub tree-is : treeAt (sheetAt t) row
           ≡ node (rowAt t row) (treeAt (sheetAt t) (rowAt t row .first)) (treeAt (sheetAt t) (rowAt t row .second))
           (treeAt (sheetAt t) (thirdOf (rowAt t row))) (treeAt (sheetAt t) (rowAt t row .next))

@@ -6,7 +6,7 @@ use mathlib.Core.Option.{Option, none, some}
 use Prim.Native.Nat.{ℕ, _+_, _≤_, _<_}
 use native.Mathlib.Omega.{arith}
 use lib.Dec.{eqb}
-use lib.ListN.{length, getD}
+use lib.ListN.{length}
 use borrow.Author.Tests.{eq-eqb, ne-eqb}
 use Rattle.records.specs.declared.Builtin.{Builtin}
 use Rattle.records.specs.declared.Row.{Row}
@@ -16,7 +16,7 @@ use Rattle.trees.specs.Trees.{Tree, treeAt}
 use Rattle.trees.specs.Paths.{builtinWith, beyond, getExtraArg}
 use Rattle.gather.specs.declared.paths.Path.{Path}
 use Rattle.gather.specs.declared.extra.End.{End}
-use Rattle.gather.specs.Sheets.{sheetAt, Accepted}
+use Rattle.gather.specs.Sheets.{sheetAt, Accepted, exprCount}
 use Rattle.gather.specs.Exprs.{exprBy, none-is, row-is, first-is, second-is}
 use Rattle.gather.specs.Walking.{remains}
 use Rattle.gather.specs.Chains.{chainAt, chain-none, chain-row}
@@ -44,14 +44,14 @@ module _ (t : List ℕ) where
   pub record EndAt (row : ℕ) (e : End) : Type 0 where
     pub count : length (chainAt t row) ≡ e .count
     pub last-is : last (chainAt t row) ≡ someAt (e .last)
-    pub low : e .last ≤ getD t 2 0
+    pub low : e .last ≤ exprCount t
     pub few : e .count ≤ remains t row
 
   abbrev pub CallExtra : Row → ℕ → Type 0
-  CallExtra w r = (beyond (builtinWith (sheetAt t .builtins) (pathAt t (w .first))) (chainAt t (w .second)) ≡ someAt r) × (r ≤ getD t 2 0)
+  CallExtra w r = (beyond (builtinWith (sheetAt t .builtins) (pathAt t (w .first))) (chainAt t (w .second)) ≡ someAt r) × (r ≤ exprCount t)
 
   abbrev pub ExtraAt : ℕ → ℕ → Type 0
-  ExtraAt row r = (getExtraArg (sheetAt t) (treeAt (sheetAt t) row) ≡ someAt r) × (r ≤ getD t 2 0)
+  ExtraAt row r = (getExtraArg (sheetAt t) (treeAt (sheetAt t) row) ≡ someAt r) × (r ≤ exprCount t)
 
   module _ (ok : Accepted t) (row : ℕ) where
     pub end-none : row ≡ 0 → EndAt row (record { count = 0; last = 0 })
@@ -62,7 +62,7 @@ module _ (t : List ℕ) where
       few = omega arith;
     }
 
-    pub end-row : (row ≡ 0 → ⊥) → row ≤ getD t 2 0 → (next : ℕ) → next ≡ rowAt t row .next → remains t next < remains t row
+    pub end-row : (row ≡ 0 → ⊥) → row ≤ exprCount t → (next : ℕ) → next ≡ rowAt t row .next → remains t next < remains t row
         → (e : End) → EndAt next e → EndAt row (after e row)
     end-row there high next is falls e h = record {
       count = rw (chain-row t ok row there high, sym is) (let n = h .count in omega arith);
@@ -77,7 +77,7 @@ module _ (t : List ℕ) where
         pick true = rw (ne-eqb row 0 there)
         pick false = refl
 
-        pick-low : (b : Bool) → cond b row (e .last) ≤ getD t 2 0
+        pick-low : (b : Bool) → cond b row (e .last) ≤ exprCount t
         pick-low true = high
         pick-low false = h .low
 
@@ -103,7 +103,7 @@ module _ (t : List ℕ) where
     unfolding getExtraArg
     no-expr z = (rw (z, none-is t ok true), omega arith)
 
-    module _ (there : row ≡ 0 → ⊥) (high : row ≤ getD t 2 0) (w : Row) (is : w ≡ rowAt t row) where
+    module _ (there : row ≡ 0 → ⊥) (high : row ≤ exprCount t) (w : Row) (is : w ≡ rowAt t row) where
       pub of-call : w .kind ≡ 13 → (r : ℕ) → CallExtra w r → ExtraAt row r
       unfolding getExtraArg
       of-call k r h =

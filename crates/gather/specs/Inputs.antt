@@ -4,7 +4,7 @@ use mathlib.Core.Bool.{Bool, true, false, cond}
 use mathlib.Core.List.{List, [], _∷_, _++_, foldl}
 use Prim.Native.Nat.{ℕ, _≤_}
 use native.Mathlib.Omega.{arith}
-use lib.ListN.{length, getD}
+use lib.ListN.{length}
 use borrow.Author.Tests.{eq-eqb, ne-eqb}
 use Rattle.names.specs.Sets.{member}
 use Rattle.names.specs.declared.Names.{Names}
@@ -19,7 +19,7 @@ use Rattle.branches.specs.declared.Kids.{Kids}
 use Rattle.branches.specs.Kids.{kidsOf}
 use Rattle.branches.specs.Walks.{alone, overBy, overBy-none, overBy-row}
 use Rattle.gather.specs.declared.scope.Scope.{Scope}
-use Rattle.gather.specs.Sheets.{countsAt, specialAt, sheetAt, Accepted}
+use Rattle.gather.specs.Sheets.{countsAt, specialAt, sheetAt, Accepted, exprCount}
 use Rattle.gather.specs.Agrees.{Sets, WithInput, WithFlag, scopeOf}
 use Rattle.gather.specs.Outers.{Outer, Exists}
 use Rattle.gather.specs.Exprs.{exprBy}
@@ -123,7 +123,7 @@ module _ (t outer : List ℕ) where
   walk-none ok rest k parents o s a =
       subst (Sets k) (sym (as-walk ok parents rest s 0 ∙ overBy-none (countsAt t) (specialAt t) t (ok .facts) (inputAt (sheetAt t) parents) rest s)) a
 
-  walk-row : Accepted t → (row : ℕ) → 1 ≤ row → row ≤ getD t 2 0 → (rest : Bool) (k s₀ s₁ s₂ s₃ s₄ : Scope)
+  walk-row : Accepted t → (row : ℕ) → 1 ≤ row → row ≤ exprCount t → (rest : Bool) (k s₀ s₁ s₂ s₃ s₄ : Scope)
       → let w = rowAt t row in
       InputStep w k s₀ → InputWalk (kidsOf w .first) true s₀ s₁ → InputWalk (kidsOf w .second) true s₁ s₂
       → InputWalk (kidsOf w .third) true s₂ s₃ → InputWalk (cond rest (w .next) 0) true s₃ s₄ → InputWalk row rest k s₄
@@ -137,7 +137,7 @@ module _ (t outer : List ℕ) where
       (sym (as-walk ok parents rest s row ∙ overBy-row (countsAt t) (specialAt t) t (ok .facts) (inputAt (sheetAt t) parents) rest s row low high)) a₄
 
   -- The same of the row that was read, its parts and the row after it, as the code has them.
-  pub walk-turn : Accepted t → (row : ℕ) → (row ≡ 0 → ⊥) → row ≤ getD t 2 0 → (rest : Bool) (w : Row) → w ≡ rowAt t row
+  pub walk-turn : Accepted t → (row : ℕ) → (row ≡ 0 → ⊥) → row ≤ exprCount t → (rest : Bool) (w : Row) → w ≡ rowAt t row
       → (p : Kids) → p ≡ kidsOf w → (next : ℕ) → next ≡ cond rest (w .next) 0 → (k s₀ s₁ s₂ s₃ s₄ : Scope)
       → InputStep w k s₀ → InputWalk (p .first) true s₀ s₁ → InputWalk (p .second) true s₁ s₂ → InputWalk (p .third) true s₂ s₃
       → InputWalk next true s₃ s₄ → InputWalk row rest k s₄

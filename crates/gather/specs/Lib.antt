@@ -17,4 +17,5 @@ pub mod Paths
 pub mod Builtins
 pub mod Extra
 pub mod Statements
+pub mod Asks
 pub mod Queries

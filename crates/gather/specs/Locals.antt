@@ -3,7 +3,7 @@ use mathlib.Core.Path.{_≡_, sym, ap, _∙_}
 use mathlib.Core.Bool.{true, false, cond}
 use mathlib.Core.List.{List, _∷_, foldl}
 use Prim.Native.Nat.{ℕ, _≤_, _<_}
-use lib.ListN.{length, getD, set}
+use lib.ListN.{length, set}
 use borrow.Author.Tests.{eq-eqb, ne-eqb}
 use Rattle.records.specs.declared.Row.{Row}
 use Rattle.trees.specs.Sheet.{rowAt}
@@ -13,7 +13,7 @@ use Rattle.trees.specs.Traverse.{vars}
 use Rattle.scopes.specs.Scopes as spec
 use Rattle.scopes.specs.Scopes.{addLocal}
 use Rattle.gather.specs.declared.scope.Scope.{Scope}
-use Rattle.gather.specs.Sheets.{Accepted}
+use Rattle.gather.specs.Sheets.{Accepted, exprCount}
 use Rattle.gather.specs.Agrees.{WithLocal}
 use Rattle.gather.specs.Spans.{spanWord, Short, Agrees, agrees-local}
 use Rattle.gather.specs.Exprs.{exprBy, row-is}
@@ -41,7 +41,7 @@ module _ (t : List ℕ) where
     pub locals-none : row ≡ 0 → (k : Scope) (l : List ℕ) → LocalsEach row k l k l
     locals-none z k l s a = rw (z, chain-none t ok) a
 
-    module _ (some : row ≡ 0 → ⊥) (high : row ≤ getD t 2 0) where
+    module _ (some : row ≡ 0 → ⊥) (high : row ≤ exprCount t) where
       abbrev step : spec.Scope → Tree → spec.Scope
       step s e = cond (isVar (rowOf e)) (addLocal s (rowOf e)) s
 

@@ -4,7 +4,7 @@ use mathlib.Core.Bool.{Bool, true, false, cond, _&&_}
 use mathlib.Core.List.{List, [], _∷_, foldl}
 use Prim.Native.Nat.{ℕ, _≤_}
 use native.Mathlib.Omega.{arith}
-use lib.ListN.{length, getD}
+use lib.ListN.{length}
 use borrow.Author.Tests.{eq-eqb, ne-eqb}
 use Rattle.records.specs.declared.Row.{Row}
 use Rattle.trees.specs.Lists.{isSome}
@@ -19,7 +19,7 @@ use Rattle.branches.specs.declared.Kids.{Kids}
 use Rattle.branches.specs.Kids.{kidsOf}
 use Rattle.branches.specs.Walks.{aloneAt, overBy, overBy-none, overBy-row}
 use Rattle.gather.specs.declared.scope.Scope.{Scope}
-use Rattle.gather.specs.Sheets.{countsAt, specialAt, sheetAt, Accepted}
+use Rattle.gather.specs.Sheets.{countsAt, specialAt, sheetAt, Accepted, exprCount}
 use Rattle.gather.specs.Agrees.{WithFlag, scopeOf}
 use Rattle.gather.specs.Spans.{Agrees, Steps, agrees-flag}
 use Rattle.gather.specs.Exprs.{exprBy}
@@ -131,7 +131,7 @@ module _ (t outer : List ℕ) where
       subst (Agrees k l)
       (sym (as-walk ok parents rest s 0 ∙ overBy-none (countsAt t) (specialAt t) t (ok .facts) (loopVar (sheetAt t) parents) rest s)) a
 
-  walk-row : Accepted t → (row : ℕ) → 1 ≤ row → row ≤ getD t 2 0 → (rest : Bool) (k s₀ s₁ s₂ s₃ s₄ : Scope) (l l₀ l₁ l₂ l₃ l₄ : List ℕ)
+  walk-row : Accepted t → (row : ℕ) → 1 ≤ row → row ≤ exprCount t → (rest : Bool) (k s₀ s₁ s₂ s₃ s₄ : Scope) (l l₀ l₁ l₂ l₃ l₄ : List ℕ)
       → let w = rowAt t row in
       LoopStep w k l s₀ l₀ → LoopWalk (kidsOf w .first) true s₀ l₀ s₁ l₁ → LoopWalk (kidsOf w .second) true s₁ l₁ s₂ l₂
       → LoopWalk (kidsOf w .third) true s₂ l₂ s₃ l₃ → LoopWalk (cond rest (w .next) 0) true s₃ l₃ s₄ l₄ → LoopWalk row rest k l s₄ l₄
@@ -145,7 +145,7 @@ module _ (t outer : List ℕ) where
       (sym (as-walk ok parents rest s row ∙ overBy-row (countsAt t) (specialAt t) t (ok .facts) (loopVar (sheetAt t) parents) rest s row low high)) a₄
 
   -- The same of the row that was read, its parts and the row after it, as the code has them.
-  pub walk-turn : Accepted t → (row : ℕ) → (row ≡ 0 → ⊥) → row ≤ getD t 2 0 → (rest : Bool) (w : Row) → w ≡ rowAt t row
+  pub walk-turn : Accepted t → (row : ℕ) → (row ≡ 0 → ⊥) → row ≤ exprCount t → (rest : Bool) (w : Row) → w ≡ rowAt t row
       → (p : Kids) → p ≡ kidsOf w → (next : ℕ) → next ≡ cond rest (w .next) 0 → (k s₀ s₁ s₂ s₃ s₄ : Scope) (l l₀ l₁ l₂ l₃ l₄ : List ℕ)
       → LoopStep w k l s₀ l₀ → LoopWalk (p .first) true s₀ l₀ s₁ l₁ → LoopWalk (p .second) true s₁ l₁ s₂ l₂ → LoopWalk (p .third) true s₂ l₂ s₃ l₃
       → LoopWalk next true s₃ l₃ s₄ l₄ → LoopWalk row rest k l s₄ l₄

@@ -5,15 +5,16 @@ use mathlib.Core.List.{List}
 use Prim.Native.Nat.{ℕ, _<_}
 use lib.Dec.{leb}
 use lib.ListN.{getD}
+use Rattle.basics.specs.Limits as limits
 use Rattle.records.specs.declared.Row.{Row}
 use Rattle.scopes.specs.Scopes.{Scope, varExists}
 
 -- Each name's number is the least line at which a variable of that name exists in the parents; it is past all lines where none does.
 pub record Outer (outer : List ℕ) (parents : List Scope) : Type 0 where
-  pub has : (w : Row) → w .name < 512 → w .line < 65536 → varExists parents w ≡ leb (getD outer (w .name) 0) (w .line)
+  pub has : (w : Row) → w .name < limits.perName → w .line < 65536 → varExists parents w ≡ leb (getD outer (w .name) 0) (w .line)
 
 abbrev pub Exists : List ℕ → Row → Bool → Type 0
 Exists outer w r = (parents : List Scope) → Outer outer parents → r ≡ varExists parents w
 
-pub exists : (outer : List ℕ) (w : Row) → w .name < 512 → w .line < 65536 → Exists outer w (leb (getD outer (w .name) 0) (w .line))
+pub exists : (outer : List ℕ) (w : Row) → w .name < limits.perName → w .line < 65536 → Exists outer w (leb (getD outer (w .name) 0) (w .line))
 exists outer w low lined parents o = sym (o .has w low lined)

@@ -5,7 +5,6 @@ use mathlib.Core.List.{List, [], _∷_}
 use mathlib.Core.Option.{Option, none, some}
 use Prim.Native.Nat.{ℕ, _≤_}
 use lib.Dec.{eqb}
-use lib.ListN.{getD}
 use borrow.Author.Tests.{eq-eqb, ne-eqb}
 use Rattle.records.specs.declared.Row.{Row}
 use Rattle.trees.specs.Sheet.{rowAt}
@@ -13,7 +12,7 @@ use Rattle.trees.specs.Kinds.{isString, isVar, isRefDot, isRefBrack}
 use Rattle.trees.specs.Trees.{rowOf, treeAt}
 use Rattle.trees.specs.Paths.{append, getPathString}
 use Rattle.gather.specs.declared.paths.Path.{Path}
-use Rattle.gather.specs.Sheets.{sheetAt, Accepted}
+use Rattle.gather.specs.Sheets.{sheetAt, Accepted, exprCount}
 use Rattle.gather.specs.Exprs.{none-is, tree-is, row-is}
 
 abbrev sized : ℕ → ℕ → ℕ → ℕ → Path
@@ -79,7 +78,7 @@ module _ (t : List ℕ) where
     pub index-none : row ≡ 0 → IndexStep row p p
     index-none z o h = rw (z, none-is t ok true) h
 
-    module _ (there : row ≡ 0 → ⊥) (high : row ≤ getD t 2 0) (w : Row) (is : w ≡ rowAt t row) where
+    module _ (there : row ≡ 0 → ⊥) (high : row ≤ exprCount t) (w : Row) (is : w ≡ rowAt t row) where
       pub index-string : w .kind ≡ 1 → (r : Path) → r ≡ appended p (w .name) → IndexStep row p r
       index-string e r put o h =
           rw (row-is t ok row there high true, sym is, eq-eqb (w .kind) 1 e) (put ∙ ap (λ (q : Path). appended q (w .name)) h ∙ short-append o (w .name))
@@ -116,7 +115,7 @@ module _ (t : List ℕ) where
     unfolding getPathString
     walk-none z r is = rw (z, none-is t ok true) is
 
-    pub walk-row : (row ≡ 0 → ⊥) → row ≤ getD t 2 0 → (w : Row) → w ≡ rowAt t row → (p r : Path) → p ≡ shortOf (pathAt (w .first)) → PathStep w p r
+    pub walk-row : (row ≡ 0 → ⊥) → row ≤ exprCount t → (w : Row) → w ≡ rowAt t row → (p r : Path) → p ≡ shortOf (pathAt (w .first)) → PathStep w p r
         → r ≡ shortOf (pathAt row)
     unfolding getPathString
     walk-row there high w is p r h step = rw (tree-is t ok row there high, sym is) (step (pathAt (w .first)) h)

@@ -25,7 +25,7 @@ use Rattle.scopes.specs.GatherLocals.{gatherStmt, gatherLocalVars}
 use Rattle.branches.specs.RowTrees.{rows-length, rows-at}
 use Rattle.branches.specs.Onwards.{left, left-falls, onward-low}
 use Rattle.gather.specs.declared.scope.Scope.{Scope}
-use Rattle.gather.specs.Sheets.{countsAt, sheetAt, Accepted}
+use Rattle.gather.specs.Sheets.{countsAt, sheetAt, Accepted, exprCount, queryCount, statementCount}
 use Rattle.gather.specs.Agrees.{NoNames, WithoutLocals}
 use Rattle.gather.specs.Outers.{Outer}
 use Rattle.gather.specs.Spans.{Agrees, Steps, agrees-none, agrees-without}
@@ -53,14 +53,14 @@ unfolding formOf
 form-has form = all-getD exprFields forms noForm forms-have none-have form
 
 module _ (t : List ℕ) where
-  expr-low : (f : Field) (v : ℕ) → exprField f ≡ true → v ≤ limitOf (countsAt t) (f .section) → v ≤ getD t 2 0
+  expr-low : (f : Field) (v : ℕ) → exprField f ≡ true → v ≤ limitOf (countsAt t) (f .section) → v ≤ exprCount t
   unfolding exprField
   expr-low f v p h = ⊎-elim none-low some-low (or-cases (eqb (f .section) 0) (eqb (f .section) exprSection) p)
     where
-      none-low : eqb (f .section) 0 ≡ true → v ≤ getD t 2 0
+      none-low : eqb (f .section) 0 ≡ true → v ≤ exprCount t
       none-low q = let low : v ≤ limitOf (countsAt t) 0 = rw (eqb-true (f .section) 0 q) at h in omega arith
 
-      some-low : eqb (f .section) exprSection ≡ true → v ≤ getD t 2 0
+      some-low : eqb (f .section) exprSection ≡ true → v ≤ exprCount t
       some-low q = let low : v ≤ limitOf (countsAt t) exprSection = rw (eqb-true (f .section) exprSection q) at h in low
 
   -- The statement at a row.
@@ -71,10 +71,10 @@ module _ (t : List ℕ) where
   stmtsAt row = stmtsFrom (sheetAt t) (length (sheetAt t .statements)) row
 
   abbrev pub stmtsLeft : ℕ → ℕ
-  stmtsLeft row = left (getD t 3 0) row
+  stmtsLeft row = left (statementCount t) row
 
   module _ (ok : Accepted t) where
-    pub named-at : (row : ℕ) → (row ≡ 0 → ⊥) → row ≤ getD t 3 0 → Named t (statementAt t row)
+    pub named-at : (row : ℕ) → (row ≡ 0 → ⊥) → row ≤ statementCount t → Named t (statementAt t row)
     unfolding exprFields
     named-at row there high =
         let k = ok .facts .statement row (omega arith) high in
@@ -90,19 +90,19 @@ module _ (t : List ℕ) where
 
     -- ---- the chain of statements
 
-    count-is : length (sheetAt t .statements) ≡ getD t 3 0
+    count-is : length (sheetAt t .statements) ≡ statementCount t
     unfolding sheetAt sheetOf
-    count-is = rows-length (statementAt t) (getD t 3 0)
+    count-is = rows-length (statementAt t) (statementCount t)
 
-    statement-is : (i : ℕ) → i < getD t 3 0 → getD (sheetAt t .statements) i noStatement ≡ statementAt t (suc i)
+    statement-is : (i : ℕ) → i < statementCount t → getD (sheetAt t .statements) i noStatement ≡ statementAt t (suc i)
     unfolding sheetAt sheetOf
-    statement-is i h = rows-at (statementAt t) (getD t 3 0) i noStatement h
+    statement-is i h = rows-at (statementAt t) (statementCount t) i noStatement h
 
     -- Is the number d enough from a row on?
     abbrev Enough : ℕ → ℕ → Type 0
-    Enough d row = (row ≡ 0) ⊎ ((row ≤ getD t 3 0) × (getD t 3 0 < d + row))
+    Enough d row = (row ≡ 0) ⊎ ((row ≤ statementCount t) × (statementCount t < d + row))
 
-    falls : (d row v : ℕ) → getD t 3 0 < suc d + row → (v ≡ 0) ⊎ ((row < v) × (v ≤ getD t 3 0)) → Enough d v
+    falls : (d row v : ℕ) → statementCount t < suc d + row → (v ≡ 0) ⊎ ((row < v) × (v ≤ statementCount t)) → Enough d v
     falls d row v h (inl z) = inl z
     falls d row v h (inr a) = inr (a .1, omega (arith, a .0))
 
@@ -125,18 +125,18 @@ module _ (t : List ℕ) where
     pub stmts-none : stmtsAt 0 ≡ []
     stmts-none = none-from (length (sheetAt t .statements))
 
-    pub stmts-row : (row : ℕ) → (row ≡ 0 → ⊥) → row ≤ getD t 3 0 → stmtsAt row ≡ stmtAt row ∷ stmtsAt (statementAt t row .next)
+    pub stmts-row : (row : ℕ) → (row ≡ 0 → ⊥) → row ≤ statementCount t → stmtsAt row ≡ stmtAt row ∷ stmtsAt (statementAt t row .next)
     unfolding stmtsFrom
     stmts-row zero there high = absurd (there refl)
     stmts-row (suc i) there high =
         sym (stable (length (sheetAt t .statements)) (suc i) (inr (high, omega (arith, count-is)))) ∙ rw (statement-is i (omega arith))
 
     -- The call on the next statement.
-    pub next-stmt : (row m : ℕ) → (row ≡ 0 → ⊥) → row ≤ getD t 3 0 → stmtsLeft row ≡ m → (st : Statement) → st ≡ statementAt t row
-        → (stmtsLeft (st .next) < m) × (st .next ≤ getD t 3 0)
+    pub next-stmt : (row m : ℕ) → (row ≡ 0 → ⊥) → row ≤ statementCount t → stmtsLeft row ≡ m → (st : Statement) → st ≡ statementAt t row
+        → (stmtsLeft (st .next) < m) × (st .next ≤ statementCount t)
     next-stmt row m there high e st is =
         let on = ok .facts .statement row (omega arith) high .next in
-        rw is (subst (λ (n : ℕ). stmtsLeft (statementAt t row .next) < n) e (left-falls (getD t 3 0) row _ (omega arith) high on), onward-low (getD t 3 0) row _ on)
+        rw is (subst (λ (n : ℕ). stmtsLeft (statementAt t row .next) < n) e (left-falls (statementCount t) row _ (omega arith) high on), onward-low (statementCount t) row _ on)
 
   module _ (outer : List ℕ) where
     abbrev pub StmtsStep : ℕ → Scope → List ℕ → Scope → List ℕ → Type 0
@@ -145,7 +145,7 @@ module _ (t : List ℕ) where
     pub step-none : Accepted t → (row : ℕ) → row ≡ 0 → (k : Scope) (l : List ℕ) → StmtsStep row k l k l
     step-none ok row z k l parents o s a = rw (z, stmts-none ok) a
 
-    pub step-row : Accepted t → (row : ℕ) → (row ≡ 0 → ⊥) → row ≤ getD t 3 0 → (st : Statement) → st ≡ statementAt t row
+    pub step-row : Accepted t → (row : ℕ) → (row ≡ 0 → ⊥) → row ≤ statementCount t → (st : Statement) → st ≡ statementAt t row
         → (k s₀ s₁ : Scope) (l l₀ l₁ : List ℕ) → StmtStep t outer st k l s₀ l₀ → StmtsStep (st .next) s₀ l₀ s₁ l₁ → StmtsStep row k l s₁ l₁
     step-row ok row there high st is k s₀ s₁ l l₀ l₁ h₀ h₁ parents o s a =
         let here = subst (λ (v : Statement). StmtStep t outer v k l s₀ l₀) is h₀ in
@@ -160,15 +160,15 @@ module _ (t : List ℕ) where
     Gathered q key value r m = (parents : List spec.Scope) → Outer outer parents
         → Agrees r m (gatherLocalVars (sheetAt t) parents (stmtsOf (sheetAt t) q) (chainAt t key ++ chainAt t value))
 
-    pub first-is : (q : ℕ) → 1 ≤ q → q ≤ getD t 4 0 → getD (0 ∷ sheetAt t .queries) q 0 ≡ firstAt t q
+    pub first-is : (q : ℕ) → 1 ≤ q → q ≤ queryCount t → getD (0 ∷ sheetAt t .queries) q 0 ≡ firstAt t q
     unfolding sheetAt sheetOf
     first-is zero a b = absurd (omega arith)
-    first-is (suc q) a b = rows-at (firstAt t) (getD t 4 0) q 0 b
+    first-is (suc q) a b = rows-at (firstAt t) (queryCount t) q 0 b
 
-    pub first-low : Accepted t → (q : ℕ) → 1 ≤ q → q ≤ getD t 4 0 → firstAt t q ≤ getD t 3 0
+    pub first-low : Accepted t → (q : ℕ) → 1 ≤ q → q ≤ queryCount t → firstAt t q ≤ statementCount t
     first-low ok q a b = ok .facts .query q a b .in-first
 
-    pub gathered : (q : ℕ) → 1 ≤ q → q ≤ getD t 4 0 → (row : ℕ) → row ≡ firstAt t q → (key value : ℕ) (k s₀ s₁ s₂ r : Scope) (l l₀ l₁ l₂ : List ℕ)
+    pub gathered : (q : ℕ) → 1 ≤ q → q ≤ queryCount t → (row : ℕ) → row ≡ firstAt t q → (key value : ℕ) (k s₀ s₁ s₂ r : Scope) (l l₀ l₁ l₂ : List ℕ)
         → NoNames k → StmtsStep row k l s₀ l₀ → VarsEach t outer key false s₀ l₀ s₁ l₁ → VarsEach t outer value false s₁ l₁ s₂ l₂
         → WithoutLocals s₂ r → Gathered q key value r l₂
     unfolding gatherLocalVars stmtsOf

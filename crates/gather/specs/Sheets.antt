@@ -6,6 +6,7 @@ use Prim.Native.Nat.{ℕ, _≤_}
 use lib.Dec.{eqb}
 use lib.ListN.{length, getD}
 use borrow.Author.Tests.{eq-eqb, ne-eqb}
+use Rattle.basics.specs.Limits as limits
 use Rattle.records.specs.declared.Counts.{Counts}
 use Rattle.records.specs.Layout.{Within}
 use Rattle.spelling.specs.declared.Special.{Special}
@@ -15,14 +16,24 @@ use Rattle.trees.specs.Sheet.{Sheet, sheetOf, isInput, isSpecial}
 use Rattle.records.specs.Rows.{inTables}
 
 module _ (t : List ℕ) where
+  -- How many rows each section has.
+  abbrev pub nameCount : ℕ
+  nameCount = getD t 0 0
+
+  abbrev pub builtinCount : ℕ
+  builtinCount = getD t 1 0
+
+  abbrev pub exprCount : ℕ
+  exprCount = getD t 2 0
+
+  abbrev pub statementCount : ℕ
+  statementCount = getD t 3 0
+
+  abbrev pub queryCount : ℕ
+  queryCount = getD t 4 0
+
   abbrev pub countsAt : Counts
-  countsAt = record {
-    names = getD t 0 0;
-    builtins = getD t 1 0;
-    exprs = getD t 2 0;
-    statements = getD t 3 0;
-    queries = getD t 4 0;
-  }
+  countsAt = record { names = nameCount; builtins = builtinCount; exprs = exprCount; statements = statementCount; queries = queryCount }
 
   abbrev pub specialAt : Special
   specialAt = record { blank = getD t 5 0; input = getD t 6 0; «data» = getD t 7 0 }
@@ -32,7 +43,7 @@ module _ (t : List ℕ) where
 
   -- They hold a sheet that passed the questions 1 to 6.
   pub record Accepted : Type 0 where
-    pub room : 8192 ≤ length t
+    pub room : limits.tables ≤ length t
     pub within : Within countsAt
     pub facts : SheetFacts countsAt (inTables t)
     pub fine : firstLine countsAt (inTables t) ≡ 0

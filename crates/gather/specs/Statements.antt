@@ -4,7 +4,6 @@ use mathlib.Core.Bool.{Bool, true, false}
 use mathlib.Core.List.{List}
 use mathlib.Core.Logic.{_⊎_, inl, inr}
 use Prim.Native.Nat.{ℕ, _≤_}
-use lib.ListN.{getD}
 use borrow.Author.Tests.{eq-eqb, ne-eqb}
 use Rattle.basics.specs.Truth.{eq-cases}
 use Rattle.records.specs.declared.Statement.{Statement}
@@ -19,7 +18,7 @@ use Rattle.scopes.specs.Scopes as spec
 use Rattle.scopes.specs.Gather.{gatherAssignedVars, gatherInputVars, gatherLoopVars, gatherRead, gatherVars}
 use Rattle.scopes.specs.GatherLocals.{gatherExtraArg, gatherExpr, gatherLiteral, gatherStmt}
 use Rattle.gather.specs.declared.scope.Scope.{Scope}
-use Rattle.gather.specs.Sheets.{sheetAt, Accepted}
+use Rattle.gather.specs.Sheets.{sheetAt, Accepted, exprCount}
 use Rattle.gather.specs.Spans.{Agrees, Steps}
 use Rattle.gather.specs.Exprs.{exprBy, none-is, row-is}
 use Rattle.gather.specs.Vars.{ReadWalk, VarsWalk}
@@ -29,10 +28,10 @@ use Rattle.gather.specs.Extra.{someAt, ExtraAt}
 
 -- The rows that a statement names are rows.
 pub record Named (t : List ℕ) (st : Statement) : Type 0 where
-  pub first : st .first ≤ getD t 2 0
-  pub second : st .second ≤ getD t 2 0
-  pub third : st .third ≤ getD t 2 0
-  pub with : st .with ≤ getD t 2 0
+  pub first : st .first ≤ exprCount t
+  pub second : st .second ≤ exprCount t
+  pub third : st .third ≤ exprCount t
+  pub with : st .with ≤ exprCount t
 
 module _ (t outer : List ℕ) where
   abbrev pub ExprStep : ℕ → Scope → List ℕ → Scope → List ℕ → Type 0
@@ -64,7 +63,7 @@ module _ (t outer : List ℕ) where
     unfolding gatherExpr getExtraArg gatherRead gatherInputVars gatherLoopVars traverse
     expr-none z k l parents o s a = rw (z, none-is t ok true) a
 
-    module _ (there : row ≡ 0 → ⊥) (high : row ≤ getD t 2 0) (w : Row) (is : w ≡ rowAt t row) (found : Bool) (test : found ≡ isAssign w) where
+    module _ (there : row ≡ 0 → ⊥) (high : row ≤ exprCount t) (w : Row) (is : w ≡ rowAt t row) (found : Bool) (test : found ≡ isAssign w) where
       pub expr-assign : found ≡ true → (k r : Scope) (l m : List ℕ) → VarsWalk t outer row true false k l r m → ExprStep row k l r m
       unfolding gatherExpr
       expr-assign p k r l m h parents o s a = rw (row-is t ok row there high true, sym is, sym test, p) (h parents o s a)

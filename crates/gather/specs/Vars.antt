@@ -15,7 +15,7 @@ use Rattle.scopes.specs.Scopes as spec
 use Rattle.scopes.specs.Scopes.{varExists, addInput, useInput}
 use Rattle.scopes.specs.Gather.{inputVar, gatherInputVars, gatherAssignedVars, gatherRead, gatherVars}
 use Rattle.gather.specs.declared.scope.Scope.{Scope}
-use Rattle.gather.specs.Sheets.{sheetAt, Accepted}
+use Rattle.gather.specs.Sheets.{sheetAt, Accepted, exprCount}
 use Rattle.gather.specs.Spans.{SpanWord, Steps}
 use Rattle.gather.specs.Exprs.{exprBy, none-is, row-is, first-is, second-is}
 use Rattle.gather.specs.Inputs.{InputWalk}
@@ -75,7 +75,7 @@ module _ (t outer : List ℕ) where
     unfolding gatherAssignedVars leaves
     bound-none row z rest shadow k l parents o s a = rw (z, none-is t ok rest) a
 
-    module _ (row : ℕ) (some : row ≡ 0 → ⊥) (high : row ≤ getD t 2 0) (rest shadow : Bool) (w : Row) (is : w ≡ rowAt t row) where
+    module _ (row : ℕ) (some : row ≡ 0 → ⊥) (high : row ≤ exprCount t) (rest shadow : Bool) (w : Row) (is : w ≡ rowAt t row) where
       pub bound-assign : (found : Bool) → found ≡ isAssign w → found ≡ true → (k s₀ s₁ : Scope) (l l₀ l₁ : List ℕ)
           → AssignWalk t outer (w .first) true (isColEq w) k l s₀ l₀ → AssignWalk t outer (w .second) true false s₀ l₀ s₁ l₁
           → BoundWalk row rest shadow k l s₁ l₁

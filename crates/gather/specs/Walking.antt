@@ -5,7 +5,8 @@ use mathlib.Core.List.{List}
 use mathlib.Core.Logic.{_⊎_, inl, inr}
 use Prim.Native.Nat.{ℕ, zero, suc, _≤_, _<_}
 use native.Mathlib.Omega.{arith}
-use lib.ListN.{length, getD}
+use lib.ListN.{length}
+use Rattle.basics.specs.Limits as limits
 use Rattle.records.specs.declared.Row.{Row}
 use Rattle.trees.specs.Sheet.{rowAt}
 use Rattle.trees.specs.Kinds.{isPattern}
@@ -14,7 +15,7 @@ use Rattle.branches.specs.Descent.{Onward}
 use Rattle.branches.specs.Kids.{kidsOf}
 use Rattle.branches.specs.RowTrees.{row-descends}
 use Rattle.branches.specs.Onwards.{left, left-falls, onward-low, row-onwards, name-low}
-use Rattle.gather.specs.Sheets.{countsAt, Accepted}
+use Rattle.gather.specs.Sheets.{countsAt, Accepted, exprCount}
 
 left-most : (n v : ℕ) → left n v ≤ suc n
 unfolding left
@@ -24,14 +25,14 @@ left-most n (suc v) = omega arith
 module _ (t : List ℕ) where
   -- The measure of a walk at row r.
   abbrev pub remains : ℕ → ℕ
-  remains r = left (getD t 2 0) r
+  remains r = left (exprCount t) r
 
-  pub few-remain : Accepted t → (v : ℕ) → remains v ≤ 513
-  few-remain ok v = omega (arith, left-most (getD t 2 0) v, ok .within .few-exprs)
+  pub few-remain : Accepted t → (v : ℕ) → remains v ≤ suc limits.expressions
+  few-remain ok v = omega (arith, left-most (exprCount t) v, ok .within .few-exprs)
 
   -- A call on row v, from a row with measure m.
   abbrev pub Falls : ℕ → ℕ → Type 0
-  Falls m v = (remains v < m) × (v ≤ getD t 2 0)
+  Falls m v = (remains v < m) × (v ≤ exprCount t)
 
   -- The calls of a row's turn.
   pub record Calls (m : ℕ) (rest : Bool) (w : Row) (k : Kids) : Type 0 where
@@ -40,18 +41,18 @@ module _ (t : List ℕ) where
     pub third : Falls m (k .third)
     pub next : Falls m (cond rest (w .next) 0)
 
-  module _ (ok : Accepted t) (r : ℕ) (some : r ≡ 0 → ⊥) (high : r ≤ getD t 2 0) where
-    pub row-low : r ≤ 512
+  module _ (ok : Accepted t) (r : ℕ) (some : r ≡ 0 → ⊥) (high : r ≤ exprCount t) where
+    pub row-low : r ≤ limits.expressions
     row-low = omega (arith, ok .within .few-exprs)
 
-    pub low-name : rowAt t r .name < 512
+    pub low-name : rowAt t r .name < limits.perName
     low-name = name-low (countsAt t) t (ok .within) (ok .facts) r (omega arith) high
 
-    goes : (v m : ℕ) → remains r ≡ m → Onward (getD t 2 0) r v → Falls m v
+    goes : (v m : ℕ) → remains r ≡ m → Onward (exprCount t) r v → Falls m v
     goes v m e h =
-        (subst (λ (n : ℕ). remains v < n) e (left-falls (getD t 2 0) r v (omega arith) high h), onward-low (getD t 2 0) r v h)
+        (subst (λ (n : ℕ). remains v < n) e (left-falls (exprCount t) r v (omega arith) high h), onward-low (exprCount t) r v h)
 
-    goes-if : (b : Bool) (v m : ℕ) → remains r ≡ m → Onward (getD t 2 0) r v → Falls m (cond b v 0)
+    goes-if : (b : Bool) (v m : ℕ) → remains r ≡ m → Onward (exprCount t) r v → Falls m (cond b v 0)
     goes-if true v m e h = goes v m e h
     goes-if false v m e h = goes 0 m e (inl (omega arith))
 
@@ -84,11 +85,11 @@ module _ (t : List ℕ) where
     first-call m e w is = rw is (goes _ m e (row-descends (countsAt t) t (ok .facts) r (omega arith) high .to-first))
 
     -- What the first two fields name are rows.
-    pub first-low : (w : Row) → w ≡ rowAt t r → w .first ≤ getD t 2 0
-    first-low w is = rw is (onward-low (getD t 2 0) r _ (row-descends (countsAt t) t (ok .facts) r (omega arith) high .to-first))
+    pub first-low : (w : Row) → w ≡ rowAt t r → w .first ≤ exprCount t
+    first-low w is = rw is (onward-low (exprCount t) r _ (row-descends (countsAt t) t (ok .facts) r (omega arith) high .to-first))
 
-    pub second-low : (w : Row) → w ≡ rowAt t r → w .second ≤ getD t 2 0
-    second-low w is = rw is (onward-low (getD t 2 0) r _ (row-descends (countsAt t) t (ok .facts) r (omega arith) high .to-second))
+    pub second-low : (w : Row) → w ≡ rowAt t r → w .second ≤ exprCount t
+    second-low w is = rw is (onward-low (exprCount t) r _ (row-descends (countsAt t) t (ok .facts) r (omega arith) high .to-second))
 
 -- What a guarded call did, from the two ways that lead past it: it walked to r, or there is no row and r is s still.
 pub guarded : {S A B : Type 0} (W : ℕ → S → S → Type 0) → ((s : S) → W 0 s s) → (row : ℕ) (s r : S)

@@ -7,22 +7,16 @@ use crate::special::is_input;
 use crate::special::is_special;
 use branches::next_of;
 use records::Row;
+use records::kinds::ARRAY;
+use records::kinds::OBJECT;
+use records::kinds::VAR;
 use records::row_at;
 ghost use mathlib.Core.Path.{_≡_};
 ghost use mathlib.Core.Bool.{cond};
 ghost use mathlib.Core.List.{List};
-ghost use Prim.Native.Nat.{_≤_, _<_};
-ghost use lib.ListN.{length, getD};
 ghost use Rattle.trees.specs.Kinds.{isPattern};
-ghost use Rattle.gather.specs.Sheets.{Accepted};
+ghost use Rattle.gather.specs.Asks.{AsksPattern, AsksWalk};
 ghost use Rattle.gather.specs.Assigned.{AssignVar, AssignStep, AssignWalk};
-
-// The kinds that are told apart.
-const VAR: u16 = 6;
-
-const ARRAY: u16 = 7;
-
-const OBJECT: u16 = 9;
 
 // A variable.
 fn assign_var(
@@ -33,7 +27,7 @@ fn assign_var(
     scope: Scope,
     spans: &mut [u32],
 ) -> Scope
-    requires { ⌜ (8192 ≤ length (now tables)) × (512 ≤ length (now outer)) × (w .name < 512) × (512 ≤ length (now spans)) ⌝ }
+    requires { ⌜ AsksPattern (now tables) (now outer) w (now spans) ⌝ }
     ensures { λ r. ⌜ AssignVar (now (tables .entry)) (now (outer .entry)) w «can_shadow» scope (now (spans .entry)) r (now (spans .exit)) ⌝ }
 {
     if is_special(tables, w.name) {
@@ -59,7 +53,7 @@ fn assign_step(
     scope: Scope,
     spans: &mut [u32],
 ) -> Scope
-    requires { ⌜ (8192 ≤ length (now tables)) × (512 ≤ length (now outer)) × (w .name < 512) × (512 ≤ length (now spans)) ⌝ }
+    requires { ⌜ AsksPattern (now tables) (now outer) w (now spans) ⌝ }
     ensures { λ r. ⌜ AssignStep (now (tables .entry)) (now (outer .entry)) w «can_shadow» scope (now (spans .entry)) r (now (spans .exit)) ⌝ }
 {
     if w.kind == VAR {
@@ -92,7 +86,7 @@ pub fn gather_assigned_vars(
     scope: Scope,
     spans: &mut [u32],
 ) -> Scope
-    requires { ⌜ Accepted (now tables) × (512 ≤ length (now outer)) × (row ≤ getD (now tables) 2 0) × (512 ≤ length (now spans)) ⌝ }
+    requires { ⌜ AsksWalk (now tables) (now outer) row (now spans) ⌝ }
     ensures { λ r. ⌜ AssignWalk (now (tables .entry)) (now (outer .entry)) row rest «can_shadow» scope (now (spans .entry)) r (now (spans .exit)) ⌝ }
 {
     if row == 0 {

@@ -6,8 +6,9 @@ use records::builtin_at;
 ghost use mathlib.Core.Path.{_≡_};
 ghost use mathlib.Core.List.{List};
 ghost use mathlib.Core.Option.{some};
-ghost use Prim.Native.Nat.{_≤_};
+ghost use Prim.Native.Nat.{suc, _≤_};
 ghost use lib.ListN.{length, getD};
+ghost use Rattle.basics.specs.Limits as limits;
 ghost use Rattle.trees.specs.Paths.{pathOf};
 ghost use Rattle.gather.specs.Sheets.{Accepted};
 ghost use Rattle.gather.specs.Paths.{shortOf};
@@ -41,7 +42,7 @@ fn has_path(b: Builtin, path: Path) -> bool
 
 // Of the first built-in from a row on that has the path: one more than its arity. 0 if there is none.
 pub fn takes_from(tables: &[u16], row: usize, path: Path) -> usize
-    requires { ⌜ Accepted (now tables) × (1 ≤ row) × (row ≤ 65) ⌝ }
+    requires { ⌜ Accepted (now tables) × (1 ≤ row) × (row ≤ suc limits.builtIns) ⌝ }
     ensures { λ r. ⌜ r ≡ takesFrom (now (tables .entry)) row path ⌝ }
 {
     let count = tables[1] as usize;

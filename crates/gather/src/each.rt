@@ -7,14 +7,15 @@ use records::row_at;
 ghost use mathlib.Core.Path.{_≡_};
 ghost use mathlib.Core.List.{List};
 ghost use Prim.Native.Nat.{_≤_};
-ghost use lib.ListN.{length, getD};
+ghost use lib.ListN.{length};
+ghost use Rattle.basics.specs.Limits as limits;
 ghost use Rattle.trees.specs.Sheet.{rowAt};
-ghost use Rattle.gather.specs.Sheets.{Accepted};
+ghost use Rattle.gather.specs.Asks.{AsksWalk};
 ghost use Rattle.gather.specs.Chains.{ReadEach, VarsEach};
 
 // The rest of the chain.
 pub fn next_at(tables: &[u16], row: usize) -> usize
-    requires { ⌜ (8192 ≤ length (now tables)) × (row ≤ 512) ⌝ }
+    requires { ⌜ (limits.tables ≤ length (now tables)) × (row ≤ limits.expressions) ⌝ }
     ensures { λ r. ⌜ r ≡ rowAt (now (tables .entry)) row .next ⌝ }
 {
     row_at(tables, row).next as usize
@@ -27,7 +28,7 @@ pub fn gather_read_each(
     scope: Scope,
     spans: &mut [u32],
 ) -> Scope
-    requires { ⌜ Accepted (now tables) × (512 ≤ length (now outer)) × (row ≤ getD (now tables) 2 0) × (512 ≤ length (now spans)) ⌝ }
+    requires { ⌜ AsksWalk (now tables) (now outer) row (now spans) ⌝ }
     ensures { λ r. ⌜ ReadEach (now (tables .entry)) (now (outer .entry)) row scope (now (spans .entry)) r (now (spans .exit)) ⌝ }
 {
     if row == 0 {
@@ -46,7 +47,7 @@ pub fn gather_vars_each(
     scope: Scope,
     spans: &mut [u32],
 ) -> Scope
-    requires { ⌜ Accepted (now tables) × (512 ≤ length (now outer)) × (row ≤ getD (now tables) 2 0) × (512 ≤ length (now spans)) ⌝ }
+    requires { ⌜ AsksWalk (now tables) (now outer) row (now spans) ⌝ }
     ensures { λ r. ⌜ VarsEach (now (tables .entry)) (now (outer .entry)) row «can_shadow» scope (now (spans .entry)) r (now (spans .exit)) ⌝ }
 {
     if row == 0 {

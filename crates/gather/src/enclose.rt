@@ -2,11 +2,13 @@
 // Most names are in neither set of a scope, so all are copied at once, and then the members alone are visited.
 
 use crate::scope::Scope;
+use crate::spans::LINE;
 use names::CAPACITY;
 use names::Names;
 ghost use mathlib.Core.Path.{_≡_};
 ghost use Prim.Native.Nat.{_≤_, min};
 ghost use lib.ListN.{length};
+ghost use Rattle.basics.specs.Limits as limits;
 ghost use Rattle.gather.specs.Enclosing.{Copied, Lowered, Cleared, Encloses};
 
 fn lesser(a: u32, b: u32) -> u32
@@ -17,8 +19,8 @@ fn lesser(a: u32, b: u32) -> u32
 
 // `to` receives the number of each name.
 fn copy(from: &[u32], to: &mut [u32])
-    requires { ⌜ (512 ≤ length (now from)) × (512 ≤ length (now to)) ⌝ }
-    ensures { λ _. ⌜ Copied (now (from .entry)) 512 (now (to .exit)) ⌝ }
+    requires { ⌜ (limits.perName ≤ length (now from)) × (limits.perName ≤ length (now to)) ⌝ }
+    ensures { λ _. ⌜ Copied (now (from .entry)) limits.perName (now (to .exit)) ⌝ }
 {
     for name in 0..CAPACITY {
         to[name] = from[name];
@@ -27,19 +29,19 @@ fn copy(from: &[u32], to: &mut [u32])
 
 // A local exists from its line on, where it did not before.
 fn lower_locals(locals: Names, spans: &[u32], inner: &mut [u32])
-    requires { ⌜ (512 ≤ length (now spans)) × (512 ≤ length (now inner)) ⌝ }
+    requires { ⌜ (limits.perName ≤ length (now spans)) × (limits.perName ≤ length (now inner)) ⌝ }
     ensures { λ _. ⌜ Lowered (locals .words) (now (spans .entry)) (now (inner .entry)) (now (inner .exit)) ⌝ }
 {
     let mut name = locals.next(0);
     while name < CAPACITY {
-        inner[name] = lesser(spans[name] / 65536, inner[name]);
+        inner[name] = lesser(spans[name] / LINE, inner[name]);
         name = locals.next(name + 1);
     }
 }
 
 // An unscoped name exists at every line.
 fn clear_unscoped(unscoped: Names, inner: &mut [u32])
-    requires { ⌜ 512 ≤ length (now inner) ⌝ }
+    requires { ⌜ limits.perName ≤ length (now inner) ⌝ }
     ensures { λ _. ⌜ Cleared (unscoped .words) (now (inner .entry)) (now (inner .exit)) ⌝ }
 {
     let mut name = unscoped.next(0);
@@ -51,7 +53,7 @@ fn clear_unscoped(unscoped: Names, inner: &mut [u32])
 
 // `inner` receives what `outer` is, with the scope that has its locals at `spans`.
 pub fn enclose(outer: &[u32], scope: Scope, spans: &[u32], inner: &mut [u32])
-    requires { ⌜ (512 ≤ length (now outer)) × (512 ≤ length (now spans)) × (512 ≤ length (now inner)) ⌝ }
+    requires { ⌜ (limits.perName ≤ length (now outer)) × (limits.perName ≤ length (now spans)) × (limits.perName ≤ length (now inner)) ⌝ }
     ensures { λ _. ⌜ Encloses (now (outer .entry)) scope (now (spans .entry)) (now (inner .exit)) ⌝ }
 {
     copy(outer, inner);

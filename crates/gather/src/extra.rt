@@ -4,15 +4,15 @@ use crate::builtins::takes_from;
 use crate::each::next_at;
 use crate::paths::get_path_string;
 use records::Row;
+use records::kinds::CALL;
 use records::row_at;
 ghost use mathlib.Core.Path.{_≡_};
 ghost use mathlib.Core.List.{List};
-ghost use Prim.Native.Nat.{_≤_, _<_};
-ghost use lib.ListN.{length, getD};
-ghost use Rattle.gather.specs.Sheets.{Accepted};
+ghost use Prim.Native.Nat.{_*_, _≤_, _<_};
+ghost use lib.ListN.{length};
+ghost use Rattle.basics.specs.Limits as limits;
+ghost use Rattle.gather.specs.Sheets.{Accepted, exprCount};
 ghost use Rattle.gather.specs.Extra.{after, EndAt, CallExtra, ExtraAt};
-
-const CALL: u16 = 13;
 
 // How many expressions a chain has, and the row of the last, or 0.
 pub struct End {
@@ -23,7 +23,7 @@ pub struct End {
 impl End {
     // The same with a row in front.
     fn after(self, row: usize) -> End
-        requires { ⌜ self .count < 1024 ⌝ }
+        requires { ⌜ self .count < 2 * limits.expressions ⌝ }
         ensures { λ r. ⌜ r ≡ after self row ⌝ }
     {
         let count = self.count + 1;
@@ -38,7 +38,7 @@ impl End {
 }
 
 pub fn end_of(tables: &[u16], row: usize) -> End
-    requires { ⌜ Accepted (now tables) × (row ≤ getD (now tables) 2 0) ⌝ }
+    requires { ⌜ Accepted (now tables) × (row ≤ exprCount (now tables)) ⌝ }
     ensures { λ r. ⌜ EndAt (now (tables .entry)) row r ⌝ }
 {
     if row == 0 {
@@ -50,7 +50,7 @@ pub fn end_of(tables: &[u16], row: usize) -> End
 }
 
 fn call_extra(tables: &[u16], w: Row) -> usize
-    requires { ⌜ Accepted (now tables) × (w .first ≤ getD (now tables) 2 0) × (w .second ≤ getD (now tables) 2 0) ⌝ }
+    requires { ⌜ Accepted (now tables) × (w .first ≤ exprCount (now tables)) × (w .second ≤ exprCount (now tables)) ⌝ }
     ensures { λ r. ⌜ CallExtra (now (tables .entry)) w r ⌝ }
 {
     let path = get_path_string(tables, w.first as usize);
@@ -64,7 +64,7 @@ fn call_extra(tables: &[u16], w: Row) -> usize
 
 // The row of the extra argument of the expression at a row, or 0.
 pub fn get_extra_arg(tables: &[u16], row: usize) -> usize
-    requires { ⌜ Accepted (now tables) × (row ≤ getD (now tables) 2 0) ⌝ }
+    requires { ⌜ Accepted (now tables) × (row ≤ exprCount (now tables)) ⌝ }
     ensures { λ r. ⌜ ExtraAt (now (tables .entry)) row r ⌝ }
 {
     if row == 0 {

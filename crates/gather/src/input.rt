@@ -9,16 +9,11 @@ use names::WORDS;
 use names::add;
 use names::has;
 use records::Row;
+use records::kinds::VAR;
 use records::row_at;
-ghost use mathlib.Core.Path.{_≡_};
 ghost use mathlib.Core.List.{List};
-ghost use Prim.Native.Nat.{_≤_, _<_};
-ghost use lib.ListN.{length, getD};
-ghost use Rattle.gather.specs.Sheets.{Accepted};
+ghost use Rattle.gather.specs.Asks.{AsksInput, AsksInputs};
 ghost use Rattle.gather.specs.Inputs.{InputVarIn, InputStepIn, InputWalkIn};
-
-// The kind of a variable.
-const VAR: u16 = 6;
 
 // A variable: `input` sets the flag, and a name that is not unscoped so far and exists is an input. Hands back the flag.
 fn input_var(
@@ -29,7 +24,7 @@ fn input_var(
     inputs: &mut [u64; WORDS],
     uses: bool,
 ) -> bool
-    requires { ⌜ (8192 ≤ length (now tables)) × (512 ≤ length (now outer)) × (w .name < 512) × (length (now unscoped) ≡ 8) × (length (now inputs) ≡ 8) ⌝ }
+    requires { ⌜ AsksInput (now tables) (now outer) w (now unscoped) (now inputs) ⌝ }
     ensures { λ r. ⌜ InputVarIn (now (tables .entry)) (now (outer .entry)) w (now (unscoped .entry)) (now (inputs .entry)) uses (now (inputs .exit)) r ⌝ }
 {
     if is_input(tables, w.name) {
@@ -55,7 +50,7 @@ fn input_step(
     inputs: &mut [u64; WORDS],
     uses: bool,
 ) -> bool
-    requires { ⌜ (8192 ≤ length (now tables)) × (512 ≤ length (now outer)) × (w .name < 512) × (length (now unscoped) ≡ 8) × (length (now inputs) ≡ 8) ⌝ }
+    requires { ⌜ AsksInput (now tables) (now outer) w (now unscoped) (now inputs) ⌝ }
     ensures { λ r. ⌜ InputStepIn (now (tables .entry)) (now (outer .entry)) w (now (unscoped .entry)) (now (inputs .entry)) uses (now (inputs .exit)) r ⌝ }
 {
     if w.kind == VAR {
@@ -74,7 +69,7 @@ pub fn gather_input_vars(
     inputs: &mut [u64; WORDS],
     uses: bool,
 ) -> bool
-    requires { ⌜ Accepted (now tables) × (512 ≤ length (now outer)) × (row ≤ getD (now tables) 2 0) × (length (now unscoped) ≡ 8) × (length (now inputs) ≡ 8) ⌝ }
+    requires { ⌜ AsksInputs (now tables) (now outer) row (now unscoped) (now inputs) ⌝ }
     ensures { λ r. ⌜ InputWalkIn (now (tables .entry)) (now (outer .entry)) row rest (now (unscoped .entry)) (now (inputs .entry)) uses (now (inputs .exit)) r ⌝ }
 {
     if row == 0 {

@@ -7,14 +7,12 @@ use records::first_at;
 use records::statement_at;
 ghost use mathlib.Core.Path.{_≡_};
 ghost use mathlib.Core.List.{List};
-ghost use Prim.Native.Nat.{_≤_};
-ghost use lib.ListN.{length, getD};
-ghost use Rattle.gather.specs.Sheets.{Accepted};
+ghost use Rattle.gather.specs.Asks.{AsksLocals, AsksStmtWalk};
 ghost use Rattle.gather.specs.Queries.{StmtsStep, Gathered};
 
 // The statements from a row on.
 fn gather_stmts(tables: &[u16], outer: &[u32], row: usize, scope: Scope, spans: &mut [u32]) -> Scope
-    requires { ⌜ Accepted (now tables) × (512 ≤ length (now outer)) × (row ≤ getD (now tables) 3 0) × (512 ≤ length (now spans)) ⌝ }
+    requires { ⌜ AsksStmtWalk (now tables) (now outer) row (now spans) ⌝ }
     ensures { λ r. ⌜ StmtsStep (now (tables .entry)) (now (outer .entry)) row scope (now (spans .entry)) r (now (spans .exit)) ⌝ }
 {
     if row == 0 {
@@ -34,7 +32,7 @@ pub fn gather_local_vars(
     value: usize,
     spans: &mut [u32],
 ) -> Scope
-    requires { ⌜ Accepted (now tables) × (512 ≤ length (now outer)) × (1 ≤ query) × (query ≤ getD (now tables) 4 0) × (key ≤ getD (now tables) 2 0) × (value ≤ getD (now tables) 2 0) × (512 ≤ length (now spans)) ⌝ }
+    requires { ⌜ AsksLocals (now tables) (now outer) query key value (now spans) ⌝ }
     ensures { λ r. ⌜ Gathered (now (tables .entry)) (now (outer .entry)) query key value r (now (spans .exit)) ⌝ }
 {
     let none = Scope::empty();

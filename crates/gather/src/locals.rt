@@ -4,19 +4,18 @@ use crate::scope::Scope;
 use crate::spans::put_span;
 use branches::next_of;
 use records::Row;
+use records::kinds::VAR;
 use records::row_at;
 ghost use mathlib.Core.Path.{_≡_};
 ghost use mathlib.Core.List.{List};
 ghost use Prim.Native.Nat.{_≤_, _<_};
-ghost use lib.ListN.{length, getD};
-ghost use Rattle.gather.specs.Sheets.{Accepted};
+ghost use lib.ListN.{length};
+ghost use Rattle.basics.specs.Limits as limits;
+ghost use Rattle.gather.specs.Sheets.{Accepted, exprCount};
 ghost use Rattle.gather.specs.Locals.{LocalStep, LocalsEach};
 
-// The kind of a variable.
-const VAR: u16 = 6;
-
 fn local_step(w: Row, scope: Scope, spans: &mut [u32]) -> Scope
-    requires { ⌜ (w .name < 512) × (512 ≤ length (now spans)) ⌝ }
+    requires { ⌜ (w .name < limits.perName) × (limits.perName ≤ length (now spans)) ⌝ }
     ensures { λ r. ⌜ LocalStep w scope (now (spans .entry)) r (now (spans .exit)) ⌝ }
 {
     if w.kind == VAR {
@@ -28,7 +27,7 @@ fn local_step(w: Row, scope: Scope, spans: &mut [u32]) -> Scope
 
 // Those of the chain from a row on.
 pub fn add_locals(tables: &[u16], row: usize, scope: Scope, spans: &mut [u32]) -> Scope
-    requires { ⌜ Accepted (now tables) × (row ≤ getD (now tables) 2 0) × (512 ≤ length (now spans)) ⌝ }
+    requires { ⌜ Accepted (now tables) × (row ≤ exprCount (now tables)) × (limits.perName ≤ length (now spans)) ⌝ }
     ensures { λ r. ⌜ LocalsEach (now (tables .entry)) row scope (now (spans .entry)) r (now (spans .exit)) ⌝ }
 {
     if row == 0 {

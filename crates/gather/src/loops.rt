@@ -9,22 +9,19 @@ use branches::next_of;
 use names::Names;
 use names::WORDS;
 use records::Row;
+use records::kinds::REF_BRACK;
+use records::kinds::VAR;
 use records::row_at;
 ghost use mathlib.Core.Path.{_≡_};
 ghost use mathlib.Core.List.{List};
-ghost use Prim.Native.Nat.{_≤_, _<_};
-ghost use lib.ListN.{length, getD};
-ghost use Rattle.gather.specs.Sheets.{Accepted};
+ghost use lib.ListN.{length};
+ghost use Rattle.basics.specs.Limits as limits;
+ghost use Rattle.gather.specs.Asks.{AsksLoops};
 ghost use Rattle.gather.specs.Loops.{IndexWalkIn, LoopStepIn, LoopWalkIn};
-
-// The kinds that are told apart.
-const VAR: u16 = 6;
-
-const REF_BRACK: u16 = 16;
 
 // Puts the words of a set.
 fn put(set: Names, words: &mut [u64; WORDS])
-    ensures { λ _. ⌜ (now (words .exit) ≡ set .words) × (length (set .words) ≡ 8) ⌝ }
+    ensures { λ _. ⌜ (now (words .exit) ≡ set .words) × (length (set .words) ≡ limits.library .words) ⌝ }
 {
     let all = set.words;
     *words = all;
@@ -41,7 +38,7 @@ fn bind_index(
     uses: bool,
     spans: &mut [u32],
 ) -> bool
-    requires { ⌜ Accepted (now tables) × (512 ≤ length (now outer)) × (row ≤ getD (now tables) 2 0) × (length (now unscoped) ≡ 8) × (length (now inputs) ≡ 8) × (512 ≤ length (now spans)) ⌝ }
+    requires { ⌜ AsksLoops (now tables) (now outer) row (now unscoped) (now inputs) (now spans) ⌝ }
     ensures { λ r. ⌜ IndexWalkIn (now (tables .entry)) (now (outer .entry)) row (now (locals .entry)) (now (unscoped .entry)) (now (inputs .entry)) uses (now (spans .entry)) (now (unscoped .exit)) (now (inputs .exit)) r (now (spans .exit)) ⌝ }
 {
     let scope = Scope {
@@ -67,7 +64,7 @@ fn loop_step(
     uses: bool,
     spans: &mut [u32],
 ) -> bool
-    requires { ⌜ Accepted (now tables) × (512 ≤ length (now outer)) × (w .second ≤ getD (now tables) 2 0) × (length (now unscoped) ≡ 8) × (length (now inputs) ≡ 8) × (512 ≤ length (now spans)) ⌝ }
+    requires { ⌜ AsksLoops (now tables) (now outer) (w .second) (now unscoped) (now inputs) (now spans) ⌝ }
     ensures { λ r. ⌜ LoopStepIn (now (tables .entry)) (now (outer .entry)) w (now (locals .entry)) (now (unscoped .entry)) (now (inputs .entry)) uses (now (spans .entry)) (now (unscoped .exit)) (now (inputs .exit)) r (now (spans .exit)) ⌝ }
 {
     if w.kind == REF_BRACK {
@@ -92,7 +89,7 @@ pub fn gather_loop_vars(
     uses: bool,
     spans: &mut [u32],
 ) -> bool
-    requires { ⌜ Accepted (now tables) × (512 ≤ length (now outer)) × (row ≤ getD (now tables) 2 0) × (length (now unscoped) ≡ 8) × (length (now inputs) ≡ 8) × (512 ≤ length (now spans)) ⌝ }
+    requires { ⌜ AsksLoops (now tables) (now outer) row (now unscoped) (now inputs) (now spans) ⌝ }
     ensures { λ r. ⌜ LoopWalkIn (now (tables .entry)) (now (outer .entry)) row rest (now (locals .entry)) (now (unscoped .entry)) (now (inputs .entry)) uses (now (spans .entry)) (now (unscoped .exit)) (now (inputs .exit)) r (now (spans .exit)) ⌝ }
 {
     if row == 0 {

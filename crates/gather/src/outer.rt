@@ -5,12 +5,13 @@ ghost use mathlib.Core.Path.{_≡_};
 ghost use mathlib.Core.List.{List};
 ghost use Prim.Native.Nat.{_≤_, _<_};
 ghost use lib.ListN.{length};
+ghost use Rattle.basics.specs.Limits as limits;
 ghost use Rattle.scopes.specs.Scopes.{varExists};
 ghost use Rattle.gather.specs.Outers.{Exists};
 
 // `var_exists`.
 pub fn var_exists(outer: &[u32], w: Row) -> bool
-    requires { ⌜ (512 ≤ length (now outer)) × (w .name < 512) ⌝ }
+    requires { ⌜ (limits.perName ≤ length (now outer)) × (w .name < limits.perName) ⌝ }
     ensures { λ r. ⌜ Exists (now (outer .entry)) w r ⌝ }
 {
     let name = w.name as usize;

@@ -1,25 +1,20 @@
 // `get_path_string`: a simple reference as names. No built-in has a path of more than three, so a longer one is not kept.
 
 use records::Row;
+use records::kinds::REF_BRACK;
+use records::kinds::REF_DOT;
+use records::kinds::STRING;
+use records::kinds::VAR;
 use records::row_at;
 ghost use mathlib.Core.Path.{_≡_};
 ghost use mathlib.Core.List.{List, []};
 ghost use mathlib.Core.Option.{none, some};
 ghost use Prim.Native.Nat.{_≤_};
-ghost use lib.ListN.{length, getD};
+ghost use lib.ListN.{length};
 ghost use Rattle.trees.specs.Trees.{treeAt};
 ghost use Rattle.trees.specs.Paths.{getPathString};
-ghost use Rattle.gather.specs.Sheets.{sheetAt, Accepted};
+ghost use Rattle.gather.specs.Sheets.{sheetAt, Accepted, exprCount};
 ghost use Rattle.gather.specs.Paths.{shortOf, appended, samePath, IndexStep, PathStep};
-
-// The kinds that are told apart.
-const STRING: u16 = 1;
-
-const VAR: u16 = 6;
-
-const REF_DOT: u16 = 15;
-
-const REF_BRACK: u16 = 16;
 
 // `size` is 0 for no path at all, one more than the number of names up to 3, and 5 for more.
 pub struct Path {
@@ -109,7 +104,7 @@ impl Path {
 
 // The index at a row is a part of the path, if it is a String.
 fn index_step(tables: &[u16], row: usize, path: Path) -> Path
-    requires { ⌜ Accepted (now tables) × (row ≤ getD (now tables) 2 0) ⌝ }
+    requires { ⌜ Accepted (now tables) × (row ≤ exprCount (now tables)) ⌝ }
     ensures { λ r. ⌜ IndexStep (now (tables .entry)) row path r ⌝ }
 {
     if row == 0 {
@@ -124,7 +119,7 @@ fn index_step(tables: &[u16], row: usize, path: Path) -> Path
 
 // The row w, with the path of its first part.
 fn path_step(tables: &[u16], w: Row, path: Path) -> Path
-    requires { ⌜ Accepted (now tables) × (w .second ≤ getD (now tables) 2 0) ⌝ }
+    requires { ⌜ Accepted (now tables) × (w .second ≤ exprCount (now tables)) ⌝ }
     ensures { λ r. ⌜ PathStep (now (tables .entry)) w path r ⌝ }
 {
     if w.kind == VAR {
@@ -141,7 +136,7 @@ fn path_step(tables: &[u16], w: Row, path: Path) -> Path
 }
 
 pub fn get_path_string(tables: &[u16], row: usize) -> Path
-    requires { ⌜ Accepted (now tables) × (row ≤ getD (now tables) 2 0) ⌝ }
+    requires { ⌜ Accepted (now tables) × (row ≤ exprCount (now tables)) ⌝ }
     ensures { λ r. ⌜ r ≡ shortOf (getPathString (treeAt (sheetAt (now (tables .entry))) row)) ⌝ }
 {
     if row == 0 {

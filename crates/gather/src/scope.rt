@@ -3,6 +3,7 @@
 use names::Names;
 ghost use Prim.Native.Nat.{_<_};
 ghost use mathlib.Core.Path.{_≡_};
+ghost use Rattle.basics.specs.Limits as limits;
 ghost use Rattle.gather.specs.Agrees.{Sets, NoNames, WithLocal, WithUnscoped, WithInput, WithFlag, WithoutLocals, Opened, withInputsOf};
 
 pub struct Scope {
@@ -26,7 +27,7 @@ impl Scope {
     }
 
     pub fn add_local(self, name: usize) -> Scope
-        requires { ⌜ name < 512 ⌝ }
+        requires { ⌜ name < limits.perName ⌝ }
         ensures { λ r. ⌜ WithLocal self name r ⌝ }
     {
         let locals = self.locals.insert(name);
@@ -41,7 +42,7 @@ impl Scope {
     }
 
     pub fn add_unscoped(self, name: usize) -> Scope
-        requires { ⌜ name < 512 ⌝ }
+        requires { ⌜ name < limits.perName ⌝ }
         ensures { λ r. ⌜ WithUnscoped self name r ⌝ }
     {
         let locals = self.locals;
@@ -56,7 +57,7 @@ impl Scope {
     }
 
     pub fn add_input(self, name: usize) -> Scope
-        requires { ⌜ name < 512 ⌝ }
+        requires { ⌜ name < limits.perName ⌝ }
         ensures { λ r. ⌜ WithInput self name r ⌝ }
     {
         let locals = self.locals;

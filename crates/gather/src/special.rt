@@ -3,11 +3,12 @@
 ghost use mathlib.Core.Path.{_≡_};
 ghost use Prim.Native.Nat.{_≤_};
 ghost use lib.ListN.{length};
+ghost use Rattle.basics.specs.Limits as limits;
 ghost use Rattle.trees.specs.Sheet.{isInput, isSpecial};
 ghost use Rattle.gather.specs.Sheets.{sheetAt};
 
 pub fn is_input(tables: &[u16], name: u16) -> bool
-    requires { ⌜ 8192 ≤ length (now tables) ⌝ }
+    requires { ⌜ limits.tables ≤ length (now tables) ⌝ }
     ensures { λ r. ⌜ r ≡ isInput (sheetAt (now (tables .entry))) name ⌝ }
 {
     name == tables[6]
@@ -15,7 +16,7 @@ pub fn is_input(tables: &[u16], name: u16) -> bool
 
 // Is it `_`, `input` or `data`?
 pub fn is_special(tables: &[u16], name: u16) -> bool
-    requires { ⌜ 8192 ≤ length (now tables) ⌝ }
+    requires { ⌜ limits.tables ≤ length (now tables) ⌝ }
     ensures { λ r. ⌜ r ≡ isSpecial (sheetAt (now (tables .entry))) name ⌝ }
 {
     if name == tables[5] {

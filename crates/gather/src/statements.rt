@@ -9,26 +9,19 @@ use crate::vars::gather_read;
 use crate::vars::gather_vars;
 use crate::vars::is_assign;
 use records::Statement;
+use records::kinds::EXPR;
+use records::kinds::NOT_EXPR;
+use records::kinds::SOME_IN;
+use records::kinds::SOME_VARS;
 use records::row_at;
 ghost use mathlib.Core.Path.{_≡_};
 ghost use mathlib.Core.List.{List};
-ghost use Prim.Native.Nat.{_≤_};
-ghost use lib.ListN.{length, getD};
-ghost use Rattle.gather.specs.Sheets.{Accepted};
-ghost use Rattle.gather.specs.Statements.{ExprStep, LiteralStep, StmtStep, Named};
-
-// The forms that are told apart.
-const SOME_VARS: u16 = 1;
-
-const SOME_IN: u16 = 2;
-
-const EXPR: u16 = 3;
-
-const NOT_EXPR: u16 = 4;
+ghost use Rattle.gather.specs.Asks.{AsksStmt, AsksWalk};
+ghost use Rattle.gather.specs.Statements.{ExprStep, LiteralStep, StmtStep};
 
 // An expression by itself: an assignment binds, and so does an extra argument.
 fn gather_expr(tables: &[u16], outer: &[u32], row: usize, scope: Scope, spans: &mut [u32]) -> Scope
-    requires { ⌜ Accepted (now tables) × (512 ≤ length (now outer)) × (row ≤ getD (now tables) 2 0) × (512 ≤ length (now spans)) ⌝ }
+    requires { ⌜ AsksWalk (now tables) (now outer) row (now spans) ⌝ }
     ensures { λ r. ⌜ ExprStep (now (tables .entry)) (now (outer .entry)) row scope (now (spans .entry)) r (now (spans .exit)) ⌝ }
 {
     if row == 0 {
@@ -50,7 +43,7 @@ fn gather_literal(
     scope: Scope,
     spans: &mut [u32],
 ) -> Scope
-    requires { ⌜ Accepted (now tables) × (512 ≤ length (now outer)) × Named (now tables) st × (512 ≤ length (now spans)) ⌝ }
+    requires { ⌜ AsksStmt (now tables) (now outer) st (now spans) ⌝ }
     ensures { λ r. ⌜ LiteralStep (now (tables .entry)) (now (outer .entry)) st scope (now (spans .entry)) r (now (spans .exit)) ⌝ }
 {
     if st.form == SOME_VARS {
@@ -78,7 +71,7 @@ pub fn gather_stmt(
     scope: Scope,
     spans: &mut [u32],
 ) -> Scope
-    requires { ⌜ Accepted (now tables) × (512 ≤ length (now outer)) × Named (now tables) st × (512 ≤ length (now spans)) ⌝ }
+    requires { ⌜ AsksStmt (now tables) (now outer) st (now spans) ⌝ }
     ensures { λ r. ⌜ StmtStep (now (tables .entry)) (now (outer .entry)) st scope (now (spans .entry)) r (now (spans .exit)) ⌝ }
 {
     let s = gather_read_each(tables, outer, st.with as usize, scope, spans);

@@ -6,19 +6,14 @@ use crate::loops::gather_loop_vars;
 use crate::scope::Scope;
 use names::Names;
 use records::Row;
+use records::kinds::ASSIGN_COL_EQ;
+use records::kinds::ASSIGN_EQ;
 use records::row_at;
 ghost use mathlib.Core.Path.{_≡_};
 ghost use mathlib.Core.List.{List};
-ghost use Prim.Native.Nat.{_≤_};
-ghost use lib.ListN.{length, getD};
 ghost use Rattle.trees.specs.Kinds.{isAssign};
-ghost use Rattle.gather.specs.Sheets.{Accepted};
+ghost use Rattle.gather.specs.Asks.{AsksWalk};
 ghost use Rattle.gather.specs.Vars.{ReadWalk, BoundWalk, VarsWalk};
-
-// The two kinds of assignment: `=` and `:=`.
-const ASSIGN_EQ: u16 = 20;
-
-const ASSIGN_COL_EQ: u16 = 21;
 
 // The expression at a row is read, with the rest of its chain if `rest`. The walks have the parts of the scope, which is put together again.
 pub fn gather_read(
@@ -29,7 +24,7 @@ pub fn gather_read(
     scope: Scope,
     spans: &mut [u32],
 ) -> Scope
-    requires { ⌜ Accepted (now tables) × (512 ≤ length (now outer)) × (row ≤ getD (now tables) 2 0) × (512 ≤ length (now spans)) ⌝ }
+    requires { ⌜ AsksWalk (now tables) (now outer) row (now spans) ⌝ }
     ensures { λ r. ⌜ ReadWalk (now (tables .entry)) (now (outer .entry)) row rest scope (now (spans .entry)) r (now (spans .exit)) ⌝ }
 {
     let locals = scope.locals.words;
@@ -74,7 +69,7 @@ fn gather_bound(
     scope: Scope,
     spans: &mut [u32],
 ) -> Scope
-    requires { ⌜ Accepted (now tables) × (512 ≤ length (now outer)) × (row ≤ getD (now tables) 2 0) × (512 ≤ length (now spans)) ⌝ }
+    requires { ⌜ AsksWalk (now tables) (now outer) row (now spans) ⌝ }
     ensures { λ r. ⌜ BoundWalk (now (tables .entry)) (now (outer .entry)) row rest «can_shadow» scope (now (spans .entry)) r (now (spans .exit)) ⌝ }
 {
     if row == 0 {
@@ -99,7 +94,7 @@ pub fn gather_vars(
     scope: Scope,
     spans: &mut [u32],
 ) -> Scope
-    requires { ⌜ Accepted (now tables) × (512 ≤ length (now outer)) × (row ≤ getD (now tables) 2 0) × (512 ≤ length (now spans)) ⌝ }
+    requires { ⌜ AsksWalk (now tables) (now outer) row (now spans) ⌝ }
     ensures { λ r. ⌜ VarsWalk (now (tables .entry)) (now (outer .entry)) row rest «can_shadow» scope (now (spans .entry)) r (now (spans .exit)) ⌝ }
 {
     let s = gather_bound(tables, outer, row, rest, can_shadow, scope, spans);

@@ -8,6 +8,7 @@ use native.Mathlib.Omega.{arith}
 use lib.Dec.{eqb, leb}
 use lib.ListN.{length, getD, List·getD-eq-default}
 use borrow.Author.Tests.{eq-eqb, ne-eqb, le-leb, lt-leb, leb-true}
+use Rattle.basics.specs.Limits as limits
 use Rattle.basics.specs.Truth.{bool-cases, lt-cases}
 use Rattle.records.specs.declared.Counts.{Counts}
 use Rattle.naming.specs.Entries.{exprRow}
@@ -21,39 +22,39 @@ use Rattle.records.specs.Rows.{inTables}
 
 -- ---- every row lies in one of 32 queries, or in none
 
-lying-small : (l : List ℕ) (k : ℕ) (xs : List Naming) → ((p : ℕ) → getD l p 0 ≤ 32) → lying l k xs ≤ 32
+lying-small : (l : List ℕ) (k : ℕ) (xs : List Naming) → ((p : ℕ) → getD l p 0 ≤ limits.queries) → lying l k xs ≤ limits.queries
 lying-small l k [] h = omega arith
 lying-small l k (x ∷ []) h = go (upwards (x .by) k)
   where
-    go : (b : Bool) → cond b (getD l (x .place) 0) 0 ≤ 32
+    go : (b : Bool) → cond b (getD l (x .place) 0) 0 ≤ limits.queries
     go true = h (x .place)
     go false = omega arith
 lying-small l k (x ∷ y ∷ xs) h = omega arith
 
 module _ (ns : List Naming) where
-  step-small : (l : List ℕ) (k : ℕ) → ((p : ℕ) → getD l p 0 ≤ 32) → enclosingOf ns l k ≤ 32
-  step-small l k h = go (lt-cases 32 k)
+  step-small : (l : List ℕ) (k : ℕ) → ((p : ℕ) → getD l p 0 ≤ limits.queries) → enclosingOf ns l k ≤ limits.queries
+  step-small l k h = go (lt-cases limits.queries k)
     where
-      go : (32 < k) ⊎ (k ≤ 32) → enclosingOf ns l k ≤ 32
-      go (inl q) = rw (lt-leb k 32 q) (lying-small l k (namers k ns) h)
-      go (inr q) = rw (le-leb k 32 q) q
+      go : (limits.queries < k) ⊎ (k ≤ limits.queries) → enclosingOf ns l k ≤ limits.queries
+      go (inl q) = rw (lt-leb k limits.queries q) (lying-small l k (namers k ns) h)
+      go (inr q) = rw (le-leb k limits.queries q) q
 
-  pub grown-small : (n p : ℕ) → getD (grown (enclosingOf ns) n) p 0 ≤ 32
+  pub grown-small : (n p : ℕ) → getD (grown (enclosingOf ns) n) p 0 ≤ limits.queries
   unfolding grown
   grown-small zero zero = omega arith
   grown-small zero (suc p) = omega arith
   grown-small (suc n) p = go (grown-small n) (lt-cases p (suc n)) (lt-cases (suc n) p)
     where
-      go : ((j : ℕ) → getD (grown (enclosingOf ns) n) j 0 ≤ 32) → (p < suc n) ⊎ (suc n ≤ p) → (suc n < p) ⊎ (p ≤ suc n) → getD (grown (enclosingOf ns) (suc n)) p 0 ≤ 32
+      go : ((j : ℕ) → getD (grown (enclosingOf ns) n) j 0 ≤ limits.queries) → (p < suc n) ⊎ (suc n ≤ p) → (suc n < p) ⊎ (p ≤ suc n) → getD (grown (enclosingOf ns) (suc n)) p 0 ≤ limits.queries
       go ih (inl l) q =
-          subst (λ (v : ℕ). v ≤ 32) (grown-before (enclosingOf ns) (suc n) n p (omega arith) (omega arith)) (ih p)
+          subst (λ (v : ℕ). v ≤ limits.queries) (grown-before (enclosingOf ns) (suc n) n p (omega arith) (omega arith)) (ih p)
       go ih (inr l) (inl q) =
-          subst (λ (v : ℕ). v ≤ 32)
+          subst (λ (v : ℕ). v ≤ limits.queries)
           (sym (List·getD-eq-default (grown (enclosingOf ns) (suc n)) 0 {n = p} (omega (arith, grown-length (enclosingOf ns) (suc n))))) (omega arith)
       go ih (inr l) (inr q) =
           let e : suc n ≡ p = omega arith in
-          subst (λ (k : ℕ). getD (grown (enclosingOf ns) (suc n)) k 0 ≤ 32) e
-          (subst (λ (v : ℕ). v ≤ 32) (sym (grown-at (enclosingOf ns) (suc n) n (omega arith)))
+          subst (λ (k : ℕ). getD (grown (enclosingOf ns) (suc n)) k 0 ≤ limits.queries) e
+          (subst (λ (v : ℕ). v ≤ limits.queries) (sym (grown-at (enclosingOf ns) (suc n) n (omega arith)))
           (step-small (grown (enclosingOf ns) n) (suc n) ih))
 
 -- ---- the query above
@@ -81,20 +82,20 @@ code-above l k (x ∷ []) home e =
 code-above l k (x ∷ y ∷ xs) home e = many (inChain k (x ∷ y ∷ xs)) (home (codeOf k (x ∷ y ∷ xs) / 8))
 
 module _ (c : Counts) (t w : List ℕ) (s : Settled (namings c (inTables t)) (exprRow (c .exprs)) w) where
-  parent-is : (q : ℕ) → q ≤ 32 → parentBy (exprRow (c .exprs)) w q ≡ parent c (inTables t) q
+  parent-is : (q : ℕ) → q ≤ limits.queries → parentBy (exprRow (c .exprs)) w q ≡ parent c (inTables t) q
   unfolding parentBy parent enclosing
   parent-is q h =
-      rw (le-leb q 32 h, s .queries q h)
+      rw (le-leb q limits.queries h, s .queries q h)
       (code-above (grown (enclosingOf (namings c (inTables t))) (exprRow (c .exprs))) q (namers q (namings c (inTables t))) (λ p. homeOf (exprRow (c .exprs)) p w)
       (home-is (namings c (inTables t)) (exprRow (c .exprs)) w s (omega arith)))
 
-  parent-small : (q : ℕ) → parent c (inTables t) q ≤ 32
+  parent-small : (q : ℕ) → parent c (inTables t) q ≤ limits.queries
   unfolding parent enclosing
   parent-small q =
       lying-small (grown (enclosingOf (namings c (inTables t))) (exprRow (c .exprs))) q (namers q (namings c (inTables t)))
       (grown-small (namings c (inTables t)) (exprRow (c .exprs)))
 
-  level-in : (n q : ℕ) → q ≤ 32 → levelBy (exprRow (c .exprs)) w n q ≡ levelIn c (inTables t) n q
+  level-in : (n q : ℕ) → q ≤ limits.queries → levelBy (exprRow (c .exprs)) w n q ≡ levelIn c (inTables t) n q
   unfolding levelBy levelIn
   level-in zero q h = refl
   level-in (suc n) q h =
@@ -102,7 +103,7 @@ module _ (c : Counts) (t w : List ℕ) (s : Settled (namings c (inTables t)) (ex
       ∙ ap (λ (l : ℕ). cond (eqb q 1) 1 (deeper l)) (level-in n (parent c (inTables t) q) (parent-small q))
 
   -- The level by the marks is the level.
-  pub level-is : (q : ℕ) → q ≤ 32 → levelBy (exprRow (c .exprs)) w (c .queries) q ≡ level c (inTables t) q
+  pub level-is : (q : ℕ) → q ≤ limits.queries → levelBy (exprRow (c .exprs)) w (c .queries) q ≡ level c (inTables t) q
   unfolding level
   level-is q h = level-in (c .queries) q h
 

@@ -4,11 +4,12 @@ use marks::home;
 ghost use mathlib.Core.Path.{_≡_};
 ghost use Prim.Native.Nat.{_≤_};
 ghost use lib.ListN.{length};
+ghost use Rattle.basics.specs.Limits as limits;
 ghost use Rattle.levels.specs.Levels.{parentBy, levelBy};
 
 // The query that encloses query q, or 0.
 fn parent(work: &[u64], last: usize, q: usize) -> usize
-    requires { ⌜ (673 ≤ length (now work)) × (last ≤ 672) ⌝ }
+    requires { ⌜ (limits.perRow ≤ length (now work)) × (last ≤ limits.rows) ⌝ }
     ensures { λ r. ⌜ r ≡ parentBy last (now (work .entry)) q ⌝ }
 {
     if records::QUERIES < q {
@@ -23,7 +24,7 @@ fn parent(work: &[u64], last: usize, q: usize) -> usize
 
 // The level of query q, or 0 where no way leads up to row 1. No way has more than n queries.
 pub fn level(work: &[u64], last: usize, n: usize, q: usize) -> usize
-    requires { ⌜ (673 ≤ length (now work)) × (last ≤ 672) × (n ≤ 32) ⌝ }
+    requires { ⌜ (limits.perRow ≤ length (now work)) × (last ≤ limits.rows) × (n ≤ limits.queries) ⌝ }
     ensures { λ r. ⌜ r ≡ levelBy last (now (work .entry)) n q ⌝ }
 {
     let mut at = q;

@@ -35,7 +35,7 @@ use Rattle.gather.specs.Exprs.{exprBy}
 use Rattle.gather.specs.Assigned.{AssignWalk}
 use Rattle.used.specs.Own.{Holds}
 
--- No unscoped name is 512 or more.
+-- No unscoped name is past the largest.
 abbrev Low : spec.Scope → Type 0
 Low s = (x : ℕ) → contains (s .unscoped) x ≡ true → ltb x nameBound ≡ true
 

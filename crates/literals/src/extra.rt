@@ -4,17 +4,19 @@ use frame::Progress;
 use gather::assigned::gather_assigned_vars;
 use gather::extra::get_extra_arg;
 use gather::scope::Scope;
+use names::CAPACITY;
 use names::Names;
 ghost use Prim.Native.Nat.{_≤_};
-ghost use lib.ListN.{length, getD};
-ghost use Rattle.gather.specs.Sheets.{Accepted};
+ghost use lib.ListN.{length};
+ghost use Rattle.basics.specs.Limits as limits;
+ghost use Rattle.gather.specs.Sheets.{Accepted, exprCount};
 ghost use Rattle.literals.specs.ExtraArgs.{ExtraArg};
 ghost use Rattle.literals.specs.ExtraNames.{ExtraVars};
 ghost use Rattle.literals.specs.Binding.{Joined, Bound};
 
 // The row of the extra argument of the expression at a row, if it may have one; 0 where there is none.
 pub fn extra_arg(tables: &[u16], row: usize, call: bool) -> usize
-    requires { ⌜ Accepted (now tables) × (row ≤ getD (now tables) 2 0) ⌝ }
+    requires { ⌜ Accepted (now tables) × (row ≤ exprCount (now tables)) ⌝ }
     ensures { λ r. ⌜ ExtraArg (now (tables .entry)) row call r ⌝ }
 {
     if call {
@@ -25,13 +27,13 @@ pub fn extra_arg(tables: &[u16], row: usize, call: bool) -> usize
 
 // The names that the extra argument at a row binds, none where the row is 0. None of them is a local, so nothing comes to `spans`.
 pub fn extra_vars(tables: &[u16], outer: &[u32], arg: usize) -> Names
-    requires { ⌜ Accepted (now tables) × (512 ≤ length (now outer)) × (arg ≤ getD (now tables) 2 0) ⌝ }
+    requires { ⌜ Accepted (now tables) × (limits.perName ≤ length (now outer)) × (arg ≤ exprCount (now tables)) ⌝ }
     ensures { λ r. ⌜ ExtraVars (now (tables .entry)) (now (outer .entry)) arg r ⌝ }
 {
     if arg == 0 {
         return Names::empty();
     }
-    let mut spans: [u32; 512] = [0; 512];
+    let mut spans: [u32; CAPACITY] = [0; CAPACITY];
     let none = Scope::empty();
     let scope = gather_assigned_vars(tables, outer, arg, false, false, none, &mut spans);
     scope.unscoped

@@ -4,18 +4,16 @@ use frame::Fault;
 use frame::Progress;
 use gather::extra::end_of;
 use records::Row;
+use records::kinds::ARRAY;
 ghost use mathlib.Core.Path.{_≡_};
 ghost use mathlib.Core.Bool.{cond, _&&_};
 ghost use Prim.Native.Nat.{_≤_};
-ghost use lib.ListN.{getD};
 ghost use Rattle.trees.specs.Kinds.{isArray};
-ghost use Rattle.gather.specs.Sheets.{Accepted};
+ghost use Rattle.gather.specs.Sheets.{Accepted, exprCount};
 ghost use Rattle.frame.specs.Faults.{isSound};
 ghost use Rattle.frame.specs.Frames.{failed};
 ghost use Rattle.frame.specs.declared.Fault.the-variants.{Lengths};
 ghost use Rattle.literals.specs.Pairs.{chainsBy, pairBy};
-
-const ARRAY: u16 = 7;
 
 // Rows to assign to each other, chains of rows to pair, 0 where there are none; or arrays whose lengths differ.
 pub struct Pair {
@@ -34,7 +32,7 @@ fn both_arrays(a: Row, b: Row) -> bool
 
 // Two arrays, by the chains of their parts.
 fn arrays(tables: &[u16], lefts: usize, rights: usize) -> Pair
-    requires { ⌜ Accepted (now tables) × (lefts ≤ getD (now tables) 2 0) × (rights ≤ getD (now tables) 2 0) ⌝ }
+    requires { ⌜ Accepted (now tables) × (lefts ≤ exprCount (now tables)) × (rights ≤ exprCount (now tables)) ⌝ }
     ensures { λ r. ⌜ r ≡ chainsBy (now (tables .entry)) lefts rights ⌝ }
 {
     let a = end_of(tables, lefts);
@@ -59,7 +57,7 @@ fn arrays(tables: &[u16], lefts: usize, rights: usize) -> Pair
 
 // The rows a and b at `left` and `right`.
 pub fn pair_of(tables: &[u16], left: usize, right: usize, a: Row, b: Row) -> Pair
-    requires { ⌜ Accepted (now tables) × (a .first ≤ getD (now tables) 2 0) × (b .first ≤ getD (now tables) 2 0) ⌝ }
+    requires { ⌜ Accepted (now tables) × (a .first ≤ exprCount (now tables)) × (b .first ≤ exprCount (now tables)) ⌝ }
     ensures { λ r. ⌜ r ≡ pairBy (now (tables .entry)) left right a b ⌝ }
 {
     if both_arrays(a, b) {

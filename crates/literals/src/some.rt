@@ -4,26 +4,23 @@ use frame::Fault;
 use frame::Progress;
 use gather::special::is_input;
 use records::Row;
+use records::kinds::ARRAY;
+use records::kinds::OBJECT;
+use records::kinds::VAR;
 ghost use mathlib.Core.Path.{_≡_};
 ghost use mathlib.Core.Bool.{cond, _&&_};
 ghost use Prim.Native.Nat.{_≤_, _<_};
 ghost use lib.Dec.{ltb};
 ghost use lib.ListN.{length};
+ghost use Rattle.basics.specs.Limits as limits;
 ghost use Rattle.frame.specs.Faults.{isSound};
 ghost use Rattle.frame.specs.Frames.{failed};
 ghost use Rattle.frame.specs.declared.Fault.the-variants.{IndexVariable};
 ghost use Rattle.literals.specs.SomeIn.{IsName, NonVar};
 
-// The kinds of a variable, an array and an object.
-const VAR: u16 = 6;
-
-const ARRAY: u16 = 7;
-
-const OBJECT: u16 = 9;
-
 // Is the row w a local, or `input`?
 fn is_name(tables: &[u16], p: Progress, w: Row) -> bool
-    requires { ⌜ (8192 ≤ length (now tables)) × (w .name < 512) ⌝ }
+    requires { ⌜ (limits.tables ≤ length (now tables)) × (w .name < limits.perName) ⌝ }
     ensures { λ r. ⌜ IsName (now (tables .entry)) (p .scope) w r ⌝ }
 {
     if w.kind != VAR {
@@ -38,7 +35,7 @@ fn is_name(tables: &[u16], p: Progress, w: Row) -> bool
 
 // The row w, where it is a part of the pattern that is no variable; 0 where it is one, and where it is made of parts itself.
 pub fn non_var(tables: &[u16], p: Progress, row: usize, w: Row) -> usize
-    requires { ⌜ (8192 ≤ length (now tables)) × (w .name < 512) ⌝ }
+    requires { ⌜ (limits.tables ≤ length (now tables)) × (w .name < limits.perName) ⌝ }
     ensures { λ r. ⌜ NonVar (now (tables .entry)) (p .scope) row w r ⌝ }
 {
     if w.kind == ARRAY {

@@ -7,8 +7,7 @@ use names::Names;
 use records::row_at;
 use used::step::used_step;
 ghost use Prim.Native.Nat.{_≤_};
-ghost use lib.ListN.{getD};
-ghost use Rattle.gather.specs.Sheets.{Accepted};
+ghost use Rattle.gather.specs.Sheets.{Accepted, exprCount};
 ghost use Rattle.literals.specs.Used.{NamesWalk};
 
 // The expression at a row, with the rest of its chain if `rest`. Its names come to `names`.
@@ -21,7 +20,7 @@ pub fn used_names(
     rest: bool,
     names: Names,
 ) -> Names
-    requires { ⌜ Accepted (now tables) × (row ≤ getD (now tables) 2 0) ⌝ }
+    requires { ⌜ Accepted (now tables) × (row ≤ exprCount (now tables)) ⌝ }
     ensures { λ r. ⌜ NamesWalk (now (tables .entry)) scope extras row rest names r ⌝ }
 {
     if row == 0 {

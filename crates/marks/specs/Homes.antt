@@ -9,6 +9,7 @@ use lib.Dec.{eqb, leb, ltb}
 use lib.ListN.{length, getD, set, length-set, List·getD-eq-default}
 use lib.Seq.{getD-set-same, getD-set-other}
 use borrow.Author.Tests.{eqb-true, eqb-false, eq-eqb, ne-eqb, leb-true, leb-false, le-leb, lt-leb, ltb-true, ltb-false, le-ltb, lt-ltb}
+use Rattle.basics.specs.Limits as limits
 use Rattle.basics.specs.Truth.{bool-cases, lt-cases}
 use Rattle.naming.specs.Namings.{Naming, namers, upwards, inChain}
 use Rattle.naming.specs.Nesting.{grown, lying, enclosingOf}
@@ -18,7 +19,7 @@ use Rattle.marks.specs.Marks.{Marks}
 
 -- The query of row p, as the marks up to row n have it.
 unfoldable pub homeOf : ℕ → ℕ → List ℕ → ℕ
-homeOf n p w = cond (ltb n p) 0 (cond (leb p 32) p (getD w p 0 / 8))
+homeOf n p w = cond (ltb n p) 0 (cond (leb p limits.queries) p (getD w p 0 / 8))
 
 -- A mark with its row's query for its place.
 unfoldable pub settled : ℕ → ℕ → ℕ
@@ -30,13 +31,13 @@ settleNext n w = set w (n + 1) (settled (getD w (n + 1) 0) (homeOf n (getD w (n 
 
 -- Rows up to n have their query in their marks; queries and later rows their place.
 pub record Settled (ns : List Naming) (n : ℕ) (w : List ℕ) : Type 0 where
-  pub room : 673 ≤ length w
-  pub low : (j : ℕ) → j < 673 → getD w j 0 % 8 ≡ codeOf j (namers j ns) % 8
-  pub queries : (j : ℕ) → j ≤ 32 → getD w j 0 ≡ codeOf j (namers j ns)
-  pub later : (j : ℕ) → j < 673 → n < j → getD w j 0 ≡ codeOf j (namers j ns)
-  pub homes : (j : ℕ) → 32 < j → j ≤ n → getD w j 0 / 8 ≡ getD (grown (enclosingOf ns) n) j 0
+  pub room : limits.perRow ≤ length w
+  pub low : (j : ℕ) → j < limits.perRow → getD w j 0 % 8 ≡ codeOf j (namers j ns) % 8
+  pub queries : (j : ℕ) → j ≤ limits.queries → getD w j 0 ≡ codeOf j (namers j ns)
+  pub later : (j : ℕ) → j < limits.perRow → n < j → getD w j 0 ≡ codeOf j (namers j ns)
+  pub homes : (j : ℕ) → limits.queries < j → j ≤ n → getD w j 0 / 8 ≡ getD (grown (enclosingOf ns) n) j 0
 
-pub settled-start : (ns : List Naming) (w : List ℕ) → Marks ns w → Settled ns 32 w
+pub settled-start : (ns : List Naming) (w : List ℕ) → Marks ns w → Settled ns limits.queries w
 settled-start ns w m = record {
   room = m .room;
   low = λ j h. ap (λ (v : ℕ). v % 8) (m .code j h);
@@ -45,9 +46,9 @@ settled-start ns w m = record {
   homes = λ j h l. absurd (omega arith);
 }
 
--- Only the first 673 numbers are marks.
-pub settled-same : (ns : List Naming) (n : ℕ) (w u : List ℕ) → 673 ≤ length u → ((j : ℕ) → j < 673 → getD u j 0 ≡ getD w j 0)
-    → n < 673 → Settled ns n w → Settled ns n u
+-- Only the first numbers are marks.
+pub settled-same : (ns : List Naming) (n : ℕ) (w u : List ℕ) → limits.perRow ≤ length u → ((j : ℕ) → j < limits.perRow → getD u j 0 ≡ getD w j 0)
+    → n < limits.perRow → Settled ns n w → Settled ns n u
 settled-same ns n w u room same small s = record {
   room = room;
   low = λ j h. ap (λ (v : ℕ). v % 8) (same j h) ∙ s .low j h;
@@ -99,8 +100,8 @@ settled-home l k (x ∷ y ∷ xs) home e = many-home (inChain k (x ∷ y ∷ xs)
 
 -- ---- the query of an earlier row
 
-module _ (ns : List Naming) (n : ℕ) (w : List ℕ) (s : Settled ns n w) (big : 32 ≤ n) where
-  query-home : (p : ℕ) → p ≤ 32 → p ≡ getD (grown (enclosingOf ns) n) p 0
+module _ (ns : List Naming) (n : ℕ) (w : List ℕ) (s : Settled ns n w) (big : limits.queries ≤ n) where
+  query-home : (p : ℕ) → p ≤ limits.queries → p ≡ getD (grown (enclosingOf ns) n) p 0
   unfolding grown
   query-home zero h = grown-zero n
     where
@@ -108,29 +109,29 @@ module _ (ns : List Naming) (n : ℕ) (w : List ℕ) (s : Settled ns n w) (big :
       grown-zero n = grown-before (enclosingOf ns) n 0 0 (omega arith) (omega arith)
   query-home (suc p) h =
       sym (grown-at (enclosingOf ns) n p (omega arith)
-      ∙ ap (λ (b : Bool). cond b (suc p) (lying (grown (enclosingOf ns) p) (suc p) (namers (suc p) ns))) (le-leb (suc p) 32 h))
+      ∙ ap (λ (b : Bool). cond b (suc p) (lying (grown (enclosingOf ns) p) (suc p) (namers (suc p) ns))) (le-leb (suc p) limits.queries h))
 
   pub home-is : (p : ℕ) → homeOf n p w ≡ getD (grown (enclosingOf ns) n) p 0
   unfolding homeOf
-  home-is p = go (lt-cases n p) (lt-cases 32 p)
+  home-is p = go (lt-cases n p) (lt-cases limits.queries p)
     where
-      go : (n < p) ⊎ (p ≤ n) → (32 < p) ⊎ (p ≤ 32) → homeOf n p w ≡ getD (grown (enclosingOf ns) n) p 0
+      go : (n < p) ⊎ (p ≤ n) → (limits.queries < p) ⊎ (p ≤ limits.queries) → homeOf n p w ≡ getD (grown (enclosingOf ns) n) p 0
       go (inl l) q =
           rw (lt-ltb n p l) (sym (List·getD-eq-default (grown (enclosingOf ns) n) 0 {n = p} (omega (arith, grown-length (enclosingOf ns) n))))
-      go (inr l) (inl q) = rw (le-ltb n p l, lt-leb p 32 q) (s .homes p q l)
-      go (inr l) (inr q) = rw (le-ltb n p l, le-leb p 32 q) (query-home p q)
+      go (inr l) (inl q) = rw (le-ltb n p l, lt-leb p limits.queries q) (s .homes p q l)
+      go (inr l) (inr q) = rw (le-ltb n p l, le-leb p limits.queries q) (query-home p q)
 
-  next-home : (k : ℕ) → k ≡ suc n → k < 673
+  next-home : (k : ℕ) → k ≡ suc n → k < limits.perRow
       → settled (getD w k 0) (homeOf n (getD w k 0 / 8) w) / 8 ≡ getD (grown (enclosingOf ns) (suc n)) k 0
   next-home k e h =
       ap (λ (v : ℕ). settled v (homeOf n (v / 8) w) / 8) (s .later k h (omega arith))
       ∙ settled-home (grown (enclosingOf ns) n) k (namers k ns) (λ p. homeOf n p w) home-is
       ∙ sym (ap (λ (j : ℕ). getD (grown (enclosingOf ns) (suc n)) j 0) e ∙ grown-at (enclosingOf ns) (suc n) n (omega arith)
-      ∙ ap (λ (b : Bool). cond b (suc n) (lying (grown (enclosingOf ns) n) (suc n) (namers (suc n) ns))) (lt-leb (suc n) 32 (omega arith))
+      ∙ ap (λ (b : Bool). cond b (suc n) (lying (grown (enclosingOf ns) n) (suc n) (namers (suc n) ns))) (lt-leb (suc n) limits.queries (omega arith))
       ∙ ap (λ (j : ℕ). lying (grown (enclosingOf ns) n) j (namers j ns)) (sym e))
 
   -- One row more.
-  pub settled-next : n + 1 < 673 → Settled ns (n + 1) (settleNext n w)
+  pub settled-next : n + 1 < limits.perRow → Settled ns (n + 1) (settleNext n w)
   unfolding settleNext
   settled-next h =
       let r = s .room in

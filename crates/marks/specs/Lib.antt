@@ -3,3 +3,4 @@ pub mod Marks
 pub mod Rows
 pub mod Homes
 pub mod Steps
+pub mod Asks

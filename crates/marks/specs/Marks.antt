@@ -9,6 +9,7 @@ use lib.Dec.{eqb, leb, ltb}
 use lib.ListN.{length, getD, set, length-set}
 use lib.Seq.{getD-set-same, getD-set-other}
 use borrow.Author.Tests.{eqb-true, eqb-false, eq-eqb, ne-eqb, leb-true}
+use Rattle.basics.specs.Limits as limits
 use Rattle.basics.specs.Truth.{bool-cases, and-right}
 use Rattle.records.specs.declared.Counts.{Counts}
 use Rattle.records.specs.Layout.{Within}
@@ -19,10 +20,10 @@ use Rattle.naming.specs.Namings.{Naming, namers, upwards, entryNaming, rowNamin
 use Rattle.naming.specs.Laws.{namers-append}
 use Rattle.marks.specs.Codes.{codeOf, nextCode, code-snoc}
 
--- The marks of the rows, 0 to 672, by these namings.
+-- The marks of the rows, and of none, by these namings.
 pub record Marks (ns : List Naming) (w : List ℕ) : Type 0 where
-  pub room : 673 ≤ length w
-  pub code : (k : ℕ) → k < 673 → getD w k 0 ≡ codeOf k (namers k ns)
+  pub room : limits.perRow ≤ length w
+  pub code : (k : ℕ) → k < limits.perRow → getD w k 0 ≡ codeOf k (namers k ns)
 
 -- ---- what a field of row `by` names
 
@@ -39,21 +40,21 @@ module _ (c : Counts) (by : ℕ) where
 -- ---- the row that a field names is one of them
 
 module _ (c : Counts) (within : Within c) where
-  row-bound : (s v : ℕ) → v ≤ limitOf c s → rowIn s v ≤ 672
+  row-bound : (s v : ℕ) → v ≤ limitOf c s → rowIn s v ≤ limits.rows
   row-bound s v h = go (bool-cases (eqb s 2)) (bool-cases (eqb s 3)) (bool-cases (eqb s 4))
     where
       go : (eqb s 2 ≡ true) ⊎ (eqb s 2 ≡ false) → (eqb s 3 ≡ true) ⊎ (eqb s 3 ≡ false) → (eqb s 4 ≡ true) ⊎ (eqb s 4 ≡ false)
-          → rowIn s v ≤ 672
+          → rowIn s v ≤ limits.rows
       go (inl p) q r = let l : v ≤ c .exprs = subst (λ (k : ℕ). v ≤ limitOf c k) (eqb-true s 2 p) h in rw p (omega arith)
       go (inr p) (inl q) r = let l : v ≤ c .statements = subst (λ (k : ℕ). v ≤ limitOf c k) (eqb-true s 3 q) h in rw (p, q) (omega arith)
       go (inr p) (inr q) (inl r) = let l : v ≤ c .queries = subst (λ (k : ℕ). v ≤ limitOf c k) (eqb-true s 4 r) h in rw (p, q, r) (omega arith)
       go (inr p) (inr q) (inr r) = rw (p, q, r) (omega arith)
 
-  pub target-bound : (f : Field) (v : ℕ) → target c f v ≤ 672
+  pub target-bound : (f : Field) (v : ℕ) → target c f v ≤ limits.rows
   unfolding target
   target-bound f v = go (bool-cases (inRange c f v))
     where
-      go : (inRange c f v ≡ true) ⊎ (inRange c f v ≡ false) → target c f v ≤ 672
+      go : (inRange c f v ≡ true) ⊎ (inRange c f v ≡ false) → target c f v ≤ limits.rows
       go (inl p) = rw p (row-bound (f .section) v (leb-true v (limitOf c (f .section)) (and-right (ltb 0 v) _ p)))
       go (inr p) = rw p (omega arith)
 
@@ -69,7 +70,7 @@ namers-other k x e = rw (ne-eqb (x .to) k e)
 
 module _ (ns : List Naming) (w : List ℕ) (m : Marks ns w) where
   -- A naming x of a row marks that row anew.
-  marks-one : (x : Naming) (v : ℕ) → x .to ≤ 672 → v ≡ nextCode (getD w (x .to) 0) (upwards (x .by) (x .to)) (x .chain) (x .place)
+  marks-one : (x : Naming) (v : ℕ) → x .to ≤ limits.rows → v ≡ nextCode (getD w (x .to) 0) (upwards (x .by) (x .to)) (x .chain) (x .place)
       → Marks (ns ++ (x ∷ [])) (set w (x .to) v)
   marks-one x v inside e =
       let r = m .room in
@@ -86,7 +87,7 @@ module _ (ns : List Naming) (w : List ℕ) (m : Marks ns w) where
             (bool-cases (eqb (x .to) k));
       }
     where
-      same : (x : Naming) (v : ℕ) → x .to ≤ 672 → v ≡ nextCode (getD w (x .to) 0) (upwards (x .by) (x .to)) (x .chain) (x .place)
+      same : (x : Naming) (v : ℕ) → x .to ≤ limits.rows → v ≡ nextCode (getD w (x .to) 0) (upwards (x .by) (x .to)) (x .chain) (x .place)
           → getD (set w (x .to) v) (x .to) 0 ≡ codeOf (x .to) (namers (x .to) (ns ++ (x ∷ [])))
       same x v inside e =
           let r = m .room in

@@ -2,6 +2,7 @@
 use mathlib.Core.Path.{_≡_, refl, sym, ap, _∙_, subst}
 use mathlib.Core.Bool.{Bool, true, false, cond}
 use mathlib.Core.Logic.{_⊎_, inl, inr, ⊎-elim}
+use Rattle.basics.specs.Limits as limits
 use Rattle.basics.specs.Truth.{bool-cases, eq-cases}
 use mathlib.Core.List.{List, [], _∷_, _++_}
 use Prim.Native.Nat.{ℕ, suc, _+_, _/_, _%_, _≤_, _<_}
@@ -74,7 +75,7 @@ module _ (c : Counts) (t : List ℕ) (within : Within c) where
       (marks-row c within (statementRow (suc s)) (statementEntries c (inTables t) (suc s)) (byStatements c (inTables t) s) w m)
 
   -- The rows before have told whether the row is a member of a chain.
-  pub next-expr : (r : ℕ) (w : List ℕ) → r < 512 → Marks (byExprs c (inTables t) r) w
+  pub next-expr : (r : ℕ) (w : List ℕ) → r < limits.expressions → Marks (byExprs c (inTables t) r) w
       → Marks (byExprs c (inTables t) (r + 1))
       (rowWork c (exprRow (r + 1)) (partsOf c (eqb (getD w (160 + (r + 1)) 0 / 4 % 2) 1) (exprAt t (r + 1)) (r + 1)) w)
   unfolding byExprs
@@ -84,11 +85,11 @@ module _ (c : Counts) (t : List ℕ) (within : Within c) where
       (marks-row c within (exprRow (suc r)) (exprEntries c (inTables t) (inChain (exprRow (suc r)) (namers (exprRow (suc r)) (byExprs c (inTables t) r))) (suc r)) (byExprs c (inTables t) r) w m))
 
 -- Where a part lies is one of the rows.
-pub place-bound : (c : Counts) → Within c → (f : Field) (x : Row) (r : ℕ) → r ≤ 512 → placeOf c f (x .third) r ≤ 672
+pub place-bound : (c : Counts) → Within c → (f : Field) (x : Row) (r : ℕ) → r ≤ limits.expressions → placeOf c f (x .third) r ≤ limits.rows
 unfolding placeOf
 place-bound c within f x r h = go (bool-cases (f .term))
   where
-    go : (f .term ≡ true) ⊎ (f .term ≡ false) → placeOf c f (x .third) r ≤ 672
+    go : (f .term ≡ true) ⊎ (f .term ≡ false) → placeOf c f (x .third) r ≤ limits.rows
     go (inl p) = rw p (target-bound c within aQuery (x .third))
     go (inr p) = rw p (omega arith)
 

@@ -6,6 +6,7 @@ use records::Counts;
 ghost use mathlib.Core.Path.{_≡_};
 ghost use Prim.Native.Nat.{_≤_, _<_};
 ghost use lib.ListN.{length};
+ghost use Rattle.basics.specs.Limits as limits;
 ghost use Rattle.records.specs.Layout.{Within};
 ghost use Rattle.naming.specs.Entries.{exprRow};
 ghost use Rattle.naming.specs.Namings.{namings};
@@ -15,7 +16,7 @@ ghost use Rattle.records.specs.Rows.{inTables};
 
 // The query of row `place`, as the marks up to row `last` have it.
 pub fn home(work: &[u64], last: usize, place: u64) -> u64
-    requires { ⌜ (673 ≤ length (now work)) × (last ≤ 672) ⌝ }
+    requires { ⌜ (limits.perRow ≤ length (now work)) × (last ≤ limits.rows) ⌝ }
     ensures { λ r. ⌜ (r ≡ homeOf last place (now (work .entry))) × (r < 2305843009213693952) ⌝ }
 {
     let p = place as usize;
@@ -41,7 +42,7 @@ fn settle_mark(mark: u64, home: u64) -> u64
 
 // The row after `last`.
 fn settle_next(work: &mut [u64], last: usize)
-    requires { ⌜ (673 ≤ length (now work)) × (last < 672) ⌝ }
+    requires { ⌜ (limits.perRow ≤ length (now work)) × (last < limits.rows) ⌝ }
     ensures { λ _. ⌜ now (work .exit) ≡ settleNext last (now (work .entry)) ⌝ }
 {
     let mark = work[last + 1];

@@ -14,6 +14,7 @@ use records::Counts;
 pub use rows::next_holds;
 ghost use Prim.Native.Nat.{_≤_};
 ghost use lib.ListN.{length};
+ghost use Rattle.basics.specs.Limits as limits;
 ghost use Rattle.records.specs.Layout.{Within};
 ghost use Rattle.naming.specs.Entries.{exprRow};
 ghost use Rattle.naming.specs.Namings.{namings};
@@ -21,15 +22,15 @@ ghost use Rattle.marks.specs.Homes.{Settled};
 ghost use Rattle.records.specs.Rows.{inTables};
 
 // One numbering for the rows that are named: the queries, then the statements, then the expressions.
-pub const STATEMENT_ROW: usize = 32;
+pub const STATEMENT_ROW: usize = tables::QUERIES;
 
-pub const EXPR_ROW: usize = 160;
+pub const EXPR_ROW: usize = STATEMENT_ROW + tables::STATEMENTS;
 
-pub const ROWS: usize = 673;
+pub const ROWS: usize = EXPR_ROW + tables::EXPRESSIONS + 1;
 
 // The marks of all rows.
 pub fn mark_all(work: &mut [u64], tables: &[u16], counts: Counts)
-    requires { ⌜ (673 ≤ length (now work)) × (8192 ≤ length (now tables)) × Within counts ⌝ }
+    requires { ⌜ (limits.perRow ≤ length (now work)) × (limits.tables ≤ length (now tables)) × Within counts ⌝ }
     ensures { λ _. ⌜ Settled (namings counts (inTables (now (tables .entry)))) (exprRow (counts .exprs)) (now (work .exit)) ⌝ }
 {
     clear(work);

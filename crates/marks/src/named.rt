@@ -8,6 +8,7 @@ use records::Counts;
 ghost use mathlib.Core.Path.{_≡_};
 ghost use Prim.Native.Nat.{_≤_, _<_};
 ghost use lib.ListN.{length};
+ghost use Rattle.basics.specs.Limits as limits;
 ghost use Rattle.records.specs.Layout.{Within};
 ghost use Rattle.naming.specs.Entries.{rowIn, target};
 ghost use Rattle.naming.specs.Namings.{upwards};
@@ -62,7 +63,7 @@ fn is_upwards(by: usize, to: usize) -> bool
 
 // The mark after one naming more.
 fn next_mark(v: u64, up: bool, chain: bool, place: usize) -> u64
-    requires { ⌜ place ≤ 672 ⌝ }
+    requires { ⌜ place ≤ limits.rows ⌝ }
     ensures { λ r. ⌜ r ≡ nextCode v up chain place ⌝ }
 {
     if v == 0 {
@@ -94,7 +95,7 @@ pub(crate) fn name(
     value: u16,
     place: usize,
 )
-    requires { ⌜ (673 ≤ length (now work)) × (place ≤ 672) × Within counts ⌝ }
+    requires { ⌜ (limits.perRow ≤ length (now work)) × (place ≤ limits.rows) × Within counts ⌝ }
     ensures { λ _. ⌜ now (work .exit) ≡ nameWork counts by (record { field = field; value = value; place = place }) (now (work .entry)) ⌝ }
 {
     let to = named_by(counts, field, value);

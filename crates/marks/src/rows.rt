@@ -25,11 +25,13 @@ ghost use mathlib.Core.Path.{_≡_};
 ghost use mathlib.Core.List.{[]};
 ghost use Prim.Native.Nat.{_≤_};
 ghost use lib.ListN.{length};
+ghost use Rattle.basics.specs.Limits as limits;
 ghost use Rattle.records.specs.Layout.{Within};
 ghost use Rattle.naming.specs.Entries.{queryRow, statementRow, exprRow, placeOf, queryEntries};
 ghost use Rattle.fields.specs.Packed.{fieldFrom, chainOrNone};
 ghost use mathlib.Core.Bool.{cond};
 ghost use Rattle.naming.specs.Namings.{byQueries, byStatements, namings};
+ghost use Rattle.marks.specs.Asks.{AsksQueryRow};
 ghost use Rattle.marks.specs.Marks.{Marks, nameWork, rowWork};
 ghost use Rattle.marks.specs.Rows.{partOf, partsOf, fieldsOf};
 ghost use Rattle.records.specs.Rows.{inTables};
@@ -38,7 +40,7 @@ ghost use Rattle.records.specs.Rows.{inTables};
 
 // What a field of row `by` names that holds what a byte of the tables says.
 fn name_from(work: &mut [u64], counts: Counts, by: usize, holds: u32, value: u16, place: usize)
-    requires { ⌜ (673 ≤ length (now work)) × (place ≤ 672) × Within counts ⌝ }
+    requires { ⌜ (limits.perRow ≤ length (now work)) × (place ≤ limits.rows) × Within counts ⌝ }
     ensures { λ _. ⌜ now (work .exit) ≡ nameWork counts by (record { field = fieldFrom holds; value = value; place = place }) (now (work .entry)) ⌝ }
 {
     if value == 0 {
@@ -49,7 +51,7 @@ fn name_from(work: &mut [u64], counts: Counts, by: usize, holds: u32, value: u16
 }
 
 fn name_query(work: &mut [u64], tables: &[u16], counts: Counts, row: usize)
-    requires { ⌜ (673 ≤ length (now work)) × (8192 ≤ length (now tables)) × (row ≤ 32) × Within counts ⌝ }
+    requires { ⌜ AsksQueryRow counts (now work) (now tables) row ⌝ }
     ensures { λ _. ⌜ now (work .exit) ≡ rowWork counts (queryRow row) (queryEntries counts (inTables (now (tables .entry))) row) (now (work .entry)) ⌝ }
 {
     let first = first_at(tables, row);
@@ -57,7 +59,7 @@ fn name_query(work: &mut [u64], tables: &[u16], counts: Counts, row: usize)
 }
 
 fn name_statement(work: &mut [u64], counts: Counts, row: usize, x: Statement)
-    requires { ⌜ (673 ≤ length (now work)) × (row ≤ 128) × Within counts ⌝ }
+    requires { ⌜ (limits.perRow ≤ length (now work)) × (row ≤ limits.statements) × Within counts ⌝ }
     ensures { λ _. ⌜ now (work .exit) ≡ rowWork counts (statementRow row) (fieldsOf x row) (now (work .entry)) ⌝ }
 {
     let k = STATEMENT_ROW + row;
@@ -72,7 +74,7 @@ fn name_statement(work: &mut [u64], counts: Counts, row: usize, x: Statement)
 
 // Where a part of expression `row` lies: a comprehension's term in its query.
 fn place_of(counts: Counts, field: Field, x: Row, row: usize) -> usize
-    requires { ⌜ row ≤ 512 ⌝ }
+    requires { ⌜ row ≤ limits.expressions ⌝ }
     ensures { λ r. ⌜ r ≡ placeOf counts field (x .third) row ⌝ }
 {
     if field.term {
@@ -82,7 +84,7 @@ fn place_of(counts: Counts, field: Field, x: Row, row: usize) -> usize
 }
 
 fn name_part(work: &mut [u64], counts: Counts, row: usize, x: Row, holds: u32, value: u16)
-    requires { ⌜ (673 ≤ length (now work)) × (row ≤ 512) × Within counts ⌝ }
+    requires { ⌜ (limits.perRow ≤ length (now work)) × (row ≤ limits.expressions) × Within counts ⌝ }
     ensures { λ _. ⌜ now (work .exit) ≡ nameWork counts (exprRow row) (partOf counts x row (fieldFrom holds) value) (now (work .entry)) ⌝ }
 {
     if value == 0 {
@@ -105,7 +107,7 @@ pub fn next_holds(member: bool) -> u32
 
 // A row's `name` is no row that it names.
 fn name_expr(work: &mut [u64], counts: Counts, row: usize, member: bool, x: Row)
-    requires { ⌜ (673 ≤ length (now work)) × (row ≤ 512) × Within counts ⌝ }
+    requires { ⌜ (limits.perRow ≤ length (now work)) × (row ≤ limits.expressions) × Within counts ⌝ }
     ensures { λ _. ⌜ now (work .exit) ≡ rowWork counts (exprRow row) (partsOf counts member x row) (now (work .entry)) ⌝ }
 {
     let fs = of_kind(x.kind);
@@ -120,7 +122,7 @@ fn name_expr(work: &mut [u64], counts: Counts, row: usize, member: bool, x: Row)
 
 // No row is named yet.
 pub(crate) fn clear(work: &mut [u64])
-    requires { ⌜ 673 ≤ length (now work) ⌝ }
+    requires { ⌜ limits.perRow ≤ length (now work) ⌝ }
     ensures { λ _. ⌜ Marks [] (now (work .exit)) ⌝ }
 {
     for k in 0..ROWS {
@@ -129,7 +131,7 @@ pub(crate) fn clear(work: &mut [u64])
 }
 
 pub(crate) fn name_queries(work: &mut [u64], tables: &[u16], counts: Counts)
-    requires { ⌜ Marks [] (now work) × (8192 ≤ length (now tables)) × Within counts ⌝ }
+    requires { ⌜ Marks [] (now work) × (limits.tables ≤ length (now tables)) × Within counts ⌝ }
     ensures { λ _. ⌜ Marks (byQueries counts (inTables (now (tables .entry))) (counts .queries)) (now (work .exit)) ⌝ }
 {
     let mut row = 0;
@@ -140,7 +142,7 @@ pub(crate) fn name_queries(work: &mut [u64], tables: &[u16], counts: Counts)
 }
 
 pub(crate) fn name_statements(work: &mut [u64], tables: &[u16], counts: Counts)
-    requires { ⌜ Marks (byQueries counts (inTables (now tables)) (counts .queries)) (now work) × (8192 ≤ length (now tables)) × Within counts ⌝ }
+    requires { ⌜ Marks (byQueries counts (inTables (now tables)) (counts .queries)) (now work) × (limits.tables ≤ length (now tables)) × Within counts ⌝ }
     ensures { λ _. ⌜ Marks (byStatements counts (inTables (now (tables .entry))) (counts .statements)) (now (work .exit)) ⌝ }
 {
     let mut row = 0;
@@ -152,7 +154,7 @@ pub(crate) fn name_statements(work: &mut [u64], tables: &[u16], counts: Counts)
 }
 
 pub(crate) fn name_exprs(work: &mut [u64], tables: &[u16], counts: Counts)
-    requires { ⌜ Marks (byStatements counts (inTables (now tables)) (counts .statements)) (now work) × (8192 ≤ length (now tables)) × Within counts ⌝ }
+    requires { ⌜ Marks (byStatements counts (inTables (now tables)) (counts .statements)) (now work) × (limits.tables ≤ length (now tables)) × Within counts ⌝ }
     ensures { λ _. ⌜ Marks (namings counts (inTables (now (tables .entry)))) (now (work .exit)) ⌝ }
 {
     let mut row = 0;

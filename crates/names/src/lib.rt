@@ -9,6 +9,7 @@ ghost use mathlib.Core.Path.{_≡_};
 ghost use mathlib.Core.Bool.{cond};
 ghost use Prim.Native.Nat.{_-_, _<_};
 ghost use lib.ListN.{length, getD};
+ghost use Rattle.basics.specs.Limits as limits;
 ghost use Rattle.basics.specs.Lists.{all};
 ghost use Rattle.names.specs.Sets.{member, members, isEmpty, Empty, Only, Inserted, Removed, Union, Difference, Intersection, Next};
 ghost use Rattle.names.specs.Lowest.{LowestBit};
@@ -155,7 +156,7 @@ pub(crate) fn pick(first: bool, a: u64, b: u64) -> u64
 
 // Is the name in the set with these words? What is lent stays in memory, where a set by value is copied at each call.
 pub fn has(words: &[u64; WORDS], name: usize) -> bool
-    requires { ⌜ (length (now words) ≡ 8) × (name < 512) ⌝ }
+    requires { ⌜ (length (now words) ≡ limits.library .words) × (name < limits.perName) ⌝ }
     ensures { λ r. ⌜ r ≡ member (now (words .entry)) name ⌝ }
 {
     (words[name / 64] >> (name % 64)) & 1 == 1
@@ -163,7 +164,7 @@ pub fn has(words: &[u64; WORDS], name: usize) -> bool
 
 // Puts a name into the set with these words.
 pub fn add(words: &mut [u64; WORDS], name: usize)
-    requires { ⌜ (length (now words) ≡ 8) × (name < 512) ⌝ }
+    requires { ⌜ (length (now words) ≡ limits.library .words) × (name < limits.perName) ⌝ }
     ensures { λ _. ⌜ (length (now (words .exit)) ≡ 8) × Inserted (now (words .entry)) name (now (words .exit)) ⌝ }
 {
     let at = name / 64;

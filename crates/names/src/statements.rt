@@ -4,6 +4,7 @@ use crate::above;
 use crate::lowest;
 use crate::pick;
 ghost use Prim.Native.Nat.{_<_};
+ghost use Rattle.basics.specs.Limits as limits;
 ghost use Rattle.names.specs.Sets.{Empty, Only, Inserted, Union, Difference, Next};
 
 // How many statements there are.
@@ -21,7 +22,7 @@ impl Statements {
     }
 
     pub fn insert(self, statement: usize) -> Statements
-        requires { ⌜ statement < 128 ⌝ }
+        requires { ⌜ statement < limits.statements ⌝ }
         ensures { λ r. ⌜ Inserted (self .words) statement (r .words) ⌝ }
     {
         self.union(Statements::only(statement))
@@ -50,7 +51,7 @@ impl Statements {
 
     // The lowest member from `from` up, or 128 where there is none.
     pub fn next(self, from: usize) -> usize
-        ensures { λ r. ⌜ Next (self .words) 128 from r ⌝ }
+        ensures { λ r. ⌜ Next (self .words) limits.statements from r ⌝ }
     {
         for i in from / 64..2 {
             let k = lowest(self.words[i], above(from, 64 * i));
@@ -63,7 +64,7 @@ impl Statements {
 
     // The set that has `statement` alone.
     fn only(statement: usize) -> Statements
-        requires { ⌜ statement < 128 ⌝ }
+        requires { ⌜ statement < limits.statements ⌝ }
         ensures { λ r. ⌜ Only statement (r .words) ⌝ }
     {
         let mut one = Statements { words: [0; 2] };

@@ -8,6 +8,7 @@ use native.Mathlib.Omega.{arith}
 use lib.Dec.{leb}
 use lib.ListN.{getD}
 use borrow.Author.Tests.{le-leb, lt-leb}
+use Rattle.basics.specs.Limits as limits
 use Rattle.basics.specs.Truth.{lt-cases}
 use Rattle.records.specs.declared.Counts.{Counts}
 use Rattle.records.specs.Rows.{Rows}
@@ -29,50 +30,50 @@ module _ (c : Counts) (t : Rows) where
   unfolding enclosing
   enclosing-before k j h l = grown-before (enclosingOf (namings c t)) (exprRow (c .exprs)) k j h l
 
-  pub enclosing-query : (q : ℕ) → q ≤ 32 → queryOf q ≡ q
+  pub enclosing-query : (q : ℕ) → q ≤ limits.queries → queryOf q ≡ q
   unfolding enclosing grown
   enclosing-query zero h = sym (grown-before (enclosingOf (namings c t)) (exprRow (c .exprs)) 0 0 (omega arith) (omega arith))
   enclosing-query (suc q) h =
-      grown-at (enclosingOf (namings c t)) (exprRow (c .exprs)) q (omega arith) ∙ rw (le-leb (suc q) 32 h)
+      grown-at (enclosingOf (namings c t)) (exprRow (c .exprs)) q (omega arith) ∙ rw (le-leb (suc q) limits.queries h)
 
-  pub enclosing-row : (k : ℕ) → 32 < suc k → suc k ≤ exprRow (c .exprs)
+  pub enclosing-row : (k : ℕ) → limits.queries < suc k → suc k ≤ exprRow (c .exprs)
       → queryOf (suc k) ≡ lying (queriesTo k) (suc k) (namers (suc k) (namings c t))
   unfolding enclosing
-  enclosing-row k h l = grown-at (enclosingOf (namings c t)) (exprRow (c .exprs)) k l ∙ rw (lt-leb (suc k) 32 h)
+  enclosing-row k h l = grown-at (enclosingOf (namings c t)) (exprRow (c .exprs)) k l ∙ rw (lt-leb (suc k) limits.queries h)
 
   -- Every row lies in a query's row, or in none.
-  lying-small : (l : List ℕ) (k : ℕ) (xs : List Naming) → ((j : ℕ) → getD l j 0 ≤ 32) → lying l k xs ≤ 32
+  lying-small : (l : List ℕ) (k : ℕ) (xs : List Naming) → ((j : ℕ) → getD l j 0 ≤ limits.queries) → lying l k xs ≤ limits.queries
   lying-small l k [] h = omega arith
   lying-small l k (x ∷ []) h = go (upwards (x .by) k)
     where
-      go : (b : Bool) → cond b (getD l (x .place) 0) 0 ≤ 32
+      go : (b : Bool) → cond b (getD l (x .place) 0) 0 ≤ limits.queries
       go true = h (x .place)
       go false = omega arith
   lying-small l k (x ∷ y ∷ xs) h = omega arith
 
-  here-small : (l : List ℕ) (k : ℕ) → ((j : ℕ) → getD l j 0 ≤ 32) → enclosingOf (namings c t) l k ≤ 32
+  here-small : (l : List ℕ) (k : ℕ) → ((j : ℕ) → getD l j 0 ≤ limits.queries) → enclosingOf (namings c t) l k ≤ limits.queries
   here-small l k h =
-      ⊎-elim (λ (q : k ≤ 32). rw (le-leb k 32 q) q) (λ (q : 32 < k). rw (lt-leb k 32 q) (lying-small l k (namers k (namings c t)) h)) (le-cases k)
+      ⊎-elim (λ (q : k ≤ limits.queries). rw (le-leb k limits.queries q) q) (λ (q : limits.queries < k). rw (lt-leb k limits.queries q) (lying-small l k (namers k (namings c t)) h)) (le-cases k)
     where
-      le-cases : (k : ℕ) → (k ≤ 32) ⊎ (32 < k)
-      le-cases k = ⊎-elim (λ (p : 32 < k). inr p) (λ (p : k ≤ 32). inl p) (lt-cases 32 k)
+      le-cases : (k : ℕ) → (k ≤ limits.queries) ⊎ (limits.queries < k)
+      le-cases k = ⊎-elim (λ (p : limits.queries < k). inr p) (λ (p : k ≤ limits.queries). inl p) (lt-cases limits.queries k)
 
-  bounded-append : (l m : List ℕ) → ((j : ℕ) → getD l j 0 ≤ 32) → ((j : ℕ) → getD m j 0 ≤ 32) → (j : ℕ) → getD (l ++ m) j 0 ≤ 32
+  bounded-append : (l m : List ℕ) → ((j : ℕ) → getD l j 0 ≤ limits.queries) → ((j : ℕ) → getD m j 0 ≤ limits.queries) → (j : ℕ) → getD (l ++ m) j 0 ≤ limits.queries
   bounded-append [] m a b j = b j
   bounded-append (x ∷ l) m a b zero = a 0
   bounded-append (x ∷ l) m a b (suc j) = bounded-append l m (λ i. a (suc i)) b j
 
-  bounded-one : (x : ℕ) → x ≤ 32 → (j : ℕ) → getD (x ∷ []) j 0 ≤ 32
+  bounded-one : (x : ℕ) → x ≤ limits.queries → (j : ℕ) → getD (x ∷ []) j 0 ≤ limits.queries
   bounded-one x h zero = h
   bounded-one x h (suc j) = omega arith
 
-  small-to : (k j : ℕ) → getD (queriesTo k) j 0 ≤ 32
+  small-to : (k j : ℕ) → getD (queriesTo k) j 0 ≤ limits.queries
   unfolding grown
   small-to zero j = bounded-one 0 (omega arith) j
   small-to (suc k) j =
       bounded-append (queriesTo k) (enclosingOf (namings c t) (queriesTo k) (suc k) ∷ []) (small-to k)
       (bounded-one _ (here-small (queriesTo k) (suc k) (small-to k))) j
 
-  pub enclosing-small : (k : ℕ) → queryOf k ≤ 32
+  pub enclosing-small : (k : ℕ) → queryOf k ≤ limits.queries
   unfolding enclosing
   enclosing-small k = small-to (exprRow (c .exprs)) k

@@ -7,6 +7,7 @@ use Prim.Native.Nat.{ℕ, _≤_, _<_}
 use native.Mathlib.Omega.{arith}
 use lib.Dec.{eqb}
 use borrow.Author.Tests.{le-ltb, lt-leb}
+use Rattle.basics.specs.Limits as limits
 use Rattle.basics.specs.Truth.{bool-cases, not-both}
 use Rattle.basics.specs.Lists.{filter}
 use Rattle.records.specs.declared.Counts.{Counts}
@@ -43,10 +44,10 @@ only-naming k (y ∷ z ∷ xs) h m = absurd (not-both h refl)
 
 -- ---- later rows make no member of an earlier one
 
-not-upwards : (by k : ℕ) → 32 < k → k ≤ by → upwards by k ≡ false
-not-upwards by k h l = rw (lt-leb k 32 h, le-ltb by k l)
+not-upwards : (by k : ℕ) → limits.queries < k → k ≤ by → upwards by k ≡ false
+not-upwards by k h l = rw (lt-leb k limits.queries h, le-ltb by k l)
 
-module _ (c : Counts) (by k : ℕ) (named : 32 < k) (late : k ≤ by) where
+module _ (c : Counts) (by k : ℕ) (named : limits.queries < k) (late : k ≤ by) where
   entry-late : (e : Entry) → inChain k (namers k (entryNaming c by e)) ≡ false
   unfolding entryNaming namers inChain
   entry-late e = go (bool-cases (eqb (target c (e .field) (e .value)) 0)) (bool-cases (eqb (target c (e .field) (e .value)) k))

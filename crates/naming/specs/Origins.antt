@@ -8,6 +8,7 @@ use Prim.Native.Nat.{ℕ, zero, suc, _+_, _-_, _≤_, _<_}
 use native.Mathlib.Omega.{arith}
 use lib.Dec.{eqb}
 use borrow.Author.Tests.{ne-eqb, eqb-false}
+use Rattle.basics.specs.Limits as limits
 use Rattle.basics.specs.Truth.{bool-cases}
 use Rattle.records.specs.declared.Counts.{Counts}
 use Rattle.records.specs.Rows.{Rows}
@@ -96,7 +97,7 @@ module _ (c : Counts) (t : Rows) where
   unfolding byExprs ofExpr
   exprs-step i = refl
 
-  expr-late : (k i : ℕ) → 32 < k → k ≤ exprRow (suc i) → inChain k (namers k (ofExpr (suc i))) ≡ false
+  expr-late : (k i : ℕ) → limits.queries < k → k ≤ exprRow (suc i) → inChain k (namers k (ofExpr (suc i))) ≡ false
   unfolding ofExpr
   expr-late k i h l = row-late c (exprRow (suc i)) k h l _
 

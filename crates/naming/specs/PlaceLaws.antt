@@ -7,6 +7,7 @@ use Prim.Native.Nat.{ℕ, _+_, _≤_, _<_}
 use native.Mathlib.Omega.{arith}
 use lib.Dec.{eqb, leb, ltb}
 use borrow.Author.Tests.{leb-true}
+use Rattle.basics.specs.Limits as limits
 use Rattle.basics.specs.Truth.{bool-cases, and-right}
 use Rattle.records.specs.declared.Counts.{Counts}
 use Rattle.records.specs.Layout.{Within}
@@ -61,7 +62,7 @@ module _ (c : Counts) (t : Rows) where
 
   pub record Placed (x : Naming) : Type 0 where
     pub below : x .place ≤ x .by
-    pub in-rows : x .by ≤ 672
+    pub in-rows : x .by ≤ limits.rows
 
   pub placed : Within c → {x : Naming} → Origin c t x → Placed x
   placed few {x} (by-query q e a b m d) =

@@ -5,6 +5,7 @@ use mathlib.Core.List.{List, _++_, map}
 use Prim.Native.Nat.{ℕ, _-_, _*_, _/_, _%_}
 use lib.Dec.{eqb, leb}
 use lib.ListN.{length, replicate}
+use Rattle.basics.specs.Limits as limits
 use Rattle.basics.specs.Limits.{library}
 use Rattle.basics.specs.Lists.{all}
 use Rattle.basics.specs.Ranges.{range}
@@ -21,9 +22,9 @@ use Rattle.nokchbem.specs.Calls.{ScheduleCall, RecordsCall}
 
 -- What a call leaves, by whether the list is accepted and by its definitions alone.
 pub record Leaves (accepted : Bool) (defs : List Turns.Definition) (n room marks r : ℕ) (o m : List ℕ) : Type 0 where
-  pub returned : r ≡ scheduleNumber (outcome accepted (placed defs n 512))
-  pub ordered : o ≡ cond accepted (order defs n 512 ++ replicate (room - n) 0) (replicate room 0)
-  pub marked : m ≡ cond accepted (map (λ i. mark (reached defs n 512 i)) (range 0 n) ++ replicate (marks - n) 0) (replicate marks 0)
+  pub returned : r ≡ scheduleNumber (outcome accepted (placed defs n limits.perName))
+  pub ordered : o ≡ cond accepted (order defs n limits.perName ++ replicate (room - n) 0) (replicate room 0)
+  pub marked : m ≡ cond accepted (map (λ i. mark (reached defs n limits.perName i)) (range 0 n) ++ replicate (marks - n) 0) (replicate marks 0)
 
 module _ (n room marks : ℕ) {r : ℕ} {o m : List ℕ} where
   pub flat-leaves : (ws : List ℕ) → ScheduleCall ws n room marks r o m → Leaves (accepts library ws n room marks) (definitions 10 ws) n room marks r o m
@@ -46,7 +47,7 @@ unfolding accepts
 same-question ws ds n room marks l =
     ap₂
     (λ (k : ℕ) (defs : List Turns.Definition).
-    eqb (k % 10) 0 && (leb n 128 && (leb (k / 10) 640 && (leb n room && (leb n marks && all (within library n) defs)))))
+    eqb (k % 10) 0 && (leb n limits.statements && (leb (k / 10) limits.definitions && (leb n room && (leb n marks && all (within library n) defs)))))
     (l .long ∙ sym (rows-length ds)) (l .define ∙ sym (rows-define ds))
     ∙ accepts-rows ds n room marks
 

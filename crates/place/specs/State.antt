@@ -4,6 +4,7 @@ use mathlib.Core.Bool.{true, false, not, cond, _&&_}
 use mathlib.Core.List.{List}
 use Prim.Native.Nat.{ℕ, _≤_, _<_, min}
 use lib.ListN.{length, getD, take}
+use Rattle.basics.specs.Limits as limits
 use Rattle.basics.specs.Lists.{elem}
 use Rattle.names.specs.Sets.{member}
 use Rattle.walks.specs.Walk.{known, takeable}
@@ -17,23 +18,23 @@ use Rattle.place.specs.declared.State.{State}
 
 -- The rows are of n statements and 512 names, and `links` has the rows of each statement.
 pub record Sound (w : ℕ) (ws links : List ℕ) (n : ℕ) : Type 0 where
-  pub few : n ≤ 128
+  pub few : n ≤ limits.statements
   pub stated : (k : ℕ) → k < rowCount w ws → statementAt w ws k < n
-  pub named : (k : ℕ) → k < rowCount w ws → varAt w ws k < 512
+  pub named : (k : ℕ) → k < rowCount w ws → varAt w ws k < limits.perName
   pub linked : Linked w ws links
 
 -- The same, and `masks` has for each name the set of the statements that define it.
 pub record Indexed (w : ℕ) (ws links masks : List ℕ) (n : ℕ) : Type 0 where
   pub sound : Sound w ws links n
-  pub long : length masks ≡ 1024
-  pub sets : (x : ℕ) → x < 512 → (i : ℕ) → member (maskAt masks x) i ≡ defines (definitions w ws) i x
+  pub long : length masks ≡ limits.masks
+  pub sets : (x : ℕ) → x < limits.perName → (i : ℕ) → member (maskAt masks x) i ≡ defines (definitions w ws) i x
 
 -- The number r is the lowest member of `own`, from a up, that is not idle, or 128.
 pub record NextTry (own idle : List ℕ) (a r : ℕ) : Type 0 where
-  pub low : min a 128 ≤ r
-  pub high : r ≤ 128
+  pub low : min a limits.statements ≤ r
+  pub high : r ≤ limits.statements
   pub gap : (i : ℕ) → a ≤ i → i < r → (member own i && not (member idle i)) ≡ false
-  pub found : r < 128 → (member own r && not (member idle r)) ≡ true
+  pub found : r < limits.statements → (member own r && not (member idle r)) ≡ true
 
 -- The order so far: the first entries of its buffer.
 abbrev pub orderOf : State → List ℕ → List ℕ

@@ -6,6 +6,7 @@ use mathlib.Core.Logic.{_⊎_, inl, inr, ⊎-elim}
 use Prim.Native.Nat.{ℕ, zero, suc, _+_, _-_, _≤_, _<_}
 use native.Mathlib.Omega.{arith}
 use borrow.Author.Tests.{not-true}
+use Rattle.basics.specs.Limits as limits
 use Rattle.basics.specs.Truth.{bool-cases, lt-cases, not-both, and-left, and-right}
 use Rattle.basics.specs.Lists.{filter}
 use Rattle.basics.specs.Ranges.{range, range-nil, range-cons}
@@ -46,8 +47,8 @@ walk-skip ready gives n f o a b e h skipped = go (b - a) a (omega arith) (omega 
 -- In a turn of the name x: i is the next statement to try, if it is below 128, and the walk along those from i up makes `result`.
 pub record Turning (defs : List Definition) (n x : ℕ) (result : List ℕ) (s : State) (order reached : List ℕ) (i : ℕ) : Type 0 where
   pub holds : Holds defs n s order reached
-  pub here : i < 128 → defines defs i x ≡ true
-  pub waits : i < 128 → Waiting defs n s i
+  pub here : i < limits.statements → defines defs i x ≡ true
+  pub waits : i < limits.statements → Waiting defs n s i
   pub left : walk (ready defs) (defines defs) n (orderOf s order) (filter (λ j. defines defs j x) (range i n)) ≡ result
 
 -- A statement that defines a name and is not idle may be tried.
@@ -65,10 +66,10 @@ is-waiting {w} {ws} {s = s} sound h i x d active =
           (λ (p : member (s .placed .words) i ≡ false). p) (bool-cases (member (s .placed .words) i));
     }
 
-module _ {w : ℕ} {ws links masks : List ℕ} {n x : ℕ} (indexed : Indexed w ws links masks n) (named : x < 512) where
+module _ {w : ℕ} {ws links masks : List ℕ} {n x : ℕ} (indexed : Indexed w ws links masks n) (named : x < limits.perName) where
   -- What `next_try` passes over does not define the name, or is idle.
   goes-to : {s : State} {order reached result : List ℕ} {a r : ℕ} → Holds (definitions w ws) n s order reached
-      → NextTry (maskAt masks x) (s .idle .words) a r → a ≤ 128
+      → NextTry (maskAt masks x) (s .idle .words) a r → a ≤ limits.statements
       → walk (ready (definitions w ws)) (defines (definitions w ws)) n (orderOf s order)
       (filter (λ j. defines (definitions w ws) j x) (range a n))
       ≡ result
@@ -85,7 +86,7 @@ module _ {w : ℕ} {ws links masks : List ℕ} {n x : ℕ} (indexed : Indexed w 
       defs : List Definition
       defs = definitions w ws
 
-      here : r < 128 → defines defs r x ≡ true
+      here : r < limits.statements → defines defs r x ≡ true
       here u = sym (indexed .sets x named r) ∙ and-left _ _ (next .found u)
 
       skipped : (j : ℕ) → (member (maskAt masks x) j && not (member (s .idle .words) j)) ≡ false
@@ -101,7 +102,7 @@ module _ {w : ℕ} {ws links masks : List ℕ} {n x : ℕ} (indexed : Indexed w 
 
   -- After the try of the statement at hand the turn goes on above it.
   pub turning-next : {s s′ : State} {order reached order′ reached′ result : List ℕ} {i r : ℕ}
-      → Turning (definitions w ws) n x result s order reached i → i < 128
+      → Turning (definitions w ws) n x result s order reached i → i < limits.statements
       → After (definitions w ws) n (pick (ready (definitions w ws)) (defines (definitions w ws)) n (orderOf s order) i) s′ order′ reached′
       → NextTry (maskAt masks x) (s′ .idle .words) (i + 1) r → Turning (definitions w ws) n x result s′ order′ reached′ r
   turning-next {i = i} turn l after next =

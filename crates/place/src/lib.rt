@@ -11,6 +11,7 @@ use widths::Width;
 ghost use mathlib.Core.Path.{_≡_};
 ghost use Prim.Native.Nat.{ℕ, _<_, _≤_};
 ghost use lib.ListN.{length, getD};
+ghost use Rattle.basics.specs.Limits as limits;
 ghost use Rattle.basics.specs.Ranges.{range};
 ghost use Rattle.walks.specs.Walk.{pick};
 ghost use Rattle.turns.specs.PlainWalk.{defines, ready};
@@ -93,7 +94,7 @@ pub fn take_turn(
     order: &mut [u16],
     reached: &mut [u16],
 ) -> State
-    requires { ⌜ (name < 512) × Indexed (row width) (now rows) (now links) (now masks) n ⌝ }
+    requires { ⌜ (name < limits.perName) × Indexed (row width) (now rows) (now links) (now masks) n ⌝ }
     requires { ⌜ Holds (definitions (row width) (now rows)) n state (now order) (now reached) ⌝ }
     requires { ⌜ Knows (definitions (row width) (now rows)) (now known) (orderOf state (now order)) ⌝ }
     ensures { λ r. ⌜ (let defs = definitions (row width) (now (rows .entry)) in
@@ -124,7 +125,7 @@ pub fn take_followed(
     order: &mut [u16],
     reached: &mut [u16],
 ) -> State
-    requires { ⌜ (name < 512) × Indexed (row width) (now rows) (now links) (now masks) n ⌝ }
+    requires { ⌜ (name < limits.perName) × Indexed (row width) (now rows) (now links) (now masks) n ⌝ }
     requires { ⌜ Holds (definitions (row width) (now rows)) n state (now order) (now reached) ⌝ }
     requires { ⌜ Knows (definitions (row width) (now rows)) (now known) (orderOf state (now order)) ⌝ }
     ensures { λ r. ⌜ (let defs = definitions (row width) (now (rows .entry)) in
@@ -171,7 +172,7 @@ pub fn take_round(
     requires { ⌜ Knows (definitions (row width) (now rows)) (now known) (orderOf state (now order)) ⌝ }
     ensures { λ r. ⌜ (let defs = definitions (row width) (now (rows .entry)) in
         let o = orderOf state (now (order .entry)) in
-        After defs n (roundOrder defs n (range 0 512) o) r (now (order .exit)) (now (reached .exit))
+        After defs n (roundOrder defs n (range 0 limits.perName) o) r (now (order .exit)) (now (reached .exit))
         × Knows defs (now (known .exit)) (orderOf r (now (order .exit)))) ⌝ }
 {
     let mut at = state;
@@ -216,7 +217,7 @@ pub fn place_all(
     requires { ⌜ ((i : ℕ) → getD (now order) i 0 ≡ 0) ⌝ }
     requires { ⌜ ((i : ℕ) → getD (now reached) i 0 ≡ 0) ⌝ }
     ensures { λ r. ⌜ (let defs = definitions (row width) (now (rows .entry)) in
-        After defs n (placedOrder defs n 512) r (now (order .exit)) (now (reached .exit))) ⌝ }
+        After defs n (placedOrder defs n limits.perName) r (now (order .exit)) (now (reached .exit))) ⌝ }
 {
     let mut known: [u64; WORDS] = [0; WORDS];
     let none = Statements::empty();

@@ -9,6 +9,7 @@ use lib.Dec.{eqb, ltb, leb}
 use lib.ListN.{length, replicate}
 use borrow.Author.Tests.{leb-true}
 use Rattle.basics.specs.Truth.{and-left, and-right}
+use Rattle.basics.specs.Limits as limits
 use Rattle.basics.specs.Limits.{library}
 use Rattle.basics.specs.Lists.{elem, all}
 use Rattle.basics.specs.Members.{all-mem}
@@ -50,17 +51,17 @@ pub record ListMeaning (defs : List turns.Definition) (n room marks r : ℕ) (o 
   pub no-other : (r ≡ 1 → ⊥) → r ≡ 0
   -- The order is then such a one, that of the turns, with zeros behind it.
   pub order-of-turns : r ≡ 1
-      → (o ≡ statements (placements defs n 512) ++ replicate (room - n) 0)
-      × OrderOfAll n (statements (placements defs n 512))
-      × (canBeWalked defs n (statements (placements defs n 512)) ≡ true)
+      → (o ≡ statements (placements defs n limits.perName) ++ replicate (room - n) 0)
+      × OrderOfAll n (statements (placements defs n limits.perName))
+      × (canBeWalked defs n (statements (placements defs n limits.perName)) ≡ true)
   -- Otherwise it is the written one.
   pub order-as-written : r ≡ 0 → o ≡ range 0 n ++ replicate (room - n) 0
 
 -- ---- of any list
 
-named-below : (n : ℕ) (defs : List turns.Definition) → all (within library n) defs ≡ true → Named defs 512
+named-below : (n : ℕ) (defs : List turns.Definition) → all (within library n) defs ≡ true → Named defs limits.perName
 named-below n defs h d m =
-    let v = leb-true (d .var) 511 (and-right (ltb (d .statement) n) (leb (d .var) 511) (all-mem (within library n) defs h m)) in
+    let v = leb-true (d .var) (library .names) (and-right (ltb (d .statement) n) (leb (d .var) (library .names)) (all-mem (within library n) defs h m)) in
     omega arith
 
 -- The number returned of a list that is taken is the mark placed.
@@ -80,11 +81,11 @@ module _ (defs : List turns.Definition) (n room marks : ℕ) {r : ℕ} {o m : Li
     no-marks = l .marked;
   }
 
-  meaning : Named defs 512 → Leaves true defs n room marks r o m → ListMeaning defs n room marks r o m
+  meaning : Named defs limits.perName → Leaves true defs n room marks r o m → ListMeaning defs n room marks r o m
   meaning named l =
-      let p = plain-walks defs n 512 named in
-      let is : r ≡ mark (placed defs n 512) = l .returned ∙ number-mark (placed defs n 512) in
-      let has : r ≡ 1 → placed defs n 512 ≡ true = λ e. mark-one _ (sym is ∙ e) in
+      let p = plain-walks defs n limits.perName named in
+      let is : r ≡ mark (placed defs n limits.perName) = l .returned ∙ number-mark (placed defs n limits.perName) in
+      let has : r ≡ 1 → placed defs n limits.perName ≡ true = λ e. mark-one _ (sym is ∙ e) in
       let behind : List ℕ → List ℕ = λ q. q ++ replicate (room - n) 0 in
       record {
         marked = λ π ρ others perm moved picks ended.
@@ -92,7 +93,7 @@ module _ (defs : List turns.Definition) (n room marks : ℕ) {r : ℕ} {o m : Li
             ∙ ap (λ (g : ℕ → Bool). map (λ i. mark (g i)) (range 0 n) ++ replicate (marks - n) 0)
             (λ d i. p .shared π ρ others perm moved picks ended i d);
         placed-exactly = (λ e. p .walkable .0 (has e), λ q. is ∙ ap mark (p .walkable .1 q));
-        no-other = λ e. is ∙ one-or-none (placed defs n 512) (λ f. e (is ∙ f));
+        no-other = λ e. is ∙ one-or-none (placed defs n limits.perName) (λ f. e (is ∙ f));
         order-of-turns = λ e.
             let t = p .in-turns (has e) in
             let h = p .order-placed (has e) in
@@ -118,7 +119,7 @@ module _ {ws : List ℕ} {n room marks r : ℕ} {o m : List ℕ} (call : Schedul
     where
       asked : accepts library ws n room marks ≡ true → all (within library n) (definitions 10 ws) ≡ true
       asked a =
-          and-right (leb n marks) _ (and-right (leb n room) _ (and-right (leb (rowCount 10 ws) 640) _ (and-right (leb n 128) _ (and-right (eqb (length ws % 10) 0) _ a))))
+          and-right (leb n marks) _ (and-right (leb n room) _ (and-right (leb (rowCount 10 ws) limits.definitions) _ (and-right (leb n limits.statements) _ (and-right (eqb (length ws % 10) 0) _ a))))
 
 -- ---- `nokchbem_schedule_records`
 
@@ -135,4 +136,4 @@ module _ (ds : List Definition) {n room marks r : ℕ} {o m : List ℕ} (call : 
       (subst (λ (b : Bool). Leaves b (map definitionOf ds) n room marks r o m) h (records-leave n room marks ds call))
     where
       asked : acceptsRecords ds n room marks ≡ true → all (within library n) (map definitionOf ds) ≡ true
-      asked a = and-right (leb n marks) _ (and-right (leb n room) _ (and-right (leb (length ds) 640) _ (and-right (leb n 128) _ a)))
+      asked a = and-right (leb n marks) _ (and-right (leb n room) _ (and-right (leb (length ds) limits.definitions) _ (and-right (leb n limits.statements) _ a)))

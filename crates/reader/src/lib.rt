@@ -5,6 +5,7 @@ ghost use mathlib.Core.Path.{_≡_};
 ghost use mathlib.Core.List.{[]};
 ghost use Prim.Native.Nat.{_≤_};
 ghost use lib.ListN.{length};
+ghost use Rattle.basics.specs.Limits as limits;
 ghost use Rattle.text.specs.Form.{faultOf};
 ghost use Rattle.sections.specs.Sections.{Sound, remaining};
 ghost use Rattle.reader.specs.Reads.{SheetRead};
@@ -34,7 +35,7 @@ fn end_fault(s: &[u8], p: Progress) -> usize
 
 // Reads a sheet into the tables.
 pub fn read_sheet(s: &[u8], table: &mut [u16]) -> Read
-    requires { ⌜ 8192 ≤ length (now table) ⌝ }
+    requires { ⌜ limits.tables ≤ length (now table) ⌝ }
     ensures { λ r. ⌜ SheetRead (now (s .entry)) (now (table .entry)) r (now (table .exit)) ⌝ }
 {
     let start = Progress {

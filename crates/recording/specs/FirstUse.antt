@@ -9,6 +9,7 @@ use native.Mathlib.Omega.{arith}
 use lib.Dec.{eqb, ltb}
 use lib.ListN.{length, getD}
 use borrow.Author.Tests.{eq-eqb, ne-eqb, lt-ltb, le-ltb}
+use Rattle.basics.specs.Limits as limits
 use Rattle.basics.specs.Truth.{lt-cases, and-intro, or-left, or-right}
 use Rattle.records.specs.declared.Row.{Row}
 use Rattle.scopes.specs.Scopes.{Span, spanIn}
@@ -89,7 +90,7 @@ module _ (w : Row) (p : Progress) (fs : List ℕ) where
   check-fault bad t work =
       runs-as t (guarded (asked w)) (λ s. checkFirstUse s w) p fs work p fs work (asked-is w) (runs-fault t (asked w) p bad fs work)
 
-  module _ (fine : isSound (p .fault) ≡ true) (low : w .name < 512) where
+  module _ (fine : isSound (p .fault) ≡ true) (low : w .name < limits.perName) where
     abbrev word : ℕ
     word = getD fs (w .name) 0
 

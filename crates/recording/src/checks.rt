@@ -4,18 +4,17 @@ use crate::first::check_first_use;
 use branches::next_of;
 use frame::Progress;
 use records::Row;
+use records::kinds::VAR;
 use records::row_at;
 use used::assigned::pattern_of;
 ghost use Prim.Native.Nat.{_≤_, _<_};
-ghost use lib.ListN.{length, getD};
-ghost use Rattle.gather.specs.Sheets.{Accepted};
+ghost use lib.ListN.{length};
+ghost use Rattle.basics.specs.Limits as limits;
+ghost use Rattle.gather.specs.Sheets.{Accepted, exprCount};
 ghost use Rattle.recording.specs.Checks.{VarChecked, VarsChecked, LeafChecked, AssignedChecked};
 
-// The kind of a variable.
-const VAR: u16 = 6;
-
 fn check_var(w: Row, p: Progress, firsts: &[u64]) -> Progress
-    requires { ⌜ (w .name < 512) × (512 ≤ length (now firsts)) ⌝ }
+    requires { ⌜ (w .name < limits.perName) × (limits.perName ≤ length (now firsts)) ⌝ }
     ensures { λ r. ⌜ VarChecked w p (now (firsts .entry)) r ⌝ }
 {
     if w.kind == VAR {
@@ -27,7 +26,7 @@ fn check_var(w: Row, p: Progress, firsts: &[u64]) -> Progress
 // The variables of the chain from a row on.
 // A call on no row would only copy the progress, so none is made.
 pub fn check_vars(tables: &[u16], row: usize, p: Progress, firsts: &[u64]) -> Progress
-    requires { ⌜ Accepted (now tables) × (row ≤ getD (now tables) 2 0) × (512 ≤ length (now firsts)) ⌝ }
+    requires { ⌜ Accepted (now tables) × (row ≤ exprCount (now tables)) × (limits.perName ≤ length (now firsts)) ⌝ }
     ensures { λ r. ⌜ VarsChecked (now (tables .entry)) row p (now (firsts .entry)) r ⌝ }
 {
     if row == 0 {
@@ -43,7 +42,7 @@ pub fn check_vars(tables: &[u16], row: usize, p: Progress, firsts: &[u64]) -> Pr
 }
 
 fn check_leaf(w: Row, p: Progress, firsts: &[u64]) -> Progress
-    requires { ⌜ (w .name < 512) × (512 ≤ length (now firsts)) ⌝ }
+    requires { ⌜ (w .name < limits.perName) × (limits.perName ≤ length (now firsts)) ⌝ }
     ensures { λ r. ⌜ LeafChecked w p (now (firsts .entry)) r ⌝ }
 {
     if w.kind != VAR {
@@ -66,7 +65,7 @@ pub fn check_assigned(
     p: Progress,
     firsts: &[u64],
 ) -> Progress
-    requires { ⌜ Accepted (now tables) × (row ≤ getD (now tables) 2 0) × (512 ≤ length (now firsts)) ⌝ }
+    requires { ⌜ Accepted (now tables) × (row ≤ exprCount (now tables)) × (limits.perName ≤ length (now firsts)) ⌝ }
     ensures { λ r. ⌜ AssignedChecked (now (tables .entry)) row rest p (now (firsts .entry)) r ⌝ }
 {
     if row == 0 {

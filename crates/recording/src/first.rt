@@ -3,16 +3,16 @@
 use frame::Fault;
 use frame::Progress;
 use records::Row;
+use used::first::LINE;
 ghost use Prim.Native.Nat.{_≤_, _<_};
 ghost use lib.ListN.{length};
+ghost use Rattle.basics.specs.Limits as limits;
 ghost use Rattle.recording.specs.FirstUse.{UseChecked};
 
-// A first use is the word 1 + line * LINE + column, and none is 0.
-const LINE: u64 = 65536;
-
-// A fault at the first use of the variable's name, where that stands before the variable. `firsts` has a word a name.
+// A fault at the first use of the variable's name, where that stands before the variable. `firsts` has a word a name: 1 + line * LINE + column,
+// and 0 for no use.
 pub fn check_first_use(w: Row, p: Progress, firsts: &[u64]) -> Progress
-    requires { ⌜ (w .name < 512) × (512 ≤ length (now firsts)) ⌝ }
+    requires { ⌜ (w .name < limits.perName) × (limits.perName ≤ length (now firsts)) ⌝ }
     ensures { λ r. ⌜ UseChecked w p (now (firsts .entry)) r ⌝ }
 {
     if p.is_sound() {

@@ -5,20 +5,19 @@ use gather::scope::Scope;
 use gather::special::is_input;
 use names::Names;
 use records::Row;
+use records::kinds::VAR;
 use records::row_at;
 use used::assigned::pattern_of;
 use used::first::add_first_use;
 ghost use Prim.Native.Nat.{_≤_, _<_};
-ghost use lib.ListN.{length, getD};
-ghost use Rattle.gather.specs.Sheets.{Accepted};
+ghost use lib.ListN.{length};
+ghost use Rattle.basics.specs.Limits as limits;
+ghost use Rattle.gather.specs.Sheets.{Accepted, exprCount};
 ghost use Rattle.recording.specs.SomeVars.{Binds, SomeStep, SomeVars, EnterStep, SomeEntered};
-
-// The kind of a variable.
-const VAR: u16 = 6;
 
 // Is it a variable and a local, and not `input`?
 fn is_bound(tables: &[u16], scope: Scope, w: Row) -> bool
-    requires { ⌜ (8192 ≤ length (now tables)) × (w .name < 512) ⌝ }
+    requires { ⌜ (limits.tables ≤ length (now tables)) × (w .name < limits.perName) ⌝ }
     ensures { λ r. ⌜ Binds (now (tables .entry)) scope w r ⌝ }
 {
     if w.kind != VAR {
@@ -32,7 +31,7 @@ fn is_bound(tables: &[u16], scope: Scope, w: Row) -> bool
 }
 
 fn some_step(tables: &[u16], scope: Scope, w: Row, names: Names) -> Names
-    requires { ⌜ (8192 ≤ length (now tables)) × (w .name < 512) ⌝ }
+    requires { ⌜ (limits.tables ≤ length (now tables)) × (w .name < limits.perName) ⌝ }
     ensures { λ r. ⌜ SomeStep (now (tables .entry)) scope w names r ⌝ }
 {
     if is_bound(tables, scope, w) {
@@ -45,7 +44,7 @@ fn some_step(tables: &[u16], scope: Scope, w: Row, names: Names) -> Names
 // The pattern at a row, with the rest of its chain. Its names come to `names`.
 // A call on no row would only copy the scope and the names, so none is made.
 pub fn some_vars(tables: &[u16], scope: Scope, row: usize, names: Names) -> Names
-    requires { ⌜ Accepted (now tables) × (row ≤ getD (now tables) 2 0) ⌝ }
+    requires { ⌜ Accepted (now tables) × (row ≤ exprCount (now tables)) ⌝ }
     ensures { λ r. ⌜ SomeVars (now (tables .entry)) scope row names r ⌝ }
 {
     if row == 0 {
@@ -65,7 +64,7 @@ pub fn some_vars(tables: &[u16], scope: Scope, row: usize, names: Names) -> Name
 }
 
 fn enter_step(tables: &[u16], scope: Scope, w: Row, firsts: &mut [u64])
-    requires { ⌜ (8192 ≤ length (now tables)) × (w .name < 512) × (512 ≤ length (now firsts)) ⌝ }
+    requires { ⌜ (limits.tables ≤ length (now tables)) × (w .name < limits.perName) × (limits.perName ≤ length (now firsts)) ⌝ }
     ensures { λ _. ⌜ EnterStep (now (tables .entry)) scope w (now (firsts .entry)) (now (firsts .exit)) ⌝ }
 {
     if is_bound(tables, scope, w) {
@@ -76,7 +75,7 @@ fn enter_step(tables: &[u16], scope: Scope, w: Row, firsts: &mut [u64])
 // The same pattern's variables are uses of their names. `firsts` has a word a name.
 // A call on no row would only copy the scope, so none is made.
 pub fn first_some(tables: &[u16], scope: Scope, row: usize, firsts: &mut [u64])
-    requires { ⌜ Accepted (now tables) × (row ≤ getD (now tables) 2 0) × (512 ≤ length (now firsts)) ⌝ }
+    requires { ⌜ Accepted (now tables) × (row ≤ exprCount (now tables)) × (limits.perName ≤ length (now firsts)) ⌝ }
     ensures { λ _. ⌜ SomeEntered (now (tables .entry)) scope row (now (firsts .entry)) (now (firsts .exit)) ⌝ }
 {
     if row == 0 {

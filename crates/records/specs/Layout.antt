@@ -4,6 +4,7 @@ use Prim.Native.Nat.{ℕ, _+_, _*_, _≤_}
 use lib.ListN.{getD}
 use Rattle.basics.specs.Limits as limits
 use Rattle.basics.specs.Limits.{library}
+use Rattle.tables.specs.Layout.{builtinStart, exprStart, statementStart, queryStart}
 use Rattle.records.specs.declared.Counts.{Counts}
 use Rattle.records.specs.declared.Builtin.{Builtin}
 use Rattle.records.specs.declared.Row.{Row}
@@ -45,12 +46,12 @@ pub record Within (c : Counts) : Type 0 where
 module _ (t : List ℕ) where
   abbrev pub builtinAt : ℕ → Builtin
   builtinAt r =
-      let at = 8 + 4 * r in
+      let at = builtinStart + 4 * r in
       record { arity = getD t at 0; first = getD t (at + 1) 0; second = getD t (at + 2) 0; third = getD t (at + 3) 0 }
 
   abbrev pub exprAt : ℕ → Row
   exprAt r =
-      let at = 268 + 8 * r in
+      let at = exprStart + 8 * r in
       record {
         kind = getD t at 0;
         name = getD t (at + 1) 0;
@@ -64,7 +65,7 @@ module _ (t : List ℕ) where
 
   abbrev pub statementAt : ℕ → Statement
   statementAt r =
-      let at = 4372 + 7 * r in
+      let at = statementStart + 7 * r in
       record {
         form = getD t at 0;
         first = getD t (at + 1) 0;
@@ -77,4 +78,4 @@ module _ (t : List ℕ) where
 
   -- The first statement of query r, or 0.
   abbrev pub firstAt : ℕ → ℕ
-  firstAt r = getD t (5275 + r) 0
+  firstAt r = getD t (queryStart + r) 0

@@ -1,8 +1,11 @@
 // The rows of a sheet as they stand in the tables. Rows count from 1, and a section's row r stands at its area and r times its width.
 
+pub mod kinds;
+
 ghost use mathlib.Core.Path.{_≡_};
 ghost use Prim.Native.Nat.{_≤_};
 ghost use lib.ListN.{length};
+ghost use Rattle.basics.specs.Limits as limits;
 ghost use Rattle.records.specs.Layout.{builtinAt, exprAt, statementAt, firstAt};
 
 // The most rows that each section behind the names may have.
@@ -66,7 +69,7 @@ pub struct Statement {
 }
 
 pub fn builtin_at(tables: &[u16], row: usize) -> Builtin
-    requires { ⌜ (8192 ≤ length (now tables)) × (row ≤ 64) ⌝ }
+    requires { ⌜ (limits.tables ≤ length (now tables)) × (row ≤ limits.builtIns) ⌝ }
     ensures { λ r. ⌜ r ≡ builtinAt (now (tables .entry)) row ⌝ }
 {
     let at = BUILTINS_AT + 4 * row;
@@ -79,7 +82,7 @@ pub fn builtin_at(tables: &[u16], row: usize) -> Builtin
 }
 
 pub fn row_at(tables: &[u16], row: usize) -> Row
-    requires { ⌜ (8192 ≤ length (now tables)) × (row ≤ 512) ⌝ }
+    requires { ⌜ (limits.tables ≤ length (now tables)) × (row ≤ limits.expressions) ⌝ }
     ensures { λ r. ⌜ r ≡ exprAt (now (tables .entry)) row ⌝ }
 {
     let at = EXPRS_AT + 8 * row;
@@ -96,7 +99,7 @@ pub fn row_at(tables: &[u16], row: usize) -> Row
 }
 
 pub fn statement_at(tables: &[u16], row: usize) -> Statement
-    requires { ⌜ (8192 ≤ length (now tables)) × (row ≤ 128) ⌝ }
+    requires { ⌜ (limits.tables ≤ length (now tables)) × (row ≤ limits.statements) ⌝ }
     ensures { λ r. ⌜ r ≡ statementAt (now (tables .entry)) row ⌝ }
 {
     let at = STATEMENTS_AT + 7 * row;
@@ -113,7 +116,7 @@ pub fn statement_at(tables: &[u16], row: usize) -> Statement
 
 // The first statement of a query, or 0.
 pub fn first_at(tables: &[u16], row: usize) -> u16
-    requires { ⌜ (8192 ≤ length (now tables)) × (row ≤ 32) ⌝ }
+    requires { ⌜ (limits.tables ≤ length (now tables)) × (row ≤ limits.queries) ⌝ }
     ensures { λ r. ⌜ r ≡ firstAt (now (tables .entry)) row ⌝ }
 {
     tables[QUERIES_AT + row]

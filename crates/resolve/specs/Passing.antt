@@ -5,6 +5,7 @@ use mathlib.Core.List.{List, _∷_}
 use Prim.Native.Nat.{ℕ, suc, _+_, _-_, _≤_, _<_}
 use native.Mathlib.Omega.{arith}
 use lib.ListN.{getD}
+use Rattle.basics.specs.Limits as limits
 use Rattle.basics.specs.Lists.{all}
 use Rattle.names.specs.Sets.{member, members, Inserted}
 use Rattle.turns.specs.Definitions.{Definition}
@@ -21,7 +22,7 @@ pub record Passing (w : ℕ) (ws : List ℕ) (s : ℕ) (start : List ℕ) (at : 
 
 module _ (w : ℕ) (ws links : List ℕ) (linked : Linked w ws links) (s : ℕ) (start : List ℕ) where
   -- Before the loop.
-  pub passing-first : s < 128 → Passing w ws s start (getD links s 0) start false
+  pub passing-first : s < limits.statements → Passing w ws s start (getD links s 0) start false
   passing-first h =
       let leads = last-leads w ws s (rowCount w ws) in
       rw (linked .head s h) (record {
@@ -46,10 +47,10 @@ module _ (w : ℕ) (ws links : List ℕ) (linked : Linked w ws links) (s : ℕ) 
       here : lastOf w ws s (suc (at - 1)) ≡ suc (at - 1)
       here = let e : at ≡ suc (at - 1) = omega arith in rw e at (p .last)
 
-      leads-on : getD links (128 + (at - 1)) 0 ≡ lastOf w ws s (at - 1)
+      leads-on : getD links (limits.statements + (at - 1)) 0 ≡ lastOf w ws s (at - 1)
       leads-on = linked .next (at - 1) (omega arith) ∙ ap (λ (t : ℕ). lastOf w ws t (at - 1)) (last-row w ws s (at - 1) here)
 
-      pub passing-less : getD links (128 + (at - 1)) 0 < at
+      pub passing-less : getD links (limits.statements + (at - 1)) 0 < at
       passing-less = omega (arith, leads-on, last-leads w ws s (at - 1) .below)
 
       first-row : chainOf w ws s at ≡ definitionAt w ws (at - 1) ∷ chainOf w ws s (lastOf w ws s (at - 1))
@@ -58,7 +59,7 @@ module _ (w : ℕ) (ws links : List ℕ) (linked : Linked w ws links) (s : ℕ) 
       -- After the turn, if the set and the flag are as the pass over the row's definition leaves them.
       turn : {more : List ℕ} {waits-now : Bool} → member more ≡ gain (member seen) (definitionAt w ws (at - 1))
           → waits-now ≡ (waiting || not (all (member seen) (members (usedWordsAt w ws (at - 1)))))
-          → Passing w ws s start (getD links (128 + (at - 1)) 0) more waits-now
+          → Passing w ws s start (getD links (limits.statements + (at - 1)) 0) more waits-now
       turn {more} {waits-now} set flag =
           let leads = last-leads w ws s (at - 1) in
           let rest = chainOf w ws s (lastOf w ws s (at - 1)) in
@@ -71,9 +72,9 @@ module _ (w : ℕ) (ws links : List ℕ) (linked : Linked w ws links) (s : ℕ) 
           })
 
       pub passing-waits : all (member seen) (members (usedWordsAt w ws (at - 1))) ≡ false
-          → Passing w ws s start (getD links (128 + (at - 1)) 0) seen true
+          → Passing w ws s start (getD links (limits.statements + (at - 1)) 0) seen true
       passing-waits fails = turn (rw fails) (rw fails (sym (or-true waiting)))
 
       pub passing-adds : all (member seen) (members (usedWordsAt w ws (at - 1))) ≡ true → {more : List ℕ} → Inserted seen (varAt w ws (at - 1)) more
-          → Passing w ws s start (getD links (128 + (at - 1)) 0) more waiting
+          → Passing w ws s start (getD links (limits.statements + (at - 1)) 0) more waiting
       passing-adds holds i = turn (rw holds (fun-ext (i .has))) (rw holds (sym (or-false waiting)))

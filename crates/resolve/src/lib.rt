@@ -9,6 +9,7 @@ use widths::Width;
 ghost use mathlib.Core.Path.{_≡_};
 ghost use Prim.Native.Nat.{ℕ, _<_};
 ghost use lib.ListN.{length};
+ghost use Rattle.basics.specs.Limits as limits;
 ghost use Rattle.widths.specs.Widths.{row};
 ghost use Rattle.rows.specs.Rows.{rowCount, varAt};
 ghost use Rattle.rows.specs.Links.{Linked};
@@ -29,8 +30,8 @@ pub fn pass(
     statement: usize,
     seen: &mut [u64; WORDS],
 ) -> Passed
-    requires { ⌜ (statement < 128) × Linked (row width) (now rows) (now links) ⌝ }
-    requires { ⌜ ((k : ℕ) → k < rowCount (row width) (now rows) → varAt (row width) (now rows) k < 512) ⌝ }
+    requires { ⌜ (statement < limits.statements) × Linked (row width) (now rows) (now links) ⌝ }
+    requires { ⌜ ((k : ℕ) → k < rowCount (row width) (now rows) → varAt (row width) (now rows) k < limits.perName) ⌝ }
     requires { ⌜ length (now seen) ≡ 8 ⌝ }
     ensures { λ r. ⌜ (length (now (seen .exit)) ≡ 8) × Passes (row width) (now (rows .entry)) statement (now (seen .entry)) (now (seen .exit)) (r .waiting) × Grows (now (seen .entry)) (now (seen .exit)) (r .grew) ⌝ }
 {
@@ -67,8 +68,8 @@ pub fn try_statement(
     statement: usize,
     known: &mut [u64; WORDS],
 ) -> bool
-    requires { ⌜ (statement < 128) × Linked (row width) (now rows) (now links) ⌝ }
-    requires { ⌜ ((k : ℕ) → k < rowCount (row width) (now rows) → varAt (row width) (now rows) k < 512) ⌝ }
+    requires { ⌜ (statement < limits.statements) × Linked (row width) (now rows) (now links) ⌝ }
+    requires { ⌜ ((k : ℕ) → k < rowCount (row width) (now rows) → varAt (row width) (now rows) k < limits.perName) ⌝ }
     requires { ⌜ length (now known) ≡ 8 ⌝ }
     ensures { λ r. ⌜ (length (now (known .exit)) ≡ 8) × Tries (row width) (now (rows .entry)) statement (now (known .entry)) r (now (known .exit)) ⌝ }
 {

@@ -11,6 +11,7 @@ use lib.ListN.{length, getD, set, length-set}
 use lib.Bits.{bitOr}
 use lib.Seq.{getD-set-same, getD-set-other}
 use borrow.Author.Tests.{eqb-true, eqb-false, eq-eqb}
+use Rattle.basics.specs.Limits as limits
 use Rattle.basics.specs.Truth.{bool-cases, bool-ext, lt-cases}
 use Rattle.names.specs.Sets.{member, Empty, Inserted}
 use Rattle.names.specs.Words.{zeros-empty, nameBit, stored-in}
@@ -36,7 +37,7 @@ module _ (masks : List ℕ) (x v : ℕ) (long : 2 * x + 1 < length masks) where
       ap₂ (λ (a b : ℕ). a ∷ b ∷ []) (getD-set-other masks (2 * x + i) (2 * y) v 0 (λ q. ne (omega arith)))
       (getD-set-other masks (2 * x + i) (suc (2 * y)) v 0 (λ q. ne (omega arith)))
 
-module _ (masks : List ℕ) (x s : ℕ) (long : 2 * x + 1 < length masks) (low : s < 128) where
+module _ (masks : List ℕ) (x s : ℕ) (long : 2 * x + 1 < length masks) (low : s < limits.statements) where
   abbrev word : ℕ
   word = bitOr (getD masks (2 * x + s / 64) 0) (nameBit s)
 
@@ -66,7 +67,7 @@ module _ (masks : List ℕ) (x s : ℕ) (long : 2 * x + 1 < length masks) (low :
 
 -- ---- mask
 
-pub masked-first : (w : ℕ) (ws masks names : List ℕ) → length masks ≡ 1024 → ((i : ℕ) → getD masks i 0 ≡ 0) → Empty names → MaskedTo w ws masks names 0
+pub masked-first : (w : ℕ) (ws masks names : List ℕ) → length masks ≡ limits.masks → ((i : ℕ) → getD masks i 0 ≡ 0) → Empty names → MaskedTo w ws masks names 0
 unfolding definesIn definedIn
 masked-first w ws masks names long zeros none = record {
   long = long;

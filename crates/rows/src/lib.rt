@@ -8,6 +8,7 @@ use widths::next_at;
 ghost use mathlib.Core.Path.{_≡_};
 ghost use Prim.Native.Nat.{ℕ, _+_, _*_, _<_, _≤_};
 ghost use lib.ListN.{length, getD};
+ghost use Rattle.basics.specs.Limits as limits;
 ghost use Rattle.names.specs.Sets.{Next};
 ghost use Rattle.widths.specs.Widths.{words, row};
 ghost use Rattle.rows.specs.Rows.{rowCount, statementAt, varAt, usedWordsAt};
@@ -15,7 +16,7 @@ ghost use Rattle.rows.specs.Links.{Linked};
 ghost use Rattle.rows.specs.Masks.{maskAt, Added, Masked};
 
 // The most statements that a list may have.
-pub const STATEMENTS: usize = 128;
+pub const STATEMENTS: usize = names::statements::STATEMENTS;
 
 // The most definitions.
 pub const DEFINITIONS: usize = 640;
@@ -52,9 +53,9 @@ pub fn name_at(width: Width, rows: &[u64], k: usize) -> usize
 
 // Links the rows of each statement. A proof is not told the length of an array behind a `&mut`, so the contracts below say it.
 pub fn link(width: Width, rows: &[u64], links: &mut [u16; CELLS])
-    requires { ⌜ rowCount (row width) (now rows) ≤ 640 ⌝ }
-    requires { ⌜ ((k : ℕ) → k < rowCount (row width) (now rows) → statementAt (row width) (now rows) k < 128) ⌝ }
-    requires { ⌜ (length (now links) ≡ 768) × ((i : ℕ) → getD (now links) i 0 ≡ 0) ⌝ }
+    requires { ⌜ rowCount (row width) (now rows) ≤ limits.definitions ⌝ }
+    requires { ⌜ ((k : ℕ) → k < rowCount (row width) (now rows) → statementAt (row width) (now rows) k < limits.statements) ⌝ }
+    requires { ⌜ (length (now links) ≡ limits.cells) × ((i : ℕ) → getD (now links) i 0 ≡ 0) ⌝ }
     ensures { λ _. ⌜ Linked (row width) (now (rows .entry)) (now (links .exit)) ⌝ }
 {
     let row = width.row();
@@ -68,7 +69,7 @@ pub fn link(width: Width, rows: &[u64], links: &mut [u16; CELLS])
 
 // The statements of a name.
 pub fn statements_of(masks: &[u64; MASKS], name: usize) -> Statements
-    requires { ⌜ (length (now masks) ≡ 1024) × (name < 512) ⌝ }
+    requires { ⌜ (length (now masks) ≡ limits.masks) × (name < limits.perName) ⌝ }
     ensures { λ r. ⌜ r .words ≡ maskAt (now (masks .entry)) name ⌝ }
 {
     Statements {
@@ -78,7 +79,7 @@ pub fn statements_of(masks: &[u64; MASKS], name: usize) -> Statements
 
 // Puts a statement among those of a name.
 pub fn add_to_mask(masks: &mut [u64; MASKS], name: usize, statement: usize)
-    requires { ⌜ (length (now masks) ≡ 1024) × (name < 512) × (statement < 128) ⌝ }
+    requires { ⌜ (length (now masks) ≡ limits.masks) × (name < limits.perName) × (statement < limits.statements) ⌝ }
     ensures { λ _. ⌜ Added (now (masks .entry)) name statement (now (masks .exit)) ⌝ }
 {
     let at = 2 * name + statement / 64;
@@ -87,9 +88,9 @@ pub fn add_to_mask(masks: &mut [u64; MASKS], name: usize, statement: usize)
 
 // Fills the set of statements of each name, and answers the names that have one.
 pub fn mask(width: Width, rows: &[u64], masks: &mut [u64; MASKS]) -> Names
-    requires { ⌜ ((k : ℕ) → k < rowCount (row width) (now rows) → statementAt (row width) (now rows) k < 128) ⌝ }
-    requires { ⌜ ((k : ℕ) → k < rowCount (row width) (now rows) → varAt (row width) (now rows) k < 512) ⌝ }
-    requires { ⌜ (length (now masks) ≡ 1024) × ((i : ℕ) → getD (now masks) i 0 ≡ 0) ⌝ }
+    requires { ⌜ ((k : ℕ) → k < rowCount (row width) (now rows) → statementAt (row width) (now rows) k < limits.statements) ⌝ }
+    requires { ⌜ ((k : ℕ) → k < rowCount (row width) (now rows) → varAt (row width) (now rows) k < limits.perName) ⌝ }
+    requires { ⌜ (length (now masks) ≡ limits.masks) × ((i : ℕ) → getD (now masks) i 0 ≡ 0) ⌝ }
     ensures { λ r. ⌜ Masked (row width) (now (rows .entry)) (now (masks .exit)) (r .words) ⌝ }
 {
     let row = width.row();

@@ -7,6 +7,7 @@ use native.Mathlib.Omega.{arith}
 use lib.ListN.{length, getD, take, drop, replicate, length-drop, length-replicate, getD-replicate, take-append-drop, length-map}
 use lib.Seq.{ext-getD, getD-take, getD-drop, length-take-le}
 use borrow.Author.Tests.{eq-eqb, ne-eqb}
+use Rattle.basics.specs.Limits as limits
 use Rattle.basics.specs.Limits.{Limits}
 use Rattle.basics.specs.Lists.{elem}
 use Rattle.basics.specs.Ranges.{counted, range}
@@ -52,25 +53,25 @@ module _ (lim : Limits) (ws : List ℕ) (n room marks : ℕ) where
 
   -- The statements placed in the buffers are those of the turn rule.
   module _ (accepted : accepts lim ws n room marks ≡ true) {s : State} {o m : List ℕ}
-      (after : After (definitions (lim .row) ws) n (placedOrder (definitions (lim .row) ws) n 512) s o m) (lo : length o ≡ room) (lm : length m ≡ marks) where
-    all-marks : m ≡ map (λ i. mark (reached (definitions (lim .row) ws) n 512 i)) (range 0 n) ++ replicate (marks - n) 0
+      (after : After (definitions (lim .row) ws) n (placedOrder (definitions (lim .row) ws) n limits.perName) s o m) (lo : length o ≡ room) (lm : length m ≡ marks) where
+    all-marks : m ≡ map (λ i. mark (reached (definitions (lim .row) ws) n limits.perName i)) (range 0 n) ++ replicate (marks - n) 0
     all-marks =
         let h = after .holds .written in
-        let at : (i : ℕ) → i < n → getD (take n m) i 0 ≡ getD (map (λ j. mark (reached (definitions (lim .row) ws) n 512 j)) (range 0 n)) i 0 =
+        let at : (i : ℕ) → i < n → getD (take n m) i 0 ≡ getD (map (λ j. mark (reached (definitions (lim .row) ws) n limits.perName j)) (range 0 n)) i 0 =
         λ i b. getD-take n m i 0 b ∙ h .marks i b ∙ ap (λ (l : List ℕ). mark (elem i l)) (after .now-is)
-        ∙ ap mark (sym (reached-by-order (definitions (lim .row) ws) n 512 i)) ∙ sym (getD-map-range (λ j. mark (reached (definitions (lim .row) ws) n 512 j)) n i b) in
-        let front : take n m ≡ map (λ j. mark (reached (definitions (lim .row) ws) n 512 j)) (range 0 n) =
+        ∙ ap mark (sym (reached-by-order (definitions (lim .row) ws) n limits.perName i)) ∙ sym (getD-map-range (λ j. mark (reached (definitions (lim .row) ws) n limits.perName j)) n i b) in
+        let front : take n m ≡ map (λ j. mark (reached (definitions (lim .row) ws) n limits.perName j)) (range 0 n) =
         ext-getD 0 _ _ (length-take-le n m (h .marked) ∙ sym (length-map (range 0 n) _ ∙ length-range n))
         (λ i l. at i (omega (arith, length-take-le n m (h .marked)))) in
         zeros-after m n (h .beyond) ∙ ap₂ (λ (x : List ℕ) (k : ℕ). x ++ replicate (k - n) 0) front lm
 
-    count-is : length (placedOrder (definitions (lim .row) ws) n 512) ≡ s .count
+    count-is : length (placedOrder (definitions (lim .row) ws) n limits.perName) ≡ s .count
     count-is = ap length (sym (after .now-is)) ∙ length-take-le (s .count) o (after .holds .written .filled)
 
     pub all-placed : s .count ≡ n → Scheduled lim ws n room marks Placed o m
     all-placed e =
-        let p : placed (definitions (lim .row) ws) n 512 ≡ true = placed-by-order (definitions (lim .row) ws) n 512 ∙ eq-eqb _ n (count-is ∙ e) in
-        let front : take (s .count) o ≡ order (definitions (lim .row) ws) n 512 = after .now-is ∙ sym (order-by-order (definitions (lim .row) ws) n 512 ∙ rw p) in
+        let p : placed (definitions (lim .row) ws) n limits.perName ≡ true = placed-by-order (definitions (lim .row) ws) n limits.perName ∙ eq-eqb _ n (count-is ∙ e) in
+        let front : take (s .count) o ≡ order (definitions (lim .row) ws) n limits.perName = after .now-is ∙ sym (order-by-order (definitions (lim .row) ws) n limits.perName ∙ rw p) in
         let rest : length o - s .count ≡ room - n = omega arith in
         record {
           came-to = rw (accepted, p);
@@ -80,7 +81,7 @@ module _ (lim : Limits) (ws : List ℕ) (n room marks : ℕ) where
 
     pub not-placed : (s .count ≡ n → ⊥) → Scheduled lim ws n room marks Unplaced (range 0 n ++ drop n o) m
     not-placed ne =
-        let p : placed (definitions (lim .row) ws) n 512 ≡ false = placed-by-order (definitions (lim .row) ws) n 512 ∙ ne-eqb _ n (λ e. ne (sym count-is ∙ e)) in
+        let p : placed (definitions (lim .row) ws) n limits.perName ≡ false = placed-by-order (definitions (lim .row) ws) n limits.perName ∙ ne-eqb _ n (λ e. ne (sym count-is ∙ e)) in
         let rest : drop n o ≡ replicate (room - n) 0 =
         zeros-drop o n (λ i l. after .holds .written .past i (omega (arith, after .holds .written .adds-up, length-take-le (s .count) o (after .holds .written .filled))))
         ∙ ap (λ (k : ℕ). replicate (k - n) 0) lo in

@@ -8,6 +8,7 @@ ghost use mathlib.Core.Path.{_≡_};
 ghost use mathlib.Core.Bool.{true};
 ghost use Prim.Native.Nat.{ℕ};
 ghost use lib.ListN.{length, getD};
+ghost use Rattle.basics.specs.Limits as limit;
 ghost use Rattle.turns.specs.Orders.{placedOrder};
 ghost use Rattle.widths.specs.Widths.{limits, row};
 ghost use Rattle.rows.specs.Rows.{definitions};
@@ -33,7 +34,7 @@ pub fn place_rows(
     requires { ⌜ Accepted (limits width) (now rows) n (length (now order)) (length (now reached)) ⌝ }
     requires { ⌜ ((i : ℕ) → getD (now order) i 0 ≡ 0) ⌝ }
     requires { ⌜ ((i : ℕ) → getD (now reached) i 0 ≡ 0) ⌝ }
-    ensures { λ r. ⌜ After (definitions (row width) (now (rows .entry))) n (placedOrder (definitions (row width) (now (rows .entry))) n 512) r (now (order .exit)) (now (reached .exit)) ⌝ }
+    ensures { λ r. ⌜ After (definitions (row width) (now (rows .entry))) n (placedOrder (definitions (row width) (now (rows .entry))) n limit.perName) r (now (order .exit)) (now (reached .exit)) ⌝ }
 {
     let mut links: [u16; CELLS] = [0; CELLS];
     rows::link(width, rows, &mut links);

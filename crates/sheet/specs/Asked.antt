@@ -9,6 +9,7 @@ use lib.Dec.{eqb, leb, ltb}
 use lib.ListN.{length, getD, length-replicate}
 use lib.Seq.{sets}
 use borrow.Author.Tests.{ltb-false, eqb-true, eqb-false, lt-leb, le-leb, eq-eqb, ne-eqb}
+use Rattle.basics.specs.Limits as limit
 use Rattle.basics.specs.Limits.{Limits}
 use Rattle.basics.specs.Truth.{bool-cases, not-both}
 use Rattle.widths.specs.declared.Width.{Width}
@@ -56,9 +57,9 @@ pub record SheetTaken (lim : Limits) (s : List ℕ) (room long : ℕ) (r : Outco
 
 -- The special names' rows fit an entry of the tables.
 pub record Small (x : Special) : Type 0 where
-  pub blank : x .blank ≤ 511
-  pub input : x .input ≤ 511
-  pub «data» : x .«data» ≤ 511
+  pub blank : x .blank ≤ limit.library .names
+  pub input : x .input ≤ limit.library .names
+  pub «data» : x .«data» ≤ limit.library .names
 
 -- ---- counts in bounds
 
@@ -134,8 +135,8 @@ first-count : (rs : List (List (List ℕ))) → getD (map length rs) 0 0 ≡ len
 first-count [] = refl
 first-count (ls ∷ rs) = refl
 
-module _ (s : List ℕ) (few : getD (rowCounts s) 0 0 ≤ 511) where
-  row-low : (w : List ℕ) → rowOfName s w ≤ 511
+module _ (s : List ℕ) (few : getD (rowCounts s) 0 0 ≤ limit.library .names) where
+  row-low : (w : List ℕ) → rowOfName s w ≤ limit.library .names
   unfolding rowOfName
   row-low w = let h = name-row-low 0 w (sheetNames s) in omega (arith, first-count (sectionRows s))
 
@@ -148,9 +149,9 @@ module _ (s : List ℕ) (few : getD (rowCounts s) 0 0 ≤ 511) where
 
 -- ---- what is read
 
-pub blank-room : (d : List ℕ) → d ≡ emptyTables → 8192 ≤ length d
+pub blank-room : (d : List ℕ) → d ≡ emptyTables → limit.tables ≤ length d
 unfolding emptyTables
-blank-room d is = let n : length d ≡ 8192 = ap length is ∙ length-replicate {A = ℕ} 8192 0 in omega arith
+blank-room d is = let n : length d ≡ limit.tables = ap length is ∙ length-replicate {A = ℕ} limit.tables 0 in omega arith
 
 -- The counts of a sheet that has the form, as the reader gives them.
 abbrev pub countsIn : read-of.Read → Counts
@@ -166,7 +167,7 @@ module _ (s d : List ℕ) (r : read-of.Read) (e : List ℕ) (is : d ≡ emptyTab
   pub counts-are : countsIn r ≡ readCounts s
   counts-are = ap asCounts (k .count good)
 
-  pub few-names : r .names ≤ 511 → getD (rowCounts s) 0 0 ≤ 511
+  pub few-names : r .names ≤ limit.library .names → getD (rowCounts s) 0 0 ≤ limit.library .names
   few-names h = let n : r .names ≡ getD (rowCounts s) 0 0 = ap (λ (ks : List ℕ). getD ks 0 0) (k .count good) in omega arith
 
   rows-are : e ≡ tables s emptyTables

@@ -7,6 +7,7 @@ use native.Mathlib.Omega.{arith}
 use lib.Dec.{leb}
 use lib.ListN.{take, drop, replicate, length-replicate, replicate-append-replicate}
 use lib.Seq.{take-at, drop-at}
+use Rattle.basics.specs.Limits as limits
 use Rattle.basics.specs.Limits.{Limits}
 use Rattle.basics.specs.Truth.{not-both}
 use Rattle.sheet.specs.declared.Outcome.{Outcome}
@@ -29,17 +30,17 @@ module _ (n m : ℕ) (h : n ≤ m) where
   zeros-rest : drop n (zeros m) ≡ zeros (m - n)
   zeros-rest = ap (drop n) zeros-split ∙ drop-at (zeros n) (zeros (m - n)) n (length-replicate {A = ℕ} n 0)
 
-module _ (t : List ℕ) (room : ℕ) (zeroed : t ≡ replicate room 0) (enough : 8192 ≤ room) where
-  pub lent-blank : take 8192 t ≡ emptyTables
+module _ (t : List ℕ) (room : ℕ) (zeroed : t ≡ replicate room 0) (enough : limits.tables ≤ room) where
+  pub lent-blank : take limits.tables t ≡ emptyTables
   unfolding emptyTables
-  lent-blank = ap (take 8192) zeroed ∙ zeros-front 8192 room enough
+  lent-blank = ap (take limits.tables) zeroed ∙ zeros-front limits.tables room enough
 
-  pub rest-zeros : drop 8192 t ≡ replicate (room - 8192) 0
-  rest-zeros = ap (drop 8192) zeroed ∙ zeros-rest 8192 room enough
+  pub rest-zeros : drop limits.tables t ≡ replicate (room - limits.tables) 0
+  rest-zeros = ap (drop limits.tables) zeroed ∙ zeros-rest limits.tables room enough
 
 -- ---- what the tables hold
 
-rows-left : (s : List ℕ) (room : ℕ) (r : Outcome) → isRead r ≡ true → readTables s ++ replicate (room - 8192) 0 ≡ leftTables s room r
+rows-left : (s : List ℕ) (room : ℕ) (r : Outcome) → isRead r ≡ true → readTables s ++ replicate (room - limits.tables) 0 ≡ leftTables s room r
 rows-left s room Read p = refl
 rows-left s room NoRoom p = absurd (not-both p refl)
 rows-left s room TooLong p = absurd (not-both p refl)
@@ -61,16 +62,16 @@ zeros-left s room (BadField l) p = refl
 
 -- Of the questions.
 module _ (lim : Limits) (s : List ℕ) (room long : ℕ) (t : List ℕ) where
-  pub no-room : (leb 8192 room && leb (lim .work) long) ≡ false → SheetTaken lim s room long NoRoom t
+  pub no-room : (leb limits.tables room && leb (lim .work) long) ≡ false → SheetTaken lim s room long NoRoom t
   unfolding verdict
   no-room few = record { came-to = sym (rw few); tabled = λ p. absurd (not-both p refl) }
 
-  pub takes : (leb 8192 room && leb (lim .work) long) ≡ true → (r : Outcome) (e : List ℕ) → Asked lim s r e → t ≡ e ++ replicate (room - 8192) 0
+  pub takes : (leb limits.tables room && leb (lim .work) long) ≡ true → (r : Outcome) (e : List ℕ) → Asked lim s r e → t ≡ e ++ replicate (room - limits.tables) 0
       → SheetTaken lim s room long r t
   unfolding verdict
   takes enough r e k is = record {
     came-to = k .came-to ∙ sym (rw enough);
-    tabled = λ p. is ∙ ap (λ (l : List ℕ). l ++ replicate (room - 8192) 0) (k .tabled p) ∙ rows-left s room r p;
+    tabled = λ p. is ∙ ap (λ (l : List ℕ). l ++ replicate (room - limits.tables) 0) (k .tabled p) ∙ rows-left s room r p;
   }
 
 -- Of the reader.

@@ -8,6 +8,7 @@ use native.Mathlib.Omega.{arith}
 use lib.Dec.{eqb, leb, ltb}
 use lib.ListN.{length, getD}
 use borrow.Author.Tests.{ltb-false, leb-true, eqb-true}
+use Rattle.basics.specs.Limits as limit
 use Rattle.basics.specs.Truth.{bool-cases}
 use Rattle.widths.specs.declared.Width.{Width}
 use Rattle.widths.specs.Widths.{limits, work}
@@ -163,7 +164,7 @@ module _ (w : Width) (s : List ℕ) where
   pub line-fits : (room long : ℕ) → Verdict.faultLine (verdict (limits w) s room long) ≤ 65535
   unfolding verdict
   line-fits room long =
-      either-low (leb 8192 room && leb (work w) long) (asked (limits w) s) NoRoom (λ enough. asked-low) (λ few. omega arith)
+      either-low (leb limit.tables room && leb (work w) long) (asked (limits w) s) NoRoom (λ enough. asked-low) (λ few. omega arith)
 
 -- The number of an outcome fits as well.
 pub number-fits : (r : Outcome) → Verdict.number r ≤ 6

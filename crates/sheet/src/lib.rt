@@ -9,6 +9,7 @@ ghost use Prim.Native.Nat.{_≤_};
 ghost use lib.Dec.{leb};
 ghost use lib.ListN.{length};
 ghost use lib.Seq.{sets};
+ghost use Rattle.basics.specs.Limits as limit;
 ghost use Rattle.widths.specs.Widths.{limits};
 ghost use Rattle.records.specs.Layout.{Within};
 ghost use Rattle.sheet.specs.Verdict.{number, faultLine, emptyTables, headOf, SheetLeft};
@@ -27,7 +28,7 @@ pub enum Outcome {
 
 // Question 1.
 fn has_room(tables: usize, work: usize, width: Width) -> bool
-    ensures { λ r. ⌜ r ≡ (leb 8192 tables && leb (limits width .work) work) ⌝ }
+    ensures { λ r. ⌜ r ≡ (leb limit.tables tables && leb (limits width .work) work) ⌝ }
 {
     if tables < tables::LENGTH {
         return false;
@@ -37,7 +38,7 @@ fn has_room(tables: usize, work: usize, width: Width) -> bool
 
 // The counts and the special names in front of the rows.
 fn store_head(table: &mut [u16], counts: Counts, special: Special)
-    requires { ⌜ (8192 ≤ length (now table)) × Within counts × Small special ⌝ }
+    requires { ⌜ (limit.tables ≤ length (now table)) × Within counts × Small special ⌝ }
     ensures { λ _. ⌜ now (table .exit) ≡ sets (now (table .entry)) 0 (headOf counts special) ⌝ }
 {
     table[0] = counts.names as u16;
@@ -52,7 +53,7 @@ fn store_head(table: &mut [u16], counts: Counts, special: Special)
 
 // Questions 2 to 6. Where the sheet is read, its rows are left in the table.
 fn ask(s: &[u8], table: &mut [u16], work: &mut [u64], width: Width) -> Outcome
-    requires { ⌜ (now table ≡ emptyTables) × (8192 ≤ length (now work)) ⌝ }
+    requires { ⌜ (now table ≡ emptyTables) × (limit.leastWork ≤ length (now work)) ⌝ }
     ensures { λ r. ⌜ Asked (limits width) (now (s .entry)) r (now (table .exit)) ⌝ }
 {
     if tables::SHEET_BYTES < s.len() {

@@ -6,6 +6,7 @@ use Prim.Native.Nat.{ℕ, zero, suc, _-_, _%_, _≤_, _<_}
 use native.Mathlib.Omega.{arith}
 use lib.ListN.{length, length-map}
 use borrow.Author.Tests.{lt-ltb, le-leb}
+use Rattle.basics.specs.Limits as limits
 use Rattle.basics.specs.Truth.{and-intro}
 use Rattle.basics.specs.Limits.{Limits}
 use Rattle.basics.specs.Lists.{all}
@@ -18,8 +19,8 @@ use Rattle.analysis.specs.States.{QuerySchedule}
 
 -- At most 128 statements and 640 definitions, and each definition with a statement below the count and a name within the limit.
 pub record InBounds (lim : Limits) (a : QuerySchedule) : Type 0 where
-  pub few-statements : a .count ≤ 128
-  pub few-definitions : length (a .definitions) ≤ 640
+  pub few-statements : a .count ≤ limits.statements
+  pub few-definitions : length (a .definitions) ≤ limits.definitions
   pub stated : (d : Definition) → List·Memᴰ d (a .definitions) → d .statement < a .count
   pub named : (d : Definition) → List·Memᴰ d (a .definitions) → d .var ≤ lim .names
 

@@ -1,4 +1,4 @@
--- In an accepted sheet the names of all rows lie below 128.
+-- In an accepted sheet the names of all rows lie below the limit.
 use mathlib.Core.Path.{_≡_, refl}
 use mathlib.Core.Bool.{Bool, true}
 use mathlib.Core.List.{List, map}

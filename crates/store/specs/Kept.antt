@@ -9,6 +9,7 @@ use native.Mathlib.Omega.{arith}
 use lib.Dec.{eqb}
 use lib.ListN.{length, getD}
 use borrow.Author.Tests.{eqb-true, eqb-false}
+use Rattle.basics.specs.Limits as limits
 use Rattle.basics.specs.Truth.{bool-cases, lt-cases, eq-cases, not-both}
 use Rattle.names.specs.Sets.{member}
 use Rattle.names.specs.Laws.{member-below, member-out}
@@ -49,7 +50,7 @@ span-in w = record { line = w .line; col = w .col; both = w .both }
 
 -- The places of each other query that has some end at or below base, or begin behind the `count` places from base on.
 abbrev pub Apart : Width → List ℕ → ℕ → ℕ → ℕ → Type 0
-Apart z w q base count = (p : ℕ) → 1 ≤ p → p ≤ 32 → (p ≡ q → ⊥) → 1 ≤ wordAt z w p 0 → 1 ≤ wordAt z w p 2
+Apart z w q base count = (p : ℕ) → 1 ≤ p → p ≤ limits.queries → (p ≡ q → ⊥) → 1 ≤ wordAt z w p 0 → 1 ≤ wordAt z w p 2
     → (wordAt z w p 3 + wordAt z w p 2 ≤ base) ⊎ (base + count ≤ wordAt z w p 3)
 
 -- A set that fits has low members alone.
@@ -71,8 +72,8 @@ whole z w q s a fits held x =
 small : (n : ℕ) (p : Span) → SpanIn n p → n % 4294967296 ≡ n
 small n p h = omega (arith, h .line, h .col, h .both)
 
-module _ (z : Width) (w : List ℕ) (q : ℕ) (k : Scope) (l : List ℕ) (count base : ℕ) (placed : Bool) (order reached : List ℕ) (low : 1 ≤ q) (high : q ≤ 32)
-    (room : base + count ≤ 128) (u : List ℕ) (b : BlockWritten z w q k l count base placed u) (v : List ℕ)
+module _ (z : Width) (w : List ℕ) (q : ℕ) (k : Scope) (l : List ℕ) (count base : ℕ) (placed : Bool) (order reached : List ℕ) (low : 1 ≤ q) (high : q ≤ limits.queries)
+    (room : base + count ≤ limits.statements) (u : List ℕ) (b : BlockWritten z w q k l count base placed u) (v : List ℕ)
     (s : Written u v (places z + base) count (placeWord order reached)) where
   -- A word of the block.
   word : (i : ℕ) → i < block z → wordAt z v q i ≡ wordAt z u q i
@@ -111,7 +112,7 @@ module _ (z : Width) (w : List ℕ) (q : ℕ) (k : Scope) (l : List ℕ) (count 
     }
 
   -- A word of another query's block.
-  module _ (p : ℕ) (from : 1 ≤ p) (to : p ≤ 32) (other : p ≡ q → ⊥) where
+  module _ (p : ℕ) (from : 1 ≤ p) (to : p ≤ limits.queries) (other : p ≡ q → ⊥) where
     apart : (p < q) ⊎ (q < p) → (i : ℕ) → i < block z → wordAt z u p i ≡ wordAt z w p i
     apart (inl h) i m = b .below _ (omega (arith, m, block-apart z p q from h))
     apart (inr h) i m = b .above _ (omega (arith, block-apart z q p low h))
@@ -172,7 +173,7 @@ module _ (z : Width) (w : List ℕ) (q : ℕ) (k : Scope) (l : List ℕ) (count 
       go (inr e) = rw e (stored-at p from to (λ x. eqb-false (a .query) p e (is ∙ sym x)) aside (scheduleOf schedules p) (h p from to))
 
   -- Where base is what the query's block said, each block says what it said.
-  pub bases-stay : base ≡ wordAt z w q 3 → (p : ℕ) → 1 ≤ p → p ≤ 32 → wordAt z v p 3 ≡ wordAt z w p 3
+  pub bases-stay : base ≡ wordAt z w q 3 → (p : ℕ) → 1 ≤ p → p ≤ limits.queries → wordAt z v p 3 ≡ wordAt z w p 3
   bases-stay said p from to = go (eq-cases p q)
     where
       go : (p ≡ q) ⊎ (p ≡ q → ⊥) → wordAt z v p 3 ≡ wordAt z w p 3

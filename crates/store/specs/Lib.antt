@@ -1,3 +1,4 @@
 pub mod Writes
 pub mod Words
 pub mod Kept
+pub mod Asks

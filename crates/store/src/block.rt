@@ -9,7 +9,8 @@ use widths::Width;
 ghost use mathlib.Core.Path.{_≡_};
 ghost use Prim.Native.Nat.{_+_, _≤_};
 ghost use lib.ListN.{length};
-ghost use Rattle.blocks.specs.Layout as layout;
+ghost use Rattle.basics.specs.Limits as limits;
+ghost use Rattle.blocks.specs.Asks.{AsksBlock};
 ghost use Rattle.turns.specs.Turns.{mark};
 ghost use Rattle.store.specs.Writes.{Written, from};
 ghost use Rattle.store.specs.Words.{headWords, BlockWritten};
@@ -46,7 +47,7 @@ pub fn store_block(
     placed: bool,
     width: Width,
 )
-    requires { ⌜ (layout.answers width ≤ length (now answers)) × (1 ≤ q) × (q ≤ 32) × (512 ≤ length (now spans)) ⌝ }
+    requires { ⌜ AsksBlock width (now answers) q × (limits.perName ≤ length (now spans)) ⌝ }
     ensures { λ _. ⌜ BlockWritten width (now (answers .entry)) q scope (now (spans .entry)) count base placed (now (answers .exit)) ⌝ }
 {
     let block = place_of(width, q, 0);

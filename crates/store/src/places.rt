@@ -3,9 +3,10 @@
 use blocks::places_of;
 use widths::Width;
 ghost use mathlib.Core.Path.{_≡_};
-ghost use Prim.Native.Nat.{ℕ, _+_, _*_, _≤_, _<_};
-ghost use lib.ListN.{length, getD};
+ghost use Prim.Native.Nat.{_+_, _*_, _≤_};
+ghost use lib.ListN.{length};
 ghost use Rattle.blocks.specs.Layout as layout;
+ghost use Rattle.store.specs.Asks.{AsksPlaces};
 ghost use Rattle.store.specs.Writes.{Written};
 ghost use Rattle.store.specs.Words.{placeWord};
 
@@ -23,7 +24,7 @@ pub fn store_places(
     reached: &[u16],
     width: Width,
 )
-    requires { ⌜ (layout.answers width ≤ length (now answers)) × (base + count ≤ 128) × (count ≤ length (now order)) × ((k : ℕ) → k < count → getD (now order) k 0 < length (now reached)) ⌝ }
+    requires { ⌜ (layout.answers width ≤ length (now answers)) × AsksPlaces base count (now order) (now reached) ⌝ }
     ensures { λ _. ⌜ Written (now (answers .entry)) (now (answers .exit)) (layout.places width + base) count (placeWord (now (order .entry)) (now (reached .entry))) ⌝ }
 {
     let first = places_of(width) + base;

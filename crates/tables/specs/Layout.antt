@@ -2,6 +2,7 @@
 use mathlib.Core.Path.{_≡_, refl}
 use mathlib.Core.List.{List, [], _∷_}
 use Prim.Native.Nat.{ℕ, suc, _+_, _*_}
+use Rattle.basics.specs.Limits as limits
 use Rattle.basics.specs.Limits.{library}
 use Rattle.text.specs.Sections.{Section, sections}
 use Rattle.text.specs.Counts.{mostRows}
@@ -30,10 +31,29 @@ areasFrom at (s ∷ ss) (n ∷ most) = areaOf at s n ∷ areasFrom (areaEnd (are
 unfoldable pub areas : List Area
 areas = areasFrom 8 sections (mostRows library)
 
--- The same in numbers: names take no room.
+-- Where row 0 of each section would stand: names take no room.
+abbrev pub builtinStart : ℕ
+builtinStart = 8
+
+abbrev pub exprStart : ℕ
+exprStart = builtinStart + 4 * suc limits.builtIns
+
+abbrev pub statementStart : ℕ
+statementStart = exprStart + 8 * suc limits.expressions
+
+abbrev pub queryStart : ℕ
+queryStart = statementStart + 7 * suc limits.statements
+
+-- The same by these.
 abbrev area : ℕ → ℕ → ℕ → Area
 area at k n = record { start = at; width = k; rows = n }
 
-areas-are : areas ≡ area 8 0 511 ∷ area 8 4 64 ∷ area 268 8 512 ∷ area 4372 7 128 ∷ area 5275 1 32 ∷ []
+areas-are : areas
+    ≡ area builtinStart 0 (library .names)
+    ∷ area builtinStart 4 limits.builtIns
+    ∷ area exprStart 8 limits.expressions
+    ∷ area statementStart 7 limits.statements
+    ∷ area queryStart 1 limits.queries
+    ∷ []
 unfolding areas areasFrom sections
 areas-are = refl

@@ -15,7 +15,7 @@ use Rattle.text.specs.Form.{form, rowsIn}
 use Rattle.text.specs.FormLaws.{Shaped, none, next, sheet-formed}
 use Rattle.text.specs.Questions.{formFault, sectionRows}
 use Rattle.tables.specs.declared.Area.{Area}
-use Rattle.tables.specs.Layout.{rowPlace, areaEnd, areaOf, areasFrom, areas}
+use Rattle.tables.specs.Layout.{rowPlace, areaEnd, areaOf, areasFrom, areas, builtinStart, exprStart, statementStart, queryStart}
 use Rattle.tables.specs.LayoutLaws.{row-inside}
 use Rattle.tables.specs.Tables.{rowValues, putRows, putSections, tables}
 use Rattle.tables.specs.RowLaws.{length-putRows, putRows-other, putRows-at}
@@ -94,7 +94,7 @@ module _ (s d : List ℕ) (formed : formFault s ≡ 0) where
   unfolding tables areas
   tables-front i h = front 8 sections (mostRows library) (sectionRows s) d shaped i h
 
-  module _ (fits : 8192 ≤ length d) (r : ℕ) (from : 1 ≤ r) where
+  module _ (fits : limits.tables ≤ length d) (r : ℕ) (from : 1 ≤ r) where
     at : (k f : ℕ) → r ≤ length (getD (sectionRows s) k []) → r ≤ getD areas k nowhere .rows → f < getD areas k nowhere .width
         → getD (tables s d) (rowPlace (getD areas k nowhere) r + f) 0 ≡ fieldOf s k r f
     unfolding tables areas areasFrom endFrom sections
@@ -103,22 +103,22 @@ module _ (s d : List ℕ) (formed : formFault s ≡ 0) where
         rw z at (stored 8 sections (mostRows library) (sectionRows s) d shaped (omega arith) k (r - 1) f (omega arith) (omega arith) g)
 
     pub builtIn-at : (f : ℕ) → r ≤ length (getD (sectionRows s) 1 []) → r ≤ limits.builtIns → f < 4
-        → getD (tables s d) (8 + 4 * r + f) 0 ≡ fieldOf s 1 r f
+        → getD (tables s d) (builtinStart + 4 * r + f) 0 ≡ fieldOf s 1 r f
     unfolding areas areasFrom sections
     builtIn-at f h b g = at 1 f h b g
 
     pub expression-at : (f : ℕ) → r ≤ length (getD (sectionRows s) 2 []) → r ≤ limits.expressions → f < 8
-        → getD (tables s d) (268 + 8 * r + f) 0 ≡ fieldOf s 2 r f
+        → getD (tables s d) (exprStart + 8 * r + f) 0 ≡ fieldOf s 2 r f
     unfolding areas areasFrom sections
     expression-at f h b g = at 2 f h b g
 
     pub statement-at : (f : ℕ) → r ≤ length (getD (sectionRows s) 3 []) → r ≤ limits.statements → f < 7
-        → getD (tables s d) (4372 + 7 * r + f) 0 ≡ fieldOf s 3 r f
+        → getD (tables s d) (statementStart + 7 * r + f) 0 ≡ fieldOf s 3 r f
     unfolding areas areasFrom sections
     statement-at f h b g = at 3 f h b g
 
-    pub query-at : r ≤ length (getD (sectionRows s) 4 []) → r ≤ limits.queries → getD (tables s d) (5275 + r) 0 ≡ fieldOf s 4 r 0
+    pub query-at : r ≤ length (getD (sectionRows s) 4 []) → r ≤ limits.queries → getD (tables s d) (queryStart + r) 0 ≡ fieldOf s 4 r 0
     unfolding areas areasFrom sections
     query-at h b =
-        let z : 5275 + r ≡ 5275 + 1 * r + 0 = omega arith in
+        let z : queryStart + r ≡ queryStart + 1 * r + 0 = omega arith in
         ap (λ (i : ℕ). getD (tables s d) i 0) z ∙ at 4 0 h b (omega arith)

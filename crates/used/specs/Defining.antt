@@ -5,7 +5,7 @@ use mathlib.Core.List.{List, [], _++_, map}
 use mathlib.Core.Logic.{_⊎_, inl, inr}
 use Prim.Native.Nat.{ℕ, _+_, _/_, _≤_}
 use native.Mathlib.Omega.{arith}
-use lib.ListN.{length, getD}
+use lib.ListN.{length}
 use borrow.Author.Tests.{eqb-true}
 use Rattle.basics.specs.Truth.{bool-cases}
 use Rattle.basics.specs.Lists.{elem}
@@ -25,7 +25,7 @@ use Rattle.branches.specs.declared.Kids.{Kids}
 use Rattle.branches.specs.Kids.{entersOf, kidsOf}
 use Rattle.branches.specs.Walks.{aloneAt}
 use Rattle.gather.specs.declared.scope.Scope.{Scope}
-use Rattle.gather.specs.Sheets.{countsAt, specialAt, sheetAt, Accepted}
+use Rattle.gather.specs.Sheets.{countsAt, specialAt, sheetAt, Accepted, exprCount}
 use Rattle.gather.specs.Agrees.{Sets}
 use Rattle.used.specs.declared.found.Used.{Used}
 use Rattle.used.specs.Own.{Holds}
@@ -161,7 +161,7 @@ module _ (t : List ℕ) (v : Width) (k : Scope) (extras : Names) (i : ℕ) where
         go (inl p) = rw (p, bracket-first (rowAt t row) p)
         go (inr p) = rw (p, assigned-zero t s ok)
 
-    module _ (row : ℕ) (ne : row ≡ 0 → ⊥) (high : row ≤ getD t 2 0) (rest : Bool) (w : Row) (is : w ≡ rowAt t row)
+    module _ (row : ℕ) (ne : row ≡ 0 → ⊥) (high : row ≤ exprCount t) (rest : Bool) (w : Row) (is : w ≡ rowAt t row)
         (p : Kids) (ps : p ≡ kidsOf w) (next : ℕ) (ns : next ≡ cond rest (w .next) 0) where
       module _ (s : spec.Scope) (l : List ℕ) where
         -- The definitions of the row itself.

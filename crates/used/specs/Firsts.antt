@@ -10,6 +10,7 @@ use lib.Dec.{eqb}
 use lib.ListN.{length, getD, set}
 use lib.Seq.{getD-set-same, getD-set-other}
 use borrow.Author.Tests.{eqb-true, eqb-false, eq-eqb, ne-eqb}
+use Rattle.basics.specs.Limits as limits
 use Rattle.basics.specs.Truth.{bool-cases}
 use Rattle.basics.specs.Lists.{filter}
 use Rattle.names.specs.declared.Names.{Names}
@@ -27,7 +28,7 @@ use Rattle.branches.specs.declared.Kids.{Kids}
 use Rattle.branches.specs.Kids.{kidsOf}
 use Rattle.branches.specs.Walks.{alone}
 use Rattle.gather.specs.declared.scope.Scope.{Scope}
-use Rattle.gather.specs.Sheets.{sheetAt, Accepted}
+use Rattle.gather.specs.Sheets.{sheetAt, Accepted, exprCount}
 use Rattle.gather.specs.Agrees.{Sets}
 use Rattle.used.specs.Own.{Holds, IsUse}
 use Rattle.used.specs.Walk.{exprBy, Walk, walk-none, walk-turn}
@@ -39,7 +40,7 @@ wordOf (some p) = 1 + p .line * 65536 + p .col
 
 -- The words hold the first uses, one a name. Their lines and columns are low, so that a word can be taken apart again.
 pub record Firsts (ws : List ℕ) (spans : List Span) : Type 0 where
-  pub has : (x : ℕ) → x < 512 → wordOf (spanIn spans x) ≡ getD ws x 0
+  pub has : (x : ℕ) → x < limits.perName → wordOf (spanIn spans x) ≡ getD ws x 0
   pub low : (x : ℕ) (p : Span) → spanIn spans x ≡ some p → (p .line < 65536) × (p .col < 65536)
 
 -- ---- one use
@@ -47,7 +48,7 @@ pub record Firsts (ws : List ℕ) (spans : List Span) : Type 0 where
 abbrev pub FirstUse : Row → List ℕ → List ℕ → Type 0
 FirstUse w ws rs = (spans : List Span) → Firsts ws spans → Firsts rs (addFirstUse spans (spanOf w))
 
-module _ (w : Row) (low : w .name < 512) (ws : List ℕ) where
+module _ (w : Row) (low : w .name < limits.perName) (ws : List ℕ) where
   pub use-stays : (getD ws (w .name) 0 ≡ 0 → ⊥) → FirstUse w ws ws
   unfolding addFirstUse
   use-stays ne spans h = go (spanIn spans (w .name)) (h .has (w .name) low)
@@ -56,14 +57,14 @@ module _ (w : Row) (low : w .name < 512) (ws : List ℕ) where
       go none e = absurd (ne (sym e))
       go (some p) e = h
 
-  pub use-enters : (w .line < 65536) × (w .col < 65536) → 512 ≤ length ws → getD ws (w .name) 0 ≡ 0 → FirstUse w ws (set ws (w .name) (1 + w .line * 65536 + w .col))
+  pub use-enters : (w .line < 65536) × (w .col < 65536) → limits.perName ≤ length ws → getD ws (w .name) 0 ≡ 0 → FirstUse w ws (set ws (w .name) (1 + w .line * 65536 + w .col))
   unfolding addFirstUse
   use-enters short room z spans h = go (spanIn spans (w .name)) (h .has (w .name) low)
     where
       new : List ℕ
       new = set ws (w .name) (1 + w .line * 65536 + w .col)
 
-      at : (x : ℕ) → x < 512 → (eqb (w .name) x ≡ true) ⊎ (eqb (w .name) x ≡ false) → wordOf (cond (eqb (w .name) x) (some (spanOf w)) (spanIn spans x)) ≡ getD new x 0
+      at : (x : ℕ) → x < limits.perName → (eqb (w .name) x ≡ true) ⊎ (eqb (w .name) x ≡ false) → wordOf (cond (eqb (w .name) x) (some (spanOf w)) (spanIn spans x)) ≡ getD new x 0
       at x l (inl p) =
           rw p
           (sym (getD-set-same ws (w .name) (1 + w .line * 65536 + w .col) 0 (omega arith)) ∙ ap (λ (y : ℕ). getD new y 0) (eqb-true (w .name) x p))
@@ -152,7 +153,7 @@ module _ (t : List ℕ) (k : Scope) (extras : Names) where
   first-none ok row z rest ws s a l h =
       from-walk s l row rest ws ws (walk-none t Firsts (λ (u : List Span) (e : Tree). step s l u (rowOf e)) ok row z rest ws)
 
-  pub first-turn : Accepted t → (row : ℕ) → (row ≡ 0 → ⊥) → row ≤ getD t 2 0 → (rest : Bool) (w : Row) → w ≡ rowAt t row
+  pub first-turn : Accepted t → (row : ℕ) → (row ≡ 0 → ⊥) → row ≤ exprCount t → (rest : Bool) (w : Row) → w ≡ rowAt t row
       → (p : Kids) → p ≡ kidsOf w → (next : ℕ) → next ≡ cond rest (w .next) 0 → (ws s₀ s₁ s₂ s₃ s₄ : List ℕ)
       → FirstStep w ws s₀ → FirstWalk (p .first) true s₀ s₁ → FirstWalk (p .second) true s₁ s₂ → FirstWalk (p .third) true s₂ s₃
       → FirstWalk next true s₃ s₄ → FirstWalk row rest ws s₄

@@ -5,7 +5,7 @@ use mathlib.Core.List.{List, [], _∷_, _++_, map}
 use Prim.Native.Nat.{ℕ, suc, _+_, _*_, _/_, _≤_}
 use native.Mathlib.Nat.{div-le-self}
 use native.Mathlib.Omega.{arith}
-use lib.ListN.{length, getD}
+use lib.ListN.{length}
 use borrow.Author.Tests.{eq-eqb, ne-eqb}
 use Rattle.names.specs.declared.Names.{Names}
 use Rattle.widths.specs.declared.Width.{Width}
@@ -18,7 +18,7 @@ use Rattle.trees.specs.Trees.{treeAt}
 use Rattle.scopes.specs.Scopes as spec
 use Rattle.uses.specs.Uses.{define, assignedVars}
 use Rattle.gather.specs.declared.scope.Scope.{Scope}
-use Rattle.gather.specs.Sheets.{sheetAt, Accepted}
+use Rattle.gather.specs.Sheets.{sheetAt, Accepted, exprCount}
 use Rattle.gather.specs.Agrees.{Sets}
 use Rattle.used.specs.Own.{Holds, Owns}
 use Rattle.used.specs.Assigned.{leafAt, assigned-zero, assigned-row}
@@ -141,7 +141,7 @@ module _ (t : List ℕ) (v : Width) (k : Scope) where
     pub index-none : (row : ℕ) → row ≡ 0 → (i : ℕ) (used : Names) (ws : List ℕ) (a : ℕ) → IndexDefined i row used ws ws a a
     index-none row z i used ws a = defined-none v k i (names row) used ws a (λ s h. rw (z, assigned-zero t s ok))
 
-    module _ (row : ℕ) (ne : row ≡ 0 → ⊥) (high : row ≤ getD t 2 0) (w : Row) (is : w ≡ rowAt t row)
+    module _ (row : ℕ) (ne : row ≡ 0 → ⊥) (high : row ≤ exprCount t) (w : Row) (is : w ≡ rowAt t row)
         (inner : ℕ) (i-is : inner ≡ cond (isPattern w) (w .first) 0) (next : ℕ) (n-is : next ≡ w .next) where
       parts : (s : spec.Scope) → ((leafAt s w ++ names inner s) ++ names next s) ≡ names row s
       parts s = sym (rw (i-is, n-is, is) (assigned-row t s ok row (omega arith) high))

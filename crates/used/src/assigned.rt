@@ -5,21 +5,17 @@ use branches::next_of;
 use gather::scope::Scope;
 use names::Names;
 use records::Row;
+use records::kinds::ARRAY;
+use records::kinds::OBJECT;
+use records::kinds::VAR;
 use records::row_at;
 ghost use mathlib.Core.Path.{_≡_};
 ghost use mathlib.Core.Bool.{cond};
 ghost use Prim.Native.Nat.{_≤_, _<_};
-ghost use lib.ListN.{getD};
+ghost use Rattle.basics.specs.Limits as limits;
 ghost use Rattle.trees.specs.Kinds.{isPattern};
-ghost use Rattle.gather.specs.Sheets.{Accepted};
+ghost use Rattle.gather.specs.Sheets.{Accepted, exprCount};
 ghost use Rattle.used.specs.Assigned.{LeafStep, AssignedWalk};
-
-// The kinds of a variable, an array and an object.
-const VAR: u16 = 6;
-
-const ARRAY: u16 = 7;
-
-const OBJECT: u16 = 9;
 
 // The first part of an array or an object, 0 for any other row.
 pub fn pattern_of(w: Row) -> usize
@@ -36,7 +32,7 @@ pub fn pattern_of(w: Row) -> usize
 
 // A row: a variable of the query is a name.
 pub fn leaf_step(scope: Scope, w: Row, names: Names) -> Names
-    requires { ⌜ w .name < 512 ⌝ }
+    requires { ⌜ w .name < limits.perName ⌝ }
     ensures { λ r. ⌜ LeafStep scope w names r ⌝ }
 {
     if w.kind != VAR {
@@ -52,7 +48,7 @@ pub fn leaf_step(scope: Scope, w: Row, names: Names) -> Names
 // The pattern at a row, with the rest of its chain. Its names come to `names`.
 // A call on no row would only copy the scope and the names, so none is made.
 pub fn assigned_vars(tables: &[u16], scope: Scope, row: usize, names: Names) -> Names
-    requires { ⌜ Accepted (now tables) × (row ≤ getD (now tables) 2 0) ⌝ }
+    requires { ⌜ Accepted (now tables) × (row ≤ exprCount (now tables)) ⌝ }
     ensures { λ r. ⌜ AssignedWalk (now (tables .entry)) scope row names r ⌝ }
 {
     if row == 0 {

@@ -3,14 +3,15 @@
 use records::Row;
 ghost use Prim.Native.Nat.{_≤_, _<_};
 ghost use lib.ListN.{length};
+ghost use Rattle.basics.specs.Limits as limits;
 ghost use Rattle.used.specs.Firsts.{FirstUse};
 
 // A first use is the word 1 + line * LINE + column, and none is 0.
-const LINE: u64 = 65536;
+pub const LINE: u64 = 65536;
 
 // A use of a name. The first one stays.
 pub fn add_first_use(w: Row, firsts: &mut [u64])
-    requires { ⌜ (512 ≤ length (now firsts)) × (w .name < 512) ⌝ }
+    requires { ⌜ (limits.perName ≤ length (now firsts)) × (w .name < limits.perName) ⌝ }
     ensures { λ _. ⌜ FirstUse w (now (firsts .entry)) (now (firsts .exit)) ⌝ }
 {
     let name = w.name as usize;

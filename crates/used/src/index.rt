@@ -6,29 +6,27 @@ use branches::next_of;
 use gather::scope::Scope;
 use names::Names;
 use records::Row;
+use records::kinds::REF_BRACK;
+use records::kinds::VAR;
 use records::row_at;
 use widths::Width;
 use widths::store_set;
 ghost use mathlib.Core.Path.{_≡_};
 ghost use mathlib.Core.Bool.{cond};
 ghost use Prim.Native.Nat.{_+_, _*_, _≤_, _<_};
-ghost use lib.ListN.{length, getD};
+ghost use lib.ListN.{length};
+ghost use Rattle.basics.specs.Limits as limits;
 ghost use Rattle.widths.specs.Widths.{row};
 ghost use Rattle.trees.specs.Kinds.{isRefBrack};
-ghost use Rattle.gather.specs.Sheets.{Accepted};
+ghost use Rattle.gather.specs.Sheets.{Accepted, exprCount};
 ghost use Rattle.used.specs.Appended.{Pushed};
 ghost use Rattle.used.specs.Index.{LeafFits, LeafDefined, IndexFits, IndexDefined};
-
-// The kinds of a variable and a bracket.
-const VAR: u16 = 6;
-
-const BRACKET: u16 = 16;
 
 // The index of a bracket, 0 for any other row.
 pub fn index_of(w: Row) -> usize
     ensures { λ r. ⌜ r ≡ cond (isRefBrack w) (w .second) 0 ⌝ }
 {
-    if w.kind == BRACKET {
+    if w.kind == REF_BRACK {
         return w.second as usize;
     }
     0
@@ -62,7 +60,7 @@ fn define_leaf(
     definitions: &mut [u64],
     width: Width,
 ) -> usize
-    requires { ⌜ (w .name < 512) × LeafFits width scope w count (length (now definitions)) ⌝ }
+    requires { ⌜ (w .name < limits.perName) × LeafFits width scope w count (length (now definitions)) ⌝ }
     ensures { λ r. ⌜ LeafDefined width scope statement w used (now (definitions .entry)) (now (definitions .exit)) count r ⌝ }
 {
     if w.kind != VAR {
@@ -88,7 +86,7 @@ pub fn define_index(
     definitions: &mut [u64],
     width: Width,
 ) -> usize
-    requires { ⌜ Accepted (now tables) × (row ≤ getD (now tables) 2 0) × IndexFits (now tables) width scope row count (length (now definitions)) ⌝ }
+    requires { ⌜ Accepted (now tables) × (row ≤ exprCount (now tables)) × IndexFits (now tables) width scope row count (length (now definitions)) ⌝ }
     ensures { λ r. ⌜ IndexDefined (now (tables .entry)) width scope statement row used (now (definitions .entry)) (now (definitions .exit)) count r ⌝ }
 {
     if row == 0 {

@@ -6,11 +6,12 @@ use names::Names;
 use records::Row;
 ghost use Prim.Native.Nat.{_≤_, _<_};
 ghost use lib.ListN.{length};
+ghost use Rattle.basics.specs.Limits as limits;
 ghost use Rattle.used.specs.Own.{Owns, IsUse};
 
 // Is it a local or an unscoped name?
 pub fn owns(scope: Scope, name: usize) -> bool
-    requires { ⌜ name < 512 ⌝ }
+    requires { ⌜ name < limits.perName ⌝ }
     ensures { λ r. ⌜ Owns scope name r ⌝ }
 {
     if scope.locals.contains(name) {
@@ -21,7 +22,7 @@ pub fn owns(scope: Scope, name: usize) -> bool
 
 // Does the variable use a name of this query? `extras` are the names that the extra argument of the expression binds.
 pub fn is_use(tables: &[u16], scope: Scope, extras: Names, w: Row) -> bool
-    requires { ⌜ (8192 ≤ length (now tables)) × (w .name < 512) ⌝ }
+    requires { ⌜ (limits.tables ≤ length (now tables)) × (w .name < limits.perName) ⌝ }
     ensures { λ r. ⌜ IsUse (now (tables .entry)) scope extras w r ⌝ }
 {
     if is_special(tables, w.name) {

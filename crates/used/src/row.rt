@@ -9,22 +9,17 @@ use gather::special::is_input;
 use gather::special::is_special;
 use names::Names;
 use records::Row;
+use records::kinds::ARRAY_COMPR;
+use records::kinds::OBJECT_COMPR;
+use records::kinds::REF_BRACK;
+use records::kinds::VAR;
 ghost use mathlib.Core.Path.{_≡_};
 ghost use Prim.Native.Nat.{_≤_, _<_};
-ghost use lib.ListN.{length, getD};
+ghost use lib.ListN.{length};
+ghost use Rattle.basics.specs.Limits as limits;
 ghost use Rattle.trees.specs.Kinds.{isCompr};
-ghost use Rattle.gather.specs.Sheets.{Accepted};
+ghost use Rattle.used.specs.Asks.{AsksRow, AsksVar};
 ghost use Rattle.used.specs.Founds.{OwnUsed, RowUsed};
-
-// The kinds of a variable and a bracket.
-const VAR: u16 = 6;
-
-const BRACKET: u16 = 16;
-
-// The kinds of comprehensions: ArrayCompr is the first, ObjectCompr the last.
-const ARRAY_COMPR: u16 = 10;
-
-const OBJECT_COMPR: u16 = 12;
 
 pub fn is_compr(w: Row) -> bool
     ensures { λ r. ⌜ r ≡ isCompr w ⌝ }
@@ -37,7 +32,7 @@ pub fn is_compr(w: Row) -> bool
 
 // A variable of the query: a use, unless the extra argument binds it.
 fn use_own(extras: Names, w: Row, used: Used, firsts: &mut [u64]) -> Used
-    requires { ⌜ (w .name < 512) × (512 ≤ length (now firsts)) ⌝ }
+    requires { ⌜ (w .name < limits.perName) × (limits.perName ≤ length (now firsts)) ⌝ }
     ensures { λ r. ⌜ OwnUsed extras w used (now (firsts .entry)) r (now (firsts .exit)) ⌝ }
 {
     let name = w.name as usize;
@@ -59,7 +54,7 @@ fn use_var(
     used: Used,
     firsts: &mut [u64],
 ) -> Used
-    requires { ⌜ (8192 ≤ length (now tables)) × (w .kind ≡ 6) × (w .name < 512) × (row ≡ 0 → ⊥) × (row ≤ getD (now tables) 2 0) × (512 ≤ length (now firsts)) ⌝ }
+    requires { ⌜ AsksVar (now tables) row w (now firsts) ⌝ }
     ensures { λ r. ⌜ RowUsed (now (tables .entry)) scope extras row w used (now (firsts .entry)) r (now (firsts .exit)) ⌝ }
 {
     if is_special(tables, w.name) {
@@ -85,13 +80,13 @@ pub fn use_row(
     used: Used,
     firsts: &mut [u64],
 ) -> Used
-    requires { ⌜ Accepted (now tables) × (w .name < 512) × (w .second ≤ getD (now tables) 2 0) × (row ≡ 0 → ⊥) × (row ≤ getD (now tables) 2 0) × (512 ≤ length (now firsts)) ⌝ }
+    requires { ⌜ AsksRow (now tables) row w (now firsts) ⌝ }
     ensures { λ r. ⌜ RowUsed (now (tables .entry)) scope extras row w used (now (firsts .entry)) r (now (firsts .exit)) ⌝ }
 {
     if w.kind == VAR {
         return use_var(tables, scope, extras, row, w, used, firsts);
     }
-    if w.kind == BRACKET {
+    if w.kind == REF_BRACK {
         let index = w.second as usize;
         let names = assigned_vars(tables, scope, index, used.names);
         return used.with_names(names);

@@ -5,19 +5,17 @@ use crate::own::is_use;
 use gather::scope::Scope;
 use names::Names;
 use records::Row;
+use records::kinds::REF_BRACK;
+use records::kinds::VAR;
 ghost use Prim.Native.Nat.{_≤_, _<_};
-ghost use lib.ListN.{length, getD};
-ghost use Rattle.gather.specs.Sheets.{Accepted};
+ghost use lib.ListN.{length};
+ghost use Rattle.basics.specs.Limits as limits;
+ghost use Rattle.gather.specs.Sheets.{Accepted, exprCount};
 ghost use Rattle.used.specs.UsedVars.{UsedVar, UsedStep};
-
-// The kinds of a variable and a bracket.
-const VAR: u16 = 6;
-
-const BRACKET: u16 = 16;
 
 // A variable.
 fn used_var(tables: &[u16], scope: Scope, extras: Names, w: Row, names: Names) -> Names
-    requires { ⌜ (8192 ≤ length (now tables)) × (w .name < 512) ⌝ }
+    requires { ⌜ (limits.tables ≤ length (now tables)) × (w .name < limits.perName) ⌝ }
     ensures { λ r. ⌜ UsedVar (now (tables .entry)) scope extras w names r ⌝ }
 {
     if is_use(tables, scope, extras, w) {
@@ -29,13 +27,13 @@ fn used_var(tables: &[u16], scope: Scope, extras: Names, w: Row, names: Names) -
 
 // Any expression: a bracket uses the names in its index.
 pub fn used_step(tables: &[u16], scope: Scope, extras: Names, w: Row, names: Names) -> Names
-    requires { ⌜ Accepted (now tables) × (w .name < 512) × (w .second ≤ getD (now tables) 2 0) ⌝ }
+    requires { ⌜ Accepted (now tables) × (w .name < limits.perName) × (w .second ≤ exprCount (now tables)) ⌝ }
     ensures { λ r. ⌜ UsedStep (now (tables .entry)) scope extras w names r ⌝ }
 {
     if w.kind == VAR {
         return used_var(tables, scope, extras, w, names);
     }
-    if w.kind == BRACKET {
+    if w.kind == REF_BRACK {
         let index = w.second as usize;
         return assigned_vars(tables, scope, index, names);
     }

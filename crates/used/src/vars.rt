@@ -13,10 +13,11 @@ use records::row_at;
 use widths::Width;
 ghost use mathlib.Core.Path.{_≡_};
 ghost use Prim.Native.Nat.{_≤_};
-ghost use lib.ListN.{length, getD};
-ghost use Rattle.gather.specs.Sheets.{Accepted};
+ghost use lib.ListN.{length};
+ghost use Rattle.gather.specs.Sheets.{Accepted, exprCount};
+ghost use Rattle.used.specs.Asks.{AsksUsed};
 ghost use Rattle.used.specs.Index.{IndexFits, IndexDefined};
-ghost use Rattle.used.specs.Defining.{indexRow, Room, Fresh, Here, Walked, Gathered};
+ghost use Rattle.used.specs.Defining.{indexRow, Fresh, Here, Walked, Gathered};
 
 // No name so far; the rest stays.
 fn fresh(used: Used) -> Used
@@ -38,7 +39,7 @@ fn define_here(
     definitions: &mut [u64],
     width: Width,
 ) -> usize
-    requires { ⌜ Accepted (now tables) × (w .second ≤ getD (now tables) 2 0) × IndexFits (now tables) width scope (indexRow w) count (length (now definitions)) ⌝ }
+    requires { ⌜ Accepted (now tables) × (w .second ≤ exprCount (now tables)) × IndexFits (now tables) width scope (indexRow w) count (length (now definitions)) ⌝ }
     ensures { λ r. ⌜ IndexDefined (now (tables .entry)) width scope statement (indexRow w) inner (now (definitions .entry)) (now (definitions .exit)) count r ⌝ }
 {
     let index = index_of(w);
@@ -68,7 +69,7 @@ fn used_here(
     definitions: &mut [u64],
     width: Width,
 ) -> Used
-    requires { ⌜ Accepted (now tables) × (w .second ≤ getD (now tables) 2 0) × IndexFits (now tables) width scope (indexRow w) (part .count) (length (now definitions)) ⌝ }
+    requires { ⌜ Accepted (now tables) × (w .second ≤ exprCount (now tables)) × IndexFits (now tables) width scope (indexRow w) (part .count) (length (now definitions)) ⌝ }
     ensures { λ r. ⌜ Here (now (tables .entry)) width scope statement w own part (now (definitions .entry)) (now (definitions .exit)) r ⌝ }
 {
     let inner = part.names;
@@ -106,7 +107,7 @@ fn used_from(
     definitions: &mut [u64],
     width: Width,
 ) -> Used
-    requires { ⌜ Accepted (now tables) × (row ≤ getD (now tables) 2 0) × (512 ≤ length (now firsts)) × Room (now tables) width scope extras statement row rest (used .count) (length (now definitions)) ⌝ }
+    requires { ⌜ AsksUsed (now tables) width scope extras statement row rest (used .count) (now firsts) (now definitions) ⌝ }
     ensures { λ r. ⌜ Walked (now (tables .entry)) width scope extras statement row rest used (now (firsts .entry)) (now (definitions .entry)) r (now (firsts .exit)) (now (definitions .exit)) ⌝ }
 {
     if row == 0 {
@@ -191,7 +192,7 @@ pub fn used_vars(
     definitions: &mut [u64],
     width: Width,
 ) -> Used
-    requires { ⌜ Accepted (now tables) × (row ≤ getD (now tables) 2 0) × (512 ≤ length (now firsts)) × Room (now tables) width scope extras statement row rest count (length (now definitions)) ⌝ }
+    requires { ⌜ AsksUsed (now tables) width scope extras statement row rest count (now firsts) (now definitions) ⌝ }
     ensures { λ r. ⌜ Gathered (now (tables .entry)) width scope extras statement row rest count (now (firsts .entry)) (now (definitions .entry)) r (now (firsts .exit)) (now (definitions .exit)) ⌝ }
 {
     let names = Names::empty();

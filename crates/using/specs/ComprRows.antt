@@ -13,7 +13,7 @@ use Rattle.records.specs.declared.Row.{Row}
 use Rattle.trees.specs.Trees.{Tree, nil, node, thirdOf, rowOf, treeAt}
 use Rattle.trees.specs.Traverse.{nothing, enters, entered, traverse, comprs}
 use Rattle.sizes.specs.Lists.{concatMap-append}
-use Rattle.gather.specs.Sheets.{sheetAt, Accepted}
+use Rattle.gather.specs.Sheets.{sheetAt, Accepted, exprCount}
 use Rattle.gather.specs.Exprs.{exprBy, none-is, tree-is}
 use Rattle.using.specs.declared.Using.{Using}
 
@@ -74,7 +74,7 @@ module _ (t : List ℕ) where
     comprs-if false rest row at e none = rw e (record { is = inr refl; same = none-there rest ∙ sym (none refl) })
 
     -- The first expression and the rest of its chain.
-    module _ (row : ℕ) (some : row ≡ 0 → ⊥) (high : row ≤ getD t 2 0) where
+    module _ (row : ℕ) (some : row ≡ 0 → ⊥) (high : row ≤ exprCount t) where
       parts : traverse (exprBy t true row) ≡ traverse (exprBy t false row) ++ traverse (exprBy t true (rowAt t row .next))
       parts =
           rw (tree-is t ok row some high)

@@ -3,3 +3,4 @@ pub mod ComprRows
 pub mod Defined
 pub mod UsesVars
 pub mod UsesMods
+pub mod Asks

@@ -4,7 +4,6 @@ use mathlib.Core.Bool.{true, false}
 use mathlib.Core.List.{List, [], _∷_}
 use Prim.Native.Nat.{ℕ, suc, _≤_}
 use native.Mathlib.Omega.{arith}
-use lib.ListN.{getD}
 use Rattle.names.specs.Sets.{Empty, Union}
 use Rattle.names.specs.declared.Names.{Names}
 use Rattle.trees.specs.Lists.{concatMap}
@@ -17,7 +16,7 @@ use Rattle.sizes.specs.Sizes.{total}
 use Rattle.sizes.specs.Leaves.{bracketVars}
 use Rattle.sizes.specs.Adds.{step-if}
 use Rattle.sizes.specs.Using.{adds-gather-used-vars}
-use Rattle.gather.specs.Sheets.{sheetAt, Accepted}
+use Rattle.gather.specs.Sheets.{sheetAt, Accepted, exprCount}
 use Rattle.gather.specs.Exprs.{exprBy}
 use Rattle.gather.specs.Chains.{chainAt, chain-none, chain-row}
 use Rattle.used.specs.Own.{Holds}
@@ -64,7 +63,7 @@ module _ (t : List ℕ) (statement : ℕ) where
       comprs = comprs-here t true 0;
     })
 
-    module _ (some : row ≡ 0 → ⊥) (high : row ≤ getD t 2 0) (p : Progress) (firsts work : List ℕ)
+    module _ (some : row ≡ 0 → ⊥) (high : row ≤ exprCount t) (p : Progress) (firsts work : List ℕ)
         (ready : Ready t p firsts work (total bracketVars (chainAt t row))) where
       -- ---- room for the first expression and for the others
 

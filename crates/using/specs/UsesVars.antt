@@ -6,6 +6,7 @@ use mathlib.Core.Option.{none, some}
 use Prim.Native.Nat.{ℕ, zero, suc, _+_, _≤_}
 use native.Mathlib.Omega.{arith}
 use lib.ListN.{length, length-append}
+use Rattle.basics.specs.Limits as limits
 use Rattle.basics.specs.Truth.{not-both}
 use Rattle.names.specs.declared.Names.{Names}
 use Rattle.trees.specs.Sheet.{rowAt}
@@ -58,7 +59,7 @@ module _ (t : List ℕ) (extras : Names) (statement row : ℕ) (rest : Bool) (p 
     done f spans s a = guarded-sound f s (agree-sound t spans p firsts work s a fine)
 
     -- The row that is found stands in the tables.
-    pub undefined-low : (more : ℕ) → Ready t p firsts work more → Accepted t → (at : ℕ) → Undefined t (p .scope) row rest at → at ≤ 512
+    pub undefined-low : (more : ℕ) → Ready t p firsts work more → Accepted t → (at : ℕ) → Undefined t (p .scope) row rest at → at ≤ limits.expressions
     undefined-low more h ok at found =
         omega (arith, ok .within .few-exprs, found (h .state .scope) (whole (h .spans) (h .state) (h .agrees) .scope .sets) .high)
 

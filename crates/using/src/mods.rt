@@ -5,13 +5,10 @@ use crate::vars::use_vars;
 use frame::Progress;
 use gather::each::next_at;
 use names::Names;
-ghost use Prim.Native.Nat.{_≤_};
-ghost use lib.ListN.{length, getD};
 ghost use Rattle.sizes.specs.Sizes.{total};
 ghost use Rattle.sizes.specs.Leaves.{bracketVars};
-ghost use Rattle.gather.specs.Sheets.{Accepted};
 ghost use Rattle.gather.specs.Chains.{chainAt};
-ghost use Rattle.frame.specs.Frames.{Ready};
+ghost use Rattle.using.specs.Asks.{AsksUse};
 ghost use Rattle.using.specs.UsesMods.{UsesMods};
 
 // The names that they use come to `names`.
@@ -24,7 +21,7 @@ pub fn use_mods(
     firsts: &mut [u64],
     work: &mut [u64],
 ) -> Using
-    requires { ⌜ Accepted (now tables) × (row ≤ getD (now tables) 2 0) × (512 ≤ length (now firsts)) × Ready (now tables) p (now firsts) (now work) (total bracketVars (chainAt (now tables) row)) ⌝ }
+    requires { ⌜ AsksUse (now tables) row p (now firsts) (now work) (total bracketVars (chainAt (now tables) row)) ⌝ }
     ensures { λ r. ⌜ UsesMods (now (tables .entry)) statement row p names (now (firsts .entry)) (now (work .entry)) r (now (firsts .exit)) (now (work .exit)) ⌝ }
 {
     if row == 0 {

@@ -11,19 +11,20 @@ use used::found::Used;
 use used::vars::used_vars;
 ghost use mathlib.Core.Path.{_≡_};
 ghost use Prim.Native.Nat.{_≤_};
-ghost use lib.ListN.{length, getD};
+ghost use lib.ListN.{length};
+ghost use Rattle.basics.specs.Limits as limits;
 ghost use Rattle.trees.specs.Sheet.{rowAt};
 ghost use Rattle.sizes.specs.Leaves.{bracketVars};
-ghost use Rattle.gather.specs.Sheets.{Accepted};
 ghost use Rattle.gather.specs.Exprs.{exprBy};
-ghost use Rattle.frame.specs.Frames.{failed, Ready};
+ghost use Rattle.frame.specs.Frames.{failed};
 ghost use Rattle.frame.specs.declared.Fault.the-variants.{Undefined};
+ghost use Rattle.using.specs.Asks.{AsksUse};
 ghost use Rattle.using.specs.Defined.{Listed, Taken};
 ghost use Rattle.using.specs.UsesVars.{UsesVars};
 
 // The fault at an undefined variable.
 fn fail_undefined(tables: &[u16], row: usize, p: Progress) -> Progress
-    requires { ⌜ (8192 ≤ length (now tables)) × (row ≤ 512) ⌝ }
+    requires { ⌜ (limits.tables ≤ length (now tables)) × (row ≤ limits.expressions) ⌝ }
     ensures { λ r. ⌜ r ≡ failed p (Undefined (rowAt (now (tables .entry)) row .line) (rowAt (now (tables .entry)) row .col)) ⌝ }
 {
     let w = row_at(tables, row);
@@ -65,7 +66,7 @@ pub fn use_vars(
     firsts: &mut [u64],
     work: &mut [u64],
 ) -> Using
-    requires { ⌜ Accepted (now tables) × (row ≤ getD (now tables) 2 0) × (512 ≤ length (now firsts)) × Ready (now tables) p (now firsts) (now work) (bracketVars (exprBy (now tables) rest row)) × Listed extras ⌝ }
+    requires { ⌜ AsksUse (now tables) row p (now firsts) (now work) (bracketVars (exprBy (now tables) rest row)) × Listed extras ⌝ }
     ensures { λ r. ⌜ UsesVars (now (tables .entry)) extras statement row rest p (now (firsts .entry)) (now (work .entry)) r (now (firsts .exit)) (now (work .exit)) ⌝ }
 {
     if p.is_sound() {

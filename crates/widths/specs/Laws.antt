@@ -10,6 +10,7 @@ use lib.Dec.{lit≤, lit<}
 use lib.ListN.{length, getD, set, length-set}
 use lib.Seq.{getD-set-same, getD-set-other}
 use borrow.Author.Count.{below-none, below-more}
+use Rattle.basics.specs.Limits.{library, leastWork}
 use Rattle.basics.specs.Truth.{lt-cases}
 use Rattle.basics.specs.Lists.{filter}
 use Rattle.basics.specs.Ranges.{counted, range}
@@ -84,12 +85,12 @@ at-most Two = lit≤ tt
 at-most Eight = lit≤ tt
 
 -- And a bit for every name.
-pub few-names : (w : Width) → names w ≤ 511
+pub few-names : (w : Width) → names w ≤ library .names
 few-names Two = lit≤ tt
 few-names Eight = lit≤ tt
 
 -- Work for every width: question 6 needs no more.
-pub enough-work : (w : Width) → 8192 ≤ work w
+pub enough-work : (w : Width) → leastWork ≤ work w
 enough-work Two = lit≤ tt
 enough-work Eight = lit≤ tt
 

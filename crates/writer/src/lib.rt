@@ -4,6 +4,7 @@ ghost use mathlib.Core.Path.{_≡_};
 ghost use mathlib.Core.List.{[], _∷_, _++_};
 ghost use Prim.Native.Nat.{_≤_};
 ghost use lib.ListN.{length};
+ghost use Rattle.basics.specs.Limits as limits;
 ghost use Rattle.writer.specs.Writes.{Puts};
 ghost use Rattle.writer.specs.Decimal.{decimal, PutsNumber};
 
@@ -44,7 +45,7 @@ fn put_number(answer: &mut [u8], at: usize, n: usize) -> usize
 
 // A value and a byte behind it: a space, or the end of the line.
 pub fn put_value(answer: &mut [u8], at: usize, n: usize, end: u8) -> usize
-    requires { ⌜ n ≤ 65535 ⌝ }
+    requires { ⌜ n ≤ limits.value ⌝ }
     ensures { λ r. ⌜ Puts (now (answer .entry)) at (decimal n ++ (end ∷ [])) (now (answer .exit)) r ⌝ }
 {
     let behind = put_number(answer, at, n);

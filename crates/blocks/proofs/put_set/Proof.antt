@@ -16,10 +16,10 @@ same : (c : tie.After-words) → c .words .result * c .before .before .args .s �
 same c = ap (λ (n : ℕ). n * c .before .before .args .s) (c .words .ensures)
 
 low : (c : tie.After-words) → 4 + c .words .result * c .before .before .args .s + words (c .before .before .args .width) ≤ block (c .before .before .args .width)
-low c = omega (arith, same c, set-in (c .before .before .args .width) (c .before .before .args .s) (c .before .before .pre .3))
+low c = omega (arith, same c, set-in (c .before .before .args .width) (c .before .before .args .s) (c .before .before .pre .1))
 
 few : (c : tie.After-words) → block (c .before .before .args .width) ≤ 9088
-few c = let start = c .before .before in omega (arith, block-in (start .args .width) (start .args .q) (start .pre .1) (start .pre .2), places-few (start .args .width))
+few c = let start = c .before .before in omega (arith, block-in (start .args .width) (start .args .q) (start .pre .0 .from) (start .pre .0 .to), places-few (start .args .width))
 
 mul-place-of : tie.Need-mul-place-of
 mul-place-of c = record { fits = omega (arith, low c, few c) }
@@ -28,7 +28,7 @@ add-place-of : tie.Need-add-place-of
 add-place-of c = record { fits = omega (arith, low c, few c) }
 
 place-of-requires : tie.Need-place-of-requires
-place-of-requires c κs = let start = c .before .before in (start .pre .1, start .pre .2, omega (arith, low c))
+place-of-requires c κs = let start = c .before .before in (start .pre .0 .from, start .pre .0 .to, omega (arith, low c))
 
 store-set-requires : tie.Need-store-set-requires
 store-set-requires c κs =
@@ -36,7 +36,7 @@ store-set-requires c κs =
     let w = p .before in
     let start = w .before .before in
     let v = start .args .width in
-    omega (arith, p .place-of .ensures, low w, block-in v (start .args .q) (start .pre .1) (start .pre .2), answers-are v, start .pre .0)
+    omega (arith, p .place-of .ensures, low w, block-in v (start .args .q) (start .pre .0 .from) (start .pre .0 .to), answers-are v, start .pre .0 .room)
 
 same-length : tie.Need-same-length
 same-length c = search needs

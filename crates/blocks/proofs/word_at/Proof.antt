@@ -8,20 +8,20 @@ use Rattle.blocks.proofs.word_at.Statement.{statement}
 use Rattle.blocks.proofs.word_at.Tie as tie
 
 place-of-requires : tie.Need-place-of-requires
-place-of-requires c κs = let start = c .before in (start .pre .1, start .pre .2, omega (arith, start .pre .3, block-few (start .args .width) .0))
+place-of-requires c κs = let start = c .before in (start .pre .0 .from, start .pre .0 .to, omega (arith, start .pre .1, block-few (start .args .width) .0))
 
 mul-result : tie.Need-mul-result
 mul-result c =
     let start = c .before .before in
     let v = start .args .width in
-    record { fits = omega (arith, c .place-of .ensures, start .pre .3, block-few v .0, block-in v (start .args .q) (start .pre .1) (start .pre .2), places-few v) }
+    record { fits = omega (arith, c .place-of .ensures, start .pre .1, block-few v .0, block-in v (start .args .q) (start .pre .0 .from) (start .pre .0 .to), places-few v) }
 
 shared-slice-read-result : tie.Need-shared-slice-read-result
 shared-slice-read-result c =
     let p = c .before in
     let start = p .before .before in
     let v = start .args .width in
-    omega (arith, p .place-of .ensures, start .pre .3, block-few v .0, block-in v (start .args .q) (start .pre .1) (start .pre .2), answers-are v, start .pre .0)
+    omega (arith, p .place-of .ensures, start .pre .1, block-few v .0, block-in v (start .args .q) (start .pre .0 .from) (start .pre .0 .to), answers-are v, start .pre .0 .room)
 
 returns : tie.Need-returns
 returns c =

@@ -57,9 +57,11 @@ answer-sheet-requires c κs =
     let k = c .before .before .before in
     let w = width (taken k) in
     let took = taken k .take in (
-      lent-accepted w _ _ _ _ _ (took .ensures) (read k),
-      lent-names w _ _ _ _ _ (took .ensures) (read k),
-      omega (arith, work-enough w _ _ _ _ _ (took .ensures) (read k), took .kept .1 .1 .0),
+      record {
+        accepted = lent-accepted w _ _ _ _ _ (took .ensures) (read k);
+        names-few = lent-names w _ _ _ _ _ (took .ensures) (read k);
+        work-room = omega (arith, work-enough w _ _ _ _ _ (took .ensures) (read k), took .kept .1 .1 .0);
+      },
       c .before .before .before .before .before .before .before .before .before .before .before .before .before .before .before .before .pre,
     )
 

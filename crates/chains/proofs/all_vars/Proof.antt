@@ -10,7 +10,7 @@ number-of-requires c κs = search needs
 returns : tie.Need-returns
 returns c =
     let a = c .before .before .before .args in
-    number-vars (a .counts) (a .tables .now) (a .work .now) (c .before .before .before .pre .0) (a .row) (c .number-of .result) (c .number-of .ensures)
+    number-vars (a .counts) (a .tables .now) (a .work .now) (c .before .before .before .pre .chained) (a .row) (c .number-of .result) (c .number-of .ensures)
 
 pub all-vars-spec : {M : Type 1} → statement M
 all-vars-spec = tie.close (tie.spec number-of-requires returns)

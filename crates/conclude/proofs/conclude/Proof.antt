@@ -83,12 +83,19 @@ store-answer-requires c κs =
     let count = c .before .before .before .before .before .before .before .before .before .before .before .before .count-stmts in
     let s = c .before .before .before .before .before .before .before .schedule in
     let m = c .before .before .before .answers-of in (
-      (lent-long v w _ (m .ensures) enough, pre .0 .1, omega (arith, pre .0 .2, pre .0 .0 .within .few-queries), pre .0 .3),
       (
-        lent-room v w _ (m .ensures) enough _ (pre .1 .1) (roomy _ (pre .0 .0)) _ (pre .0 .1) (pre .0 .2) _ (count .ensures),
-        omega (arith, count .ensures, count-few _ (pre .0 .0) (start .args .query), s .kept .1 .1 .1 .0),
-        entries-in _ _ _ _ _ _ _ (s .ensures) (s .kept .1 .1 .1 .1 .0),
+        record {
+          room = lent-long v w _ (m .ensures) enough;
+          from = pre .0 .from;
+          to = omega (arith, pre .0 .to, pre .0 .accepted .within .few-queries);
+        },
+        pre .0 .spans-room,
       ),
+      record {
+        places-room = lent-room v w _ (m .ensures) enough _ (pre .1 .1) (roomy _ (pre .0 .accepted)) _ (pre .0 .from) (pre .0 .to) _ (count .ensures);
+        ordered = omega (arith, count .ensures, count-few _ (pre .0 .accepted) (start .args .query), s .kept .1 .1 .1 .0);
+        marked = entries-in _ _ _ _ _ _ _ (s .ensures) (s .kept .1 .1 .1 .1 .0);
+      },
     )
 
 same-length : tie.Need-same-length
@@ -108,7 +115,7 @@ returns c =
     let m = c .before .before .before .before .before .before .answers-of in
     let last = c .before .before .store-answer in
     let p = last .last .0 in
-    concluded v (a .tables .now) (pre .0 .0) (roomy _ (pre .0 .0)) w (a .query) (pre .0 .1) (pre .0 .2) (a .scope) (a .spans .now)
+    concluded v (a .tables .now) (pre .0 .accepted) (roomy _ (pre .0 .accepted)) w (a .query) (pre .0 .from) (pre .0 .to) (a .scope) (a .spans .now)
     (a .count) (pre .1 .0) (count .result) (count .ensures) (s .result) _ _ (scheduled-rows v w _ (a .count) _ _ _ _ (row .ensures) (s .ensures))
     _ (c .before .before .before .before .before .before .before .is-placed .ensures) _ (lent-is v w _ (m .ensures) enough) p (last .ensures) _
     (back-answers v w _ (m .ensures) enough p (last .kept .0))

@@ -1,4 +1,5 @@
 -- The base is the word of the block, so what is written is the query's answer.
+use native.Mathlib.Omega.{arith}
 use borrow.Author.Needs.{needs}
 use Rattle.conclude.specs.Concluded.{answer-written}
 use Rattle.conclude.proofs.store_answer.Statement.{statement}
@@ -11,7 +12,9 @@ store-block-requires : tie.Need-store-block-requires
 store-block-requires c κs = search needs
 
 store-places-requires : tie.Need-store-places-requires
-store-places-requires c κs = search needs
+store-places-requires c κs =
+    let start = c .before .before .before .before .before .before .before .before .before .before .before in
+    (search needs, record { places-room = omega (arith, start .pre .1 .places-room, c .before .before .before .before .before .word-at .ensures); ordered = start .pre .1 .ordered; marked = start .pre .1 .marked })
 
 same-length : tie.Need-same-length
 same-length c = search needs

@@ -18,7 +18,7 @@ record-each-requires c κs =
     let asked = c .before .before .before in
     let start = c .before .before .before .before .before .before .before .before in
     assign-fits _ _ (start .args .check) (start .args .u) _ _ _ (asked .checked .ensures) _ _ (c .before .before .empty .ensures)
-    (c .before .assigned-in .ensures) (start .pre .3)
+    (c .before .assigned-in .ensures) (start .pre .ready)
 
 same-length : tie.Need-same-length
 same-length c = search needs

@@ -16,7 +16,7 @@ conclude-requires : tie.Need-conclude-requires
 conclude-requires c κs =
     let pre = c .before .before .before .before .before .before .before .pre in
     let fine = sym (c .before .before .before .is-sound .ensures) ∙ c .before .before .if1 .taken in
-    ((pre .0, pre .1, pre .2, pre .3), (pre .4, pre .5 fine))
+    (pre .0, (pre .1, pre .2 fine))
 
 same-length : tie.Need-same-length
 same-length c = search needs

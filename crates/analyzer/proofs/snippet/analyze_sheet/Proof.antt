@@ -10,7 +10,7 @@ set-bases-requires : tie.Need-set-bases-requires
 set-bases-requires c κs =
     let start = c .before .before .before in
     let pre = start .pre in
-    (pre .0, pre .2, work-fits (start .args .width) _ 0 (pre .3) (omega arith) .enough)
+    (pre .0 .accepted, pre .0 .names-few, work-fits (start .args .width) _ 0 (pre .0 .work-room) (omega arith) .enough)
 
 slice-aggregate-analyze-query : tie.Need-slice-aggregate-analyze-query
 slice-aggregate-analyze-query c = search needs
@@ -19,7 +19,7 @@ analyze-query-requires : tie.Need-analyze-query-requires
 analyze-query-requires c κs =
     let pre = c .before .before .before .before .before .before .before .before .pre in
     let bases = c .before .before .before .before .set-bases in
-    (pre .0, omega arith, outer-asks _ _ (pre .0) _ nothing-around _ (bases .ensures) (pre .1) (omega (arith, pre .3, bases .kept .1 .0)))
+    (pre .0 .accepted, omega arith, outer-asks _ _ (pre .0 .accepted) _ nothing-around _ (bases .ensures) (pre .1) (omega (arith, pre .0 .work-room, bases .kept .1 .0)))
 
 same-length : tie.Need-same-length
 same-length c = search needs
@@ -28,7 +28,7 @@ returns : tie.Need-returns
 returns c =
     let pre = c .before .before .before .before .before .before .before .before .before .before .before .pre in
     let bases = c .before .before .before .before .before .before .before .set-bases in
-    analysed _ _ (pre .0) _ nothing-around _ (bases .ensures) _ _ (c .before .before .analyze-query .ensures)
+    analysed _ _ (pre .0 .accepted) _ nothing-around _ (bases .ensures) _ _ (c .before .before .analyze-query .ensures)
 
 pub analyze-sheet-spec : {M : Type 1} → statement M
 analyze-sheet-spec =

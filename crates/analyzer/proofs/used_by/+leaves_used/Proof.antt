@@ -47,12 +47,12 @@ known m = (
 returns : (m : ℕ) → lts.Need-returns (known m) (here m) leaves-used.Post
 returns m c =
     let start = c .before .before .before in
-    leaves-used-none _ (start .args .p .width) (start .args .p .scope) (start .args .work .now) (start .pre .1 .0) _ (c .if1 .taken) (start .args .mods) _
+    leaves-used-none _ (start .args .p .width) (start .args .p .scope) (start .args .work .now) (start .pre .1 .accepted) _ (c .if1 .taken) (start .args .mods) _
 
 row-at-requires : (m : ℕ) → lts.Need-row-at-requires (known m) (here m) leaves-used.Post
 row-at-requires m c κs =
     let pre = c .before .before .before .pre .1 in
-    (pre .0 .room, row-low _ (pre .0) _ (c .if1 .left) (pre .1))
+    (pre .accepted .room, row-low _ (pre .accepted) _ (c .if1 .left) (pre .row-in))
 
 -- The row that was read.
 row-is : (m : ℕ) (c : lts.After-row-at (known m) (here m) leaves-used.Post)
@@ -66,14 +66,19 @@ non-var-requires : (m : ℕ) → lts.Need-non-var-requires (known m) (here m) le
 non-var-requires m c κs =
     let r = c .before in
     let pre = r .before .before .before .before .pre .1 in
-    (pre .0 .room, rw (row-is m r) (low-name _ (pre .0) _ (r .before .if1 .left) (pre .1)))
+    (pre .accepted .room, rw (row-is m r) (low-name _ (pre .accepted) _ (r .before .if1 .left) (pre .row-in)))
 
 other-requires : (m : ℕ) → lts.Need-other-used-requires (known m) (here m) leaves-used.Post
 other-requires m c κs =
     let n = c .before in
     let start = n .before .before .before .before .before .before in
     let pre = start .pre .1 in
-    (pre .0, non-var-low (start .args .tables .now) (start .args .p .scope) _ (n .before .before .row-at .result) _ (n .non-var .ensures) _ (pre .1), pre .2, pre .3)
+    record {
+      accepted = pre .accepted;
+      row-in = non-var-low (start .args .tables .now) (start .args .p .scope) _ (n .before .before .row-at .result) _ (n .non-var .ensures) _ (pre .row-in);
+      mods-in = pre .mods-in;
+      answers-room = pre .answers-room;
+    }
 
 ready : (m : ℕ) (c : lts.After-pattern-of (known m) (here m) leaves-used.Post)
     → let t = c .before .before .before .before .before .args .tables .now in
@@ -81,14 +86,14 @@ ready : (m : ℕ) (c : lts.After-pattern-of (known m) (here m) leaves-used.Post)
 ready m c =
     let r = c .before in
     let start = r .before .before .before .before in
-    pattern-calls _ (start .pre .1 .0) _ (r .before .if1 .left) (start .pre .1 .1) m (start .pre .0) true _ (row-is m r) _ (c .pattern-of .ensures) _ refl
+    pattern-calls _ (start .pre .1 .accepted) _ (r .before .if1 .left) (start .pre .1 .row-in) m (start .pre .0) true _ (row-is m r) _ (c .pattern-of .ensures) _ refl
 
 items-requires : (m : ℕ) → lts.Need-leaves-used-requires (known m) (here m) leaves-used.Post
 items-requires m c κs =
     let p = c .before .before .before in
     let pre = p .before .before .before .before .before .pre .1 in
     let k = ready m p .0 in
-    (k .0, (pre .0, k .1, pre .2, pre .3))
+    (k .0, record { accepted = pre .accepted; row-in = k .1; mods-in = pre .mods-in; answers-room = pre .answers-room })
 
 -- The row itself and the parts of a pattern, each walked where there is one.
 other-walk : (m : ℕ) (c : lts.Joined2 (known m) (here m) leaves-used.Post)
@@ -105,7 +110,7 @@ items-walk : (m : ℕ) (c : lts.Joined3 (known m) (here m) leaves-used.Post)
 items-walk m c =
     let start = c .before .before .before .before .before .before .before .before in
     let a = start .args in
-    guarded (λ n. LeavesUsed (a .tables .now) (a .p .width) (a .p .scope) n (a .mods) (a .work .now)) (leaves-used-none (a .tables .now) (a .p .width) (a .p .scope) (a .work .now) (start .pre .1 .0) 0 refl (a .mods)) _ _ _
+    guarded (λ n. LeavesUsed (a .tables .now) (a .p .width) (a .p .scope) n (a .mods) (a .work .now)) (leaves-used-none (a .tables .now) (a .p .width) (a .p .scope) (a .work .now) (start .pre .1 .accepted) 0 refl (a .mods)) _ _ _
     (λ w. (_, w .1 .ensures, w .2)) (λ w. (w .0 .left, w .1)) (c .if3 .came)
 
 -- The turn of a row, with the walk over the rest of its chain.
@@ -117,14 +122,14 @@ turned m c b rest =
     let n = c .before .before in
     let r = n .before .before in
     let start = r .before .before .before .before in
-    leaves-used-turn _ (start .args .p .width) (start .args .p .scope) (start .args .work .now) (start .pre .1 .0) _ (r .before .if1 .left) (start .pre .1 .1) _ (row-is m r) _ (n .before .pattern-of .ensures) _
+    leaves-used-turn _ (start .args .p .width) (start .args .p .scope) (start .args .work .now) (start .pre .1 .accepted) _ (r .before .if1 .left) (start .pre .1 .row-in) _ (row-is m r) _ (n .before .pattern-of .ensures) _
     (n .non-var .ensures) (start .args .mods) _ _ _ _ (other-walk m (c .before)) (items-walk m c) rest
 
 returns-2 : (m : ℕ) → lts.Need-returns-2 (known m) (here m) leaves-used.Post
 returns-2 m c =
     let start = c .before .before .before .before .before .before .before .before .before .before in
     let a = start .args in
-    turned m (c .before .before) _ (leaves-used-none (a .tables .now) (a .p .width) (a .p .scope) (a .work .now) (start .pre .1 .0) _ (c .if4 .taken) (a .mods) _)
+    turned m (c .before .before) _ (leaves-used-none (a .tables .now) (a .p .width) (a .p .scope) (a .work .now) (start .pre .1 .accepted) _ (c .if4 .taken) (a .mods) _)
 
 cast-next : (m : ℕ) → lts.Need-cast-leaves-used (known m) (here m) leaves-used.Post
 cast-next m c = search needs
@@ -134,7 +139,7 @@ next-requires m c κs =
     let p = c .before .before .before .before .before .before in
     let pre = p .before .before .before .before .before .pre .1 in
     let k = ready m p .1 in
-    (k .0, (pre .0, k .1, pre .2, pre .3))
+    (k .0, record { accepted = pre .accepted; row-in = k .1; mods-in = pre .mods-in; answers-room = pre .answers-room })
 
 returns-3 : (m : ℕ) → lts.Need-returns-3 (known m) (here m) leaves-used.Post
 returns-3 m c = turned m (c .before .before .before .before) _ (c .leaves-used2 .ensures)

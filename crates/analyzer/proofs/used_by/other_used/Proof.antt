@@ -28,7 +28,7 @@ returns-2 c =
     let args = start .args in
     other-one (args .tables .now) (args .width) (args .scope) (args .work .now) _ (none .before .if1 .left) (args .mods) _ _ _ _ _ (none .empty .ensures)
     (own .before .used-names .ensures) (own .comprs-used .ensures)
-    (used-none (args .tables .now) (start .pre .0) (args .width) (args .scope) (args .work .now) (args .mods) (c .if2 .taken) true (own .comprs-used .result))
+    (used-none (args .tables .now) (start .pre .accepted) (args .width) (args .scope) (args .work .now) (args .mods) (c .if2 .taken) true (own .comprs-used .result))
 
 comprs-used-requires-2 : tie.Need-comprs-used-requires-2
 comprs-used-requires-2 c κs = search needs

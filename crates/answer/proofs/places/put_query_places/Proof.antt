@@ -25,7 +25,7 @@ abbrev μ-loop : tie.MeasureT-loop
 bounds : (c : tie.Else1 Inv-loop μ-loop) → (let start = c .before .before .before .before in Bounds (start .args .width) (start .args .answers .now) (start .args .q))
 bounds c =
     let start = c .before .before .before .before in
-    start .pre .3 (start .args .q) (start .pre .1) (start .pre .2) (omega (arith, c .if1 .left, c .before .word-at .ensures))
+    start .pre .1 (start .args .q) (start .pre .0 .from) (start .pre .0 .to) (omega (arith, c .if1 .left, c .before .word-at .ensures))
 
 word-at-requires : tie.Need-word-at-requires Inv-loop μ-loop
 word-at-requires c κs = search needs
@@ -53,7 +53,7 @@ held c =
 statement-at-requires : tie.Need-statement-at-requires Inv-loop μ-loop
 statement-at-requires c κs =
     let start = c .before .before .before .before .before .before .before .before in
-    (start .pre .0, omega (arith, bounds (c .before .before .before .before) .room, c .before .before .word-at3 .ensures, c .before .before .before .word-at2 .ensures, c .loop-test .taken))
+    (start .pre .0 .room, omega (arith, bounds (c .before .before .before .before) .room, c .before .before .word-at3 .ensures, c .before .before .before .word-at2 .ensures, c .loop-test .taken))
 
 put-four-requires : tie.Need-put-four-requires Inv-loop μ-loop
 put-four-requires c κs =
@@ -61,7 +61,7 @@ put-four-requires c κs =
     let taken = c .before .before .loop-test .taken in
     let count = c .before .before .before .before .before .word-at2 .ensures in
     let low = known .place (c .before .before .before .loop .k) (omega (arith, count, taken)) in
-    (omega arith, omega (arith, known .room, count, taken), omega (arith, low, held (c .before)), omega arith)
+    record { first = omega arith; second = omega (arith, known .room, count, taken); third = omega (arith, low, held (c .before)); fourth = omega arith }
 
 add-k : tie.Need-add-k Inv-loop μ-loop
 add-k c = omega (arith, bounds (c .before .before .before .before .before .before .before .before .before) .room, c .before .before .before .before .before .before .before .before .word-at2 .ensures, c .before .before .before .before .before .loop-test .taken)

@@ -32,7 +32,7 @@ put-three-requires-2 : tie.Need-put-three-requires-2
 put-three-requires-2 c κs =
     let start = c .before .before .before .before .before .before in
     let state = c .before .before .before .word-at .ensures in
-    let known = start .pre .3 (start .args .q) (start .pre .1) (start .pre .2) (omega (arith, c .before .before .if1 .left, state)) in
+    let known = start .pre .1 (start .args .q) (start .pre .0 .from) (start .pre .0 .to) (omega (arith, c .before .before .if1 .left, state)) in
     (omega arith, omega (arith, known .state, state), omega (arith, known .input, c .before .word-at2 .ensures))
 
 same-length-2 : tie.Need-same-length-2

@@ -30,15 +30,21 @@ span-at-requires : tie.Need-span-at-requires Inv-loop μ-loop
 span-at-requires c κs =
     let loop = c .before .loop in
     let start = c .before .before .before .before .before .before in
-    (start .pre .0, start .pre .1, start .pre .2, local-low (start .args .width) (start .args .answers .now) (start .args .q) _ (c .before .before .before .set-at .ensures) (loop .x) (loop .inv .here (c .loop-test .taken)))
+    (start .pre .0, local-low (start .args .width) (start .args .answers .now) (start .args .q) _ (c .before .before .before .set-at .ensures) (loop .x) (loop .inv .here (c .loop-test .taken)))
 
 put-five-requires : tie.Need-put-five-requires Inv-loop μ-loop
 put-five-requires c κs =
     let loop = c .before .before .before .loop in
     let start = c .before .before .before .before .before .before .before .before in
     let local = is-local (start .args .width) (start .args .answers .now) (start .args .q) _ (c .before .before .before .before .before .set-at .ensures) (loop .x) (loop .inv .here (c .before .before .loop-test .taken)) in
-    let span = start .pre .3 .span (loop .x) local in
-    (omega (arith, start .pre .2), omega arith, omega (arith, c .before .before .loop-test .taken), omega (arith, span, c .before .span-at .ensures), omega arith)
+    let span = start .pre .1 .span (loop .x) local in
+    record {
+      first = omega (arith, start .pre .0 .to);
+      second = omega arith;
+      third = omega (arith, c .before .before .loop-test .taken);
+      fourth = omega (arith, span, c .before .span-at .ensures);
+      fifth = omega arith;
+    }
 
 add-next : tie.Need-add-next Inv-loop μ-loop
 add-next c = search needs

@@ -33,7 +33,13 @@ loop-holds c v is = listed-first _ _ (name-none v _ _ _ _ is) _ _ _ (c .next .en
 put-five-requires : tie.Need-put-five-requires Inv-loop μ-loop
 put-five-requires c κs =
     let start = c .before .before .before .before .before .before .before in
-    (omega (arith, start .pre .2), omega (arith, start .pre .4), omega (arith, c .before .loop-test .taken), omega arith, omega arith)
+    record {
+      first = omega (arith, start .pre .0 .to);
+      second = omega (arith, start .pre .2);
+      third = omega (arith, c .before .loop-test .taken);
+      fourth = omega arith;
+      fifth = omega arith;
+    }
 
 add-next : tie.Need-add-next Inv-loop μ-loop
 add-next c = search needs

@@ -17,8 +17,8 @@ returns c = puts-as _ _ _ _ _ _ (sym (sets-never _ _ _ (sym (c .before .word-at 
 put-locals-requires : tie.Need-put-locals-requires
 put-locals-requires c κs =
     let start = c .before .before .before .before .before in
-    let known = start .pre .3 (start .args .q) (start .pre .1) (start .pre .2) (omega (arith, c .before .if1 .left, c .before .before .word-at .ensures)) in
-    (start .pre .0, start .pre .1, start .pre .2, known)
+    let known = start .pre .1 (start .args .q) (start .pre .0 .from) (start .pre .0 .to) (omega (arith, c .before .if1 .left, c .before .before .word-at .ensures)) in
+    (start .pre .0, known)
 
 put-names-requires : tie.Need-put-names-requires
 put-names-requires c κs = search needs

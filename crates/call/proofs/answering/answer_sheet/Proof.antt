@@ -23,7 +23,7 @@ returns : tie.Need-returns
 returns c =
     let start = c .before .before .before .before .before .before .before .before .before .before in
     faulty _ _ _ _ (c .before .before .before .before .before .analyze-sheet .ensures) (sym (c .before .before .is-sound .ensures) ∙ not-true _ (c .before .if1 .taken)) _ _
-    (c .of-fault .ensures) _ (start .pre .3)
+    (c .of-fault .ensures) _ (start .pre .1)
 
 shared-slice-read-write-answer : tie.Need-shared-slice-read-write-answer
 shared-slice-read-write-answer c = search needs
@@ -34,12 +34,12 @@ cast-write-answer c = search needs
 write-answer-requires : tie.Need-write-answer-requires
 write-answer-requires c κs =
     let start = c .before .before .before .before .before .before .before .before .before .before .before .before in
-    let fault = c .before .before .before .before .before .before .before in (
-      omega (arith, start .pre .2, fault .analyze-sheet .kept .1 .0, answers-in (start .args .width)),
-      start .pre .0 .within .few-queries,
-      answers-sound _ _ _ _ (fault .analyze-sheet .ensures) (sym (c .before .before .before .before .is-sound .ensures) ∙ not-false _ (c .before .before .before .if1 .left)),
-      start .pre .3,
-    )
+    let fault = c .before .before .before .before .before .before .before in record {
+      answers-room = omega (arith, start .pre .0 .work-room, fault .analyze-sheet .kept .1 .0, answers-in (start .args .width));
+      queries-few = start .pre .0 .accepted .within .few-queries;
+      sound = answers-sound _ _ _ _ (fault .analyze-sheet .ensures) (sym (c .before .before .before .before .is-sound .ensures) ∙ not-false _ (c .before .before .before .if1 .left));
+      zeros = start .pre .1;
+    }
 
 same-length-2 : tie.Need-same-length-2
 same-length-2 c = search needs

@@ -35,9 +35,9 @@ put-answer-requires c κs =
     let v = start .args .width in
     let w = start .args .work .now in
     let lent = lent-answers v _ (count .answers-of .ensures) w in (
-      omega (arith, start .pre .0, ap length lent, length-drop (length w - answers v) w),
-      start .pre .1,
-      subst (Sound v) (sym lent) (start .pre .2),
+      omega (arith, start .pre .answers-room, ap length lent, length-drop (length w - answers v) w),
+      start .pre .queries-few,
+      subst (Sound v) (sym lent) (start .pre .sound),
     )
 
 clear-bytes-requires : tie.Need-clear-bytes-requires
@@ -52,7 +52,7 @@ returns c =
     let count = put .before .before .before in
     let start = count .before .before .before in
     λ schedules stored.
-    fits-none (start .args .width) _ (count .answers-of .ensures) (start .args .work .now) _ _ (start .pre .3) _ _ (put .put-answer .ensures) schedules stored (c .before .before .before .before .if1 .taken) _ (c .before .before .clear-bytes .ensures)
+    fits-none (start .args .width) _ (count .answers-of .ensures) (start .args .work .now) _ _ (start .pre .zeros) _ _ (put .put-answer .ensures) schedules stored (c .before .before .before .before .if1 .taken) _ (c .before .before .clear-bytes .ensures)
 
 same-length-2 : tie.Need-same-length-2
 same-length-2 c = search needs
@@ -63,7 +63,7 @@ returns-2 c =
     let count = put .before .before .before in
     let start = count .before .before .before in
     λ schedules stored.
-    fits (start .args .width) _ (count .answers-of .ensures) (start .args .work .now) _ _ (start .pre .3) _ _ (put .put-answer .ensures) schedules stored (c .if1 .left)
+    fits (start .args .width) _ (count .answers-of .ensures) (start .args .work .now) _ _ (start .pre .zeros) _ _ (put .put-answer .ensures) schedules stored (c .if1 .left)
 
 pub write-answer-spec : {M : Type 1} → statement M
 write-answer-spec =

@@ -26,7 +26,7 @@ rise-requires c κs =
     let start = c .before .before .before .before .before .before .before .before .before .before in
     let in-range = start .pre .2 (sym (c .before .before .before .before .before .before .before .is-compr .ensures) ∙ c .before .before .before .before .before .before .if1 .taken) in
     let same = ap (λ (q : Progress). answers (q .width)) (c .before .before .before .fail .ensures) in
-    (start .pre .0, omega (arith, start .pre .1, same), in-range .0, in-range .1)
+    (start .pre .0, record { room = omega (arith, start .pre .1, same); from = in-range .0; to = in-range .1 })
 
 same-length : tie.Need-same-length
 same-length c = search needs

@@ -18,7 +18,7 @@ unscheduled-requires : tie.Need-unscheduled-requires
 unscheduled-requires c κs =
     let start = c .before .before .before .before .before .before in
     let in-range = start .pre .1 (sym (c .before .before .before .before .is-compr .ensures) ∙ c .before .before .before .if1 .taken) in
-    (start .pre .0, in-range .0, in-range .1)
+    record { room = start .pre .0; from = in-range .0; to = in-range .1 }
 
 returns : tie.Need-returns
 returns c =

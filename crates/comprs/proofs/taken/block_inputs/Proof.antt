@@ -15,7 +15,7 @@ answers-of-requires : tie.Need-answers-of-requires
 answers-of-requires c κs = search needs
 
 sub-first : tie.Need-sub-first
-sub-first c = omega (arith, c .answers-of .ensures, c .before .before .pre .0)
+sub-first c = omega (arith, c .answers-of .ensures, c .before .before .pre .room)
 
 words-requires : tie.Need-words-requires
 words-requires c κs = search needs
@@ -29,7 +29,7 @@ add-place-of c = omega (arith, c .words .ensures, at-most (c .before .before .be
 place-of-requires : tie.Need-place-of-requires
 place-of-requires c κs =
     let start = c .before .before .before in
-    (start .pre .1, start .pre .2, omega (arith, c .words .ensures, set-in (start .args .width) 2 (omega arith)))
+    (start .pre .from, start .pre .to, omega (arith, c .words .ensures, set-in (start .args .width) 2 (omega arith)))
 
 inside : (c : tie.After-place-of)
     → (let a = c .before .before .before .before .args in ((length (a .work .now) - c .before .before .answers-of .result) + c .place-of .result) + words (a .width) ≤ length (a .work .now))
@@ -41,9 +41,9 @@ inside c =
       c .before .before .answers-of .ensures,
       c .before .words .ensures,
       c .place-of .ensures,
-      start .pre .0,
+      start .pre .room,
       set-in v 2 (omega arith),
-      block-in v (start .args .query) (start .pre .1) (start .pre .2),
+      block-in v (start .args .query) (start .pre .from) (start .pre .to),
       answers-are v,
     )
 

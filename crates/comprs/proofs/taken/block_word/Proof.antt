@@ -13,16 +13,16 @@ answers-of-requires : tie.Need-answers-of-requires
 answers-of-requires c κs = search needs
 
 sub-first : tie.Need-sub-first
-sub-first c = omega (arith, c .answers-of .ensures, c .before .before .pre .0)
+sub-first c = omega (arith, c .answers-of .ensures, c .before .before .pre .0 .room)
 
 place-of-requires : tie.Need-place-of-requires
-place-of-requires c κs = let start = c .before .before in (start .pre .1, start .pre .2, omega (arith, start .pre .3, block-few (start .args .width) .0))
+place-of-requires c κs = let start = c .before .before in (start .pre .0 .from, start .pre .0 .to, omega (arith, start .pre .1, block-few (start .args .width) .0))
 
 inside : (c : tie.After-place-of) → (length (c .before .before .before .args .work .now) - c .before .answers-of .result) + c .place-of .result < length (c .before .before .before .args .work .now)
 inside c =
     let start = c .before .before .before in
     let v = start .args .width in
-    omega (arith, c .before .answers-of .ensures, c .place-of .ensures, start .pre .0, start .pre .3, block-few v .0, block-in v (start .args .query) (start .pre .1) (start .pre .2), answers-are v)
+    omega (arith, c .before .answers-of .ensures, c .place-of .ensures, start .pre .0 .room, start .pre .1, block-few v .0, block-in v (start .args .query) (start .pre .0 .from) (start .pre .0 .to), answers-are v)
 
 add-result : tie.Need-add-result
 add-result c = omega (arith, inside c)

@@ -13,7 +13,7 @@ empty-requires c κs = search needs
 returns : tie.Need-returns
 returns c =
     let start = c .before .before .before .before in
-    taken-none (start .args .width) (start .args .work .now) _ (start .pre .1) (start .pre .2) _ (c .before .before .block-word .ensures) (c .before .if1 .taken) _ (c .empty .ensures)
+    taken-none (start .args .width) (start .args .work .now) _ (start .pre .from) (start .pre .to) _ (c .before .before .block-word .ensures) (c .before .if1 .taken) _ (c .empty .ensures)
 
 block-word-requires-2 : tie.Need-block-word-requires-2
 block-word-requires-2 c κs = search needs
@@ -24,7 +24,7 @@ block-inputs-requires c κs = search needs
 returns-2 : tie.Need-returns-2
 returns-2 c =
     let start = c .before .before .before .before .before in
-    taken-some (start .args .width) (start .args .work .now) _ (start .pre .1) (start .pre .2) _ (c .before .before .before .block-word .ensures) (c .before .before .if1 .left) _ (c .before .block-word2 .ensures)
+    taken-some (start .args .width) (start .args .work .now) _ (start .pre .from) (start .pre .to) _ (c .before .before .before .block-word .ensures) (c .before .before .if1 .left) _ (c .before .block-word2 .ensures)
     _ (c .block-inputs .ensures)
 
 pub taken-by-spec : {M : Type 1} → statement M

@@ -15,7 +15,7 @@ taken-by-requires : tie.Need-taken-by-requires
 taken-by-requires c κs =
     let start = c .before .before .before .before in
     let in-range = start .pre .1 (sym (c .before .before .is-compr .ensures) ∙ c .before .if1 .taken) in
-    (start .pre .0, in-range .0, in-range .1)
+    record { room = start .pre .0; from = in-range .0; to = in-range .1 }
 
 own-inputs-requires : tie.Need-own-inputs-requires
 own-inputs-requires c κs = search needs

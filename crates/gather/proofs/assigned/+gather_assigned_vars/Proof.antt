@@ -50,12 +50,12 @@ returns m c =
     let start = c .before .before .before .before in
     let a = start .args in
     subst (λ (n : ℕ). AssignWalk (a .tables .now) (a .outer .now) n (a .rest) (a .can-shadow) (a .scope) (a .spans .now) (a .scope) (a .spans .now))
-    (sym (c .if1 .taken)) (walk-none _ _ (start .pre .1 .0) (a .rest) (a .can-shadow) (a .scope) (a .spans .now))
+    (sym (c .if1 .taken)) (walk-none _ _ (start .pre .1 .accepted) (a .rest) (a .can-shadow) (a .scope) (a .spans .now))
 
 row-at-requires : (m : ℕ) → lts.Need-row-at-requires (known m) (here m) gather-assigned-vars.Post
 row-at-requires m c κs =
     let pre = c .before .before .before .before .pre .1 in
-    (pre .0 .room, row-low _ (pre .0) _ (c .if1 .left) (pre .2))
+    (pre .accepted .room, row-low _ (pre .accepted) _ (c .if1 .left) (pre .row-in))
 
 -- The row that was read.
 row-is : (m : ℕ) (c : lts.After-row-at (known m) (here m) gather-assigned-vars.Post)
@@ -72,7 +72,12 @@ assign-step-requires : (m : ℕ) → lts.Need-assign-step-requires (known m) (he
 assign-step-requires m c κs =
     let r = c .before .before .before in
     let pre = r .before .before .before .before .before .pre .1 in
-    (pre .0 .room, pre .1, rw (row-is m r) (low-name _ (pre .0) _ (r .before .if1 .left) (pre .2)), pre .3)
+    record {
+      tables-room = pre .accepted .room;
+      outer-room = pre .outer-room;
+      name-low = rw (row-is m r) (low-name _ (pre .accepted) _ (r .before .if1 .left) (pre .row-in));
+      spans-room = pre .spans-room;
+    }
 
 ready : (m : ℕ) (c : lts.After-next-of (known m) (here m) gather-assigned-vars.Post)
     → let t = c .before .before .before .before .before .before .before .args .tables .now in
@@ -80,13 +85,20 @@ ready : (m : ℕ) (c : lts.After-next-of (known m) (here m) gather-assigned-vars
 ready m c =
     let r = c .before .before in
     let start = r .before .before .before .before .before in
-    pattern-calls _ (start .pre .1 .0) _ (r .before .if1 .left) (start .pre .1 .2) m (start .pre .0) (start .args .rest) _ (row-is m r) _ (c .before .items-of .ensures) _ (c .next-of .ensures)
+    pattern-calls _ (start .pre .1 .accepted) _ (r .before .if1 .left) (start .pre .1 .row-in) m (start .pre .0) (start .args .rest) _ (row-is m r) _ (c .before .items-of .ensures) _ (c .next-of .ensures)
 
 items-requires : (m : ℕ) → lts.Need-gather-assigned-vars-requires (known m) (here m) gather-assigned-vars.Post
 items-requires m c κs =
     let pre = c .before .before .before .before .before .before .before .before .before .before .before .before .before .pre .1 in
-    let k = ready m (c .before .before .before .before .before .before) .0 in
-    (k .0, (pre .0, pre .1, k .1, omega (arith, pre .3, c .before .before .before .before .assign-step .kept .1 .1 .1 .1 .1 .0)))
+    let k = ready m (c .before .before .before .before .before .before) .0 in (
+      k .0,
+      record {
+        accepted = pre .accepted;
+        outer-room = pre .outer-room;
+        row-in = k .1;
+        spans-room = omega (arith, pre .spans-room, c .before .before .before .before .assign-step .kept .1 .1 .1 .1 .1 .0);
+      },
+    )
 
 -- What the row is made of, walked where there is something.
 items-walk : (m : ℕ) (c : lts.Joined2 (known m) (here m) gather-assigned-vars.Post)
@@ -97,7 +109,7 @@ items-walk : (m : ℕ) (c : lts.Joined2 (known m) (here m) gather-assigned-vars.
 items-walk m c =
     let start = c .before .before .before .before .before .before .before .before .before .before .before .before in
     let a = start .args in
-    guarded-list (λ n. AssignWalk (a .tables .now) (a .outer .now) n true (a .can-shadow)) (walk-none _ _ (start .pre .1 .0) true (a .can-shadow)) _ _ _ _ _
+    guarded-list (λ n. AssignWalk (a .tables .now) (a .outer .now) n true (a .can-shadow)) (walk-none _ _ (start .pre .1 .accepted) true (a .can-shadow)) _ _ _ _ _
     (λ w. (_, _, w .2 .ensures, w .2 .kept .1 .1 .1 .1 .1 .1 .0, w .5, w .6)) (λ w. (w .0 .left, w .1, w .2)) (c .if2 .came)
 
 kept : (m : ℕ) (c : lts.Joined2 (known m) (here m) gather-assigned-vars.Post) → length (c .if2 .spans) ≡ length (c .before .before .before .before .before .before .before .before .before .before .before .before .args .spans .now)
@@ -112,7 +124,7 @@ turned m c s l rest =
     let n = c .before .before .before .before .before in
     let r = n .before .before in
     let start = r .before .before .before .before .before in
-    walk-turn _ _ (start .pre .1 .0) _ (r .before .if1 .left) (start .pre .1 .2) (start .args .rest) _ _ (row-is m r) _ (n .before .items-of .ensures) _ (n .next-of .ensures)
+    walk-turn _ _ (start .pre .1 .accepted) _ (r .before .if1 .left) (start .pre .1 .row-in) (start .args .rest) _ _ (row-is m r) _ (n .before .items-of .ensures) _ (n .next-of .ensures)
     _ _ _ _ _ _ _ _ (c .before .before .before .assign-step .ensures) (items-walk m c .0) rest
 
 same-length : (m : ℕ) → lts.Need-same-length (known m) (here m) gather-assigned-vars.Post
@@ -125,14 +137,14 @@ returns-2 m c =
     let if2 = c .before .if2 in
     turned m (c .before) _ _
     (subst (λ (n : ℕ). AssignWalk (a .tables .now) (a .outer .now) n true (a .can-shadow) (if2 .s) (if2 .spans) (if2 .s) (if2 .spans))
-    (sym (c .if3 .taken)) (walk-none _ _ (start .pre .1 .0) true (a .can-shadow) (if2 .s) (if2 .spans)))
+    (sym (c .if3 .taken)) (walk-none _ _ (start .pre .1 .accepted) true (a .can-shadow) (if2 .s) (if2 .spans)))
 
 next-requires : (m : ℕ) → lts.Need-gather-assigned-vars-requires-2 (known m) (here m) gather-assigned-vars.Post
 next-requires m c κs =
     let j = c .before .before in
     let pre = j .before .before .before .before .before .before .before .before .before .before .before .before .pre .1 in
     let k = ready m (j .before .before .before .before .before) .1 in
-    (k .0, (pre .0, pre .1, k .1, omega (arith, pre .3, kept m j)))
+    (k .0, record { accepted = pre .accepted; outer-room = pre .outer-room; row-in = k .1; spans-room = omega (arith, pre .spans-room, kept m j) })
 
 same-length-2 : (m : ℕ) → lts.Need-same-length-2 (known m) (here m) gather-assigned-vars.Post
 same-length-2 m c = c .before .before .gather-assigned-vars2 .kept .1 .1 .1 .1 .1 .1 .0 ∙ kept m (c .before .before .before .before .before)

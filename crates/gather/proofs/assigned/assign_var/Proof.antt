@@ -37,7 +37,7 @@ returns-2 c =
     let pre = c .before .before .before .before .before .before .before .before .before .before .before .before .pre in
     let fits = c .before .before .before .before .before .before .struct-known .given in
     let short : Short (c .before .before .before .before .before .before .before .before .before .before .before .before .args .w) = record { line = omega (arith, fits); col = omega (arith, fits) } in
-    var-local _ _ _ _ _ (sym (c .before .before .before .before .before .before .before .before .is-special .ensures) ∙ c .before .before .before .before .before .before .before .if1 .left) _ (c .before .before .before .before .before .if2 .taken) short (omega (arith, pre .2, pre .3)) _ (c .add-local .ensures)
+    var-local _ _ _ _ _ (sym (c .before .before .before .before .before .before .before .before .is-special .ensures) ∙ c .before .before .before .before .before .before .before .if1 .left) _ (c .before .before .before .before .before .if2 .taken) short (omega (arith, pre .name-low, pre .spans-room)) _ (c .add-local .ensures)
     _ (c .before .before .before .put-span .ensures)
 
 var-exists-requires : tie.Need-var-exists-requires

@@ -53,13 +53,13 @@ returns m c =
       long = refl;
       done = λ l.
           let s = scopeOf l (a .unscoped .now) (a .inputs .now) (a .uses) in
-          subst (λ (n : ℕ). InputWalk (a .tables .now) (a .outer .now) n (a .rest) s s) (sym (c .if1 .taken)) (walk-none _ _ (start .pre .1 .0) (a .rest) s);
+          subst (λ (n : ℕ). InputWalk (a .tables .now) (a .outer .now) n (a .rest) s s) (sym (c .if1 .taken)) (walk-none _ _ (start .pre .1 .accepted) (a .rest) s);
     }
 
 row-at-requires : (m : ℕ) → lts.Need-row-at-requires (known m) (here m) gather-input-vars.Post
 row-at-requires m c κs =
     let pre = c .before .before .before .pre .1 in
-    (pre .0 .room, row-low _ (pre .0) _ (c .if1 .left) (pre .2))
+    (pre .accepted .room, row-low _ (pre .accepted) _ (c .if1 .left) (pre .row-in))
 
 -- The row that was read.
 row-is : (m : ℕ) (c : lts.After-row-at (known m) (here m) gather-input-vars.Post)
@@ -76,7 +76,13 @@ input-step-requires : (m : ℕ) → lts.Need-input-step-requires (known m) (here
 input-step-requires m c κs =
     let r = c .before .before .before in
     let pre = r .before .before .before .before .pre .1 in
-    (pre .0 .room, pre .1, rw (row-is m r) (low-name _ (pre .0) _ (r .before .if1 .left) (pre .2)), pre .3, pre .4)
+    record {
+      tables-room = pre .accepted .room;
+      outer-room = pre .outer-room;
+      name-low = rw (row-is m r) (low-name _ (pre .accepted) _ (r .before .if1 .left) (pre .row-in));
+      unscoped-words = pre .unscoped-words;
+      inputs-words = pre .inputs-words;
+    }
 
 ready : (m : ℕ) (c : lts.After-next-of (known m) (here m) gather-input-vars.Post)
     → let start = c .before .before .before .before .before .before in
@@ -84,15 +90,23 @@ ready : (m : ℕ) (c : lts.After-next-of (known m) (here m) gather-input-vars.Po
 ready m c =
     let r = c .before .before in
     let start = r .before .before .before .before in
-    calls _ (start .pre .1 .0) _ (r .before .if1 .left) (start .pre .1 .2) m (start .pre .0) _ _ (row-is m r) _ (c .before .kids-of .ensures)
+    calls _ (start .pre .1 .accepted) _ (r .before .if1 .left) (start .pre .1 .row-in) m (start .pre .0) _ _ (row-is m r) _ (c .before .kids-of .ensures)
 
 first-requires : (m : ℕ) → lts.Need-gather-input-vars-requires (known m) (here m) gather-input-vars.Post
 first-requires m c κs =
     let step = c .before .before .before in
     let n = step .before .before in
     let pre = n .before .before .before .before .before .before .pre .1 in
-    let k = ready m n .first in
-    (k .0, (pre .0, pre .1, k .1, pre .3, step .input-step .ensures .long ∙ pre .4))
+    let k = ready m n .first in (
+      k .0,
+      record {
+        accepted = pre .accepted;
+        outer-room = pre .outer-room;
+        row-in = k .1;
+        unscoped-words = pre .unscoped-words;
+        inputs-words = step .input-step .ensures .long ∙ pre .inputs-words;
+      },
+    )
 
 -- A guarded walk over the row n, whatever the locals are.
 abbrev Walked : List ℕ → List ℕ → List ℕ → ℕ → Bool → List ℕ → Bool → List ℕ → Type 0
@@ -108,11 +122,11 @@ first-walk : (m : ℕ) (c : lts.Joined2 (known m) (here m) gather-input-vars.Pos
 first-walk m c =
     let start = c .before .before .before .before .before .before .before .before .before .before in
     let a = start .args in
-    guarded-list (Walked (a .tables .now) (a .outer .now) (a .unscoped .now)) (λ f i l. walk-none _ _ (start .pre .1 .0) true _) _ _ _ _ _
+    guarded-list (Walked (a .tables .now) (a .outer .now) (a .unscoped .now)) (λ f i l. walk-none _ _ (start .pre .1 .accepted) true _) _ _ _ _ _
     (λ w. (_, _, w .2 .ensures .done, w .2 .ensures .long, w .3, w .4)) (λ w. (w .0 .left, w .1, w .2)) (c .if2 .came)
 
 first-long : (m : ℕ) (c : lts.Joined2 (known m) (here m) gather-input-vars.Post) → length (c .if2 .inputs) ≡ 8
-first-long m c = first-walk m c .1 ∙ c .before .before .input-step .ensures .long ∙ c .before .before .before .before .before .before .before .before .before .before .pre .1 .4
+first-long m c = first-walk m c .1 ∙ c .before .before .input-step .ensures .long ∙ c .before .before .before .before .before .before .before .before .before .before .pre .1 .inputs-words
 
 second-requires : (m : ℕ) → lts.Need-gather-input-vars-requires-2 (known m) (here m) gather-input-vars.Post
 second-requires m c κs =
@@ -120,7 +134,7 @@ second-requires m c κs =
     let n = j .before .before .before .before in
     let pre = n .before .before .before .before .before .before .pre .1 in
     let k = ready m n .second in
-    (k .0, (pre .0, pre .1, k .1, pre .3, first-long m j))
+    (k .0, record { accepted = pre .accepted; outer-room = pre .outer-room; row-in = k .1; unscoped-words = pre .unscoped-words; inputs-words = first-long m j })
 
 second-walk : (m : ℕ) (c : lts.Joined3 (known m) (here m) gather-input-vars.Post)
     → let j = c .before .before in
@@ -131,7 +145,7 @@ second-walk : (m : ℕ) (c : lts.Joined3 (known m) (here m) gather-input-vars.Po
 second-walk m c =
     let start = c .before .before .before .before .before .before .before .before .before .before .before .before in
     let a = start .args in
-    guarded-list (Walked (a .tables .now) (a .outer .now) (a .unscoped .now)) (λ f i l. walk-none _ _ (start .pre .1 .0) true _) _ _ _ _ _
+    guarded-list (Walked (a .tables .now) (a .outer .now) (a .unscoped .now)) (λ f i l. walk-none _ _ (start .pre .1 .accepted) true _) _ _ _ _ _
     (λ w. (_, _, w .2 .ensures .done, w .2 .ensures .long, w .3, w .4)) (λ w. (w .0 .left, w .1, w .2)) (c .if3 .came)
 
 second-long : (m : ℕ) (c : lts.Joined3 (known m) (here m) gather-input-vars.Post) → length (c .if3 .inputs) ≡ 8
@@ -143,7 +157,7 @@ third-requires m c κs =
     let n = j .before .before .before .before .before .before in
     let pre = n .before .before .before .before .before .before .pre .1 in
     let k = ready m n .third in
-    (k .0, (pre .0, pre .1, k .1, pre .3, second-long m j))
+    (k .0, record { accepted = pre .accepted; outer-room = pre .outer-room; row-in = k .1; unscoped-words = pre .unscoped-words; inputs-words = second-long m j })
 
 third-walk : (m : ℕ) (c : lts.Joined4 (known m) (here m) gather-input-vars.Post)
     → let j = c .before .before in
@@ -154,7 +168,7 @@ third-walk : (m : ℕ) (c : lts.Joined4 (known m) (here m) gather-input-vars.Pos
 third-walk m c =
     let start = c .before .before .before .before .before .before .before .before .before .before .before .before .before .before in
     let a = start .args in
-    guarded-list (Walked (a .tables .now) (a .outer .now) (a .unscoped .now)) (λ f i l. walk-none _ _ (start .pre .1 .0) true _) _ _ _ _ _
+    guarded-list (Walked (a .tables .now) (a .outer .now) (a .unscoped .now)) (λ f i l. walk-none _ _ (start .pre .1 .accepted) true _) _ _ _ _ _
     (λ w. (_, _, w .2 .ensures .done, w .2 .ensures .long, w .3, w .4)) (λ w. (w .0 .left, w .1, w .2)) (c .if4 .came)
 
 third-long : (m : ℕ) (c : lts.Joined4 (known m) (here m) gather-input-vars.Post) → length (c .if4 .inputs) ≡ 8
@@ -171,7 +185,7 @@ turned m c l g j rest =
     let n = step .before .before in
     let r = n .before .before in
     let start = r .before .before .before .before in
-    walk-turn _ _ (start .pre .1 .0) _ (r .before .if1 .left) (start .pre .1 .2) (start .args .rest) _ (row-is m r) _ (n .before .kids-of .ensures) _ (n .next-of .ensures)
+    walk-turn _ _ (start .pre .1 .accepted) _ (r .before .if1 .left) (start .pre .1 .row-in) (start .args .rest) _ (row-is m r) _ (n .before .kids-of .ensures) _ (n .next-of .ensures)
     _ _ _ _ _ _ (step .input-step .ensures .done l) (first-walk m (c .before .before .before .before) .0 l) (second-walk m (c .before .before) .0 l) (third-walk m c .0 l) rest
 
 returns-2 : (m : ℕ) → lts.Need-returns-2 (known m) (here m) gather-input-vars.Post
@@ -180,11 +194,11 @@ returns-2 m c =
     let start = j .before .before .before .before .before .before .before .before .before .before .before .before .before .before in
     let a = start .args in
     record {
-      long = third-long m j ∙ sym (start .pre .1 .4);
+      long = third-long m j ∙ sym (start .pre .1 .inputs-words);
       done = λ l.
           let s = scopeOf l (a .unscoped .now) (j .if4 .inputs) (j .if4 .s) in
           turned m j l _ _
-          (subst (λ (n : ℕ). InputWalk (a .tables .now) (a .outer .now) n true s s) (sym (c .if5 .taken)) (walk-none _ _ (start .pre .1 .0) true s));
+          (subst (λ (n : ℕ). InputWalk (a .tables .now) (a .outer .now) n true s s) (sym (c .if5 .taken)) (walk-none _ _ (start .pre .1 .accepted) true s));
     }
 
 next-requires : (m : ℕ) → lts.Need-gather-input-vars-requires-4 (known m) (here m) gather-input-vars.Post
@@ -192,15 +206,23 @@ next-requires m c κs =
     let j = c .before .before in
     let n = j .before .before .before .before .before .before .before .before in
     let pre = n .before .before .before .before .before .before .pre .1 in
-    let k = ready m n .next in
-    (rw (n .next-of .ensures) (k .0), (pre .0, pre .1, rw (n .next-of .ensures) (k .1), pre .3, third-long m j))
+    let k = ready m n .next in (
+      rw (n .next-of .ensures) (k .0),
+      record {
+        accepted = pre .accepted;
+        outer-room = pre .outer-room;
+        row-in = rw (n .next-of .ensures) (k .1);
+        unscoped-words = pre .unscoped-words;
+        inputs-words = third-long m j;
+      },
+    )
 
 returns-3 : (m : ℕ) → lts.Need-returns-3 (known m) (here m) gather-input-vars.Post
 returns-3 m c =
     let j = c .before .before .before in
     let start = j .before .before .before .before .before .before .before .before .before .before .before .before .before .before in
     record {
-      long = c .gather-input-vars4 .ensures .long ∙ third-long m j ∙ sym (start .pre .1 .4);
+      long = c .gather-input-vars4 .ensures .long ∙ third-long m j ∙ sym (start .pre .1 .inputs-words);
       done = λ l. turned m j l _ _ (c .gather-input-vars4 .ensures .done l);
     }
 

@@ -54,7 +54,7 @@ returns-4 c =
     let start = h .before .before .before .before .before .before in
     let a = start .args in
     record {
-      long = c .add .ensures .0 ∙ sym (start .pre .4);
+      long = c .add .ensures .0 ∙ sym (start .pre .inputs-words);
       done = λ l.
           var-found _ _ _ _ (sym (h .before .before .before .is-input .ensures) ∙ h .before .before .if1 .left) (sym (h .has .ensures) ∙ k .before .before .if2 .left) _
           (k .before .var-exists .ensures) (not-false _ (k .if3 .left)) _ (with-input (scopeOf l (a .unscoped .now) (a .inputs .now) _) _ _ (c .add .ensures .1));

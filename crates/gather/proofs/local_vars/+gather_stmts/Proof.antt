@@ -31,18 +31,23 @@ returns : (m : ℕ) → lts.Need-returns (known m) (here m) gather-stmts.Post
 returns m c =
     let start = c .before .before .before .before in
     let a = start .args in
-    step-none (a .tables .now) (a .outer .now) (start .pre .1 .0) (a .row) (c .if1 .taken) (a .scope) (a .spans .now)
+    step-none (a .tables .now) (a .outer .now) (start .pre .1 .accepted) (a .row) (c .if1 .taken) (a .scope) (a .spans .now)
 
 statement-at-requires : (m : ℕ) → lts.Need-statement-at-requires (known m) (here m) gather-stmts.Post
 statement-at-requires m c κs =
     let pre = c .before .before .before .before .pre .1 in
-    (pre .0 .room, omega (arith, pre .2, pre .0 .within .few-statements))
+    (pre .accepted .room, omega (arith, pre .row-in, pre .accepted .within .few-statements))
 
 gather-stmt-requires : (m : ℕ) → lts.Need-gather-stmt-requires (known m) (here m) gather-stmts.Post
 gather-stmt-requires m c κs =
     let start = c .before .before .before .before .before .before in
     let pre = start .pre .1 in
-    (pre .0, pre .1, subst (Named (start .args .tables .now)) (sym (c .before .statement-at .ensures)) (named-at _ (pre .0) _ (c .before .before .if1 .left) (pre .2)), pre .3)
+    record {
+      accepted = pre .accepted;
+      outer-room = pre .outer-room;
+      named = subst (Named (start .args .tables .now)) (sym (c .before .statement-at .ensures)) (named-at _ (pre .accepted) _ (c .before .before .if1 .left) (pre .row-in));
+      spans-room = pre .spans-room;
+    }
 
 cast-next : (m : ℕ) → lts.Need-cast-gather-stmts (known m) (here m) gather-stmts.Post
 cast-next m c = search needs
@@ -51,8 +56,15 @@ next-requires : (m : ℕ) → lts.Need-gather-stmts-requires (known m) (here m) 
 next-requires m c κs =
     let start = c .before .before .before .before .before .before .before .before .before .before .before in
     let pre = start .pre .1 in
-    let k = next-stmt _ (pre .0) (start .args .row) m (c .before .before .before .before .before .before .before .if1 .left) (pre .2) (start .pre .0) (c .before .before .before .before .before .before .statement-at .result) (c .before .before .before .before .before .before .statement-at .ensures) in
-    (k .0, (pre .0, pre .1, k .1, omega (arith, pre .3, c .before .before .before .before .gather-stmt .kept .1 .1 .1 .1 .0)))
+    let k = next-stmt _ (pre .accepted) (start .args .row) m (c .before .before .before .before .before .before .before .if1 .left) (pre .row-in) (start .pre .0) (c .before .before .before .before .before .before .statement-at .result) (c .before .before .before .before .before .before .statement-at .ensures) in (
+      k .0,
+      record {
+        accepted = pre .accepted;
+        outer-room = pre .outer-room;
+        row-in = k .1;
+        spans-room = omega (arith, pre .spans-room, c .before .before .before .before .gather-stmt .kept .1 .1 .1 .1 .0);
+      },
+    )
 
 same-length : (m : ℕ) → lts.Need-same-length (known m) (here m) gather-stmts.Post
 same-length m c = search needs
@@ -61,7 +73,7 @@ returns-2 : (m : ℕ) → lts.Need-returns-2 (known m) (here m) gather-stmts.Pos
 returns-2 m c =
     let start = c .before .before .before .before .before .before .before .before .before .before .before .before .before .before in
     let a = start .args in
-    step-row (a .tables .now) (a .outer .now) (start .pre .1 .0) (a .row) (c .before .before .before .before .before .before .before .before .before .before .if1 .left) (start .pre .1 .2) (c .before .before .before .before .before .before .before .before .before .statement-at .result)
+    step-row (a .tables .now) (a .outer .now) (start .pre .1 .accepted) (a .row) (c .before .before .before .before .before .before .before .before .before .before .if1 .left) (start .pre .1 .row-in) (c .before .before .before .before .before .before .before .before .before .statement-at .result)
     (c .before .before .before .before .before .before .before .before .before .statement-at .ensures) _ _ _ _ _ _ (c .before .before .before .before .before .before .before .gather-stmt .ensures) (c .before .before .gather-stmts .ensures)
 
 pub +gather-stmts-spec : {M : Type 1} → statement M

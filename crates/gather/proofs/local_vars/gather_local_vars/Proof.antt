@@ -17,7 +17,12 @@ cast-row c = search needs
 gather-stmts-requires : tie.Need-gather-stmts-requires
 gather-stmts-requires c κs =
     let pre = c .before .before .before .before .before .before .pre in
-    (pre .0, pre .1, rw (c .before .first-at .ensures) (first-low _ (c .before .before .before .before .before .before .args .outer .now) (pre .0) _ (pre .2) (pre .3)), pre .6)
+    record {
+      accepted = pre .accepted;
+      outer-room = pre .outer-room;
+      row-in = rw (c .before .first-at .ensures) (first-low _ (c .before .before .before .before .before .before .args .outer .now) (pre .accepted) _ (pre .from) (pre .to));
+      spans-room = pre .spans-room;
+    }
 
 gather-vars-each-requires : tie.Need-gather-vars-each-requires
 gather-vars-each-requires c κs = search needs
@@ -25,7 +30,12 @@ gather-vars-each-requires c κs = search needs
 gather-vars-each-requires-2 : tie.Need-gather-vars-each-requires-2
 gather-vars-each-requires-2 c κs =
     let pre = c .before .before .before .before .before .before .before .before .before .before .before .before .before .before .pre in
-    (pre .0, pre .1, pre .5, omega (arith, pre .6, c .before .before .before .before .before .before .before .gather-stmts .kept .1 .1 .1 .1 .0, c .before .before .before .gather-vars-each .kept .1 .1 .1 .1 .1 .0))
+    record {
+      accepted = pre .accepted;
+      outer-room = pre .outer-room;
+      row-in = pre .value-in;
+      spans-room = omega (arith, pre .spans-room, c .before .before .before .before .before .before .before .gather-stmts .kept .1 .1 .1 .1 .0, c .before .before .before .gather-vars-each .kept .1 .1 .1 .1 .1 .0);
+    }
 
 remove-shadowed-requires : tie.Need-remove-shadowed-requires
 remove-shadowed-requires c κs = search needs
@@ -37,7 +47,7 @@ returns : tie.Need-returns
 returns c =
     let start = c .before .before .before .before .before .before .before .before .before .before .before .before .before .before .before .before .before .before in
     let a = start .args in
-    gathered (a .tables .now) (a .outer .now) (a .query) (start .pre .2) (start .pre .3) _ (c .before .before .before .before .before .before .before .before .before .before .before .before .before .first-at .ensures) (a .key) (a .value) _ _ _ _ _ _ _ _ _
+    gathered (a .tables .now) (a .outer .now) (a .query) (start .pre .from) (start .pre .to) _ (c .before .before .before .before .before .before .before .before .before .before .before .before .before .first-at .ensures) (a .key) (a .value) _ _ _ _ _ _ _ _ _
     (c .before .before .before .before .before .before .before .before .before .before .before .before .before .before .empty .ensures) (c .before .before .before .before .before .before .before .before .before .before .before .gather-stmts .ensures) (c .before .before .before .before .before .before .before .gather-vars-each .ensures) (c .before .before .before .gather-vars-each2 .ensures) (c .remove-shadowed .ensures)
 
 pub gather-local-vars-spec : {M : Type 1} → statement M

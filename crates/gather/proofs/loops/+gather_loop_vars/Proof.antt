@@ -54,13 +54,13 @@ returns m c =
       unscoped-long = refl;
       inputs-long = refl;
       done = subst (λ (n : ℕ). LoopWalk (a .tables .now) (a .outer .now) n (a .rest) s (a .spans .now) s (a .spans .now))
-          (sym (c .if1 .taken)) (walk-none _ _ (start .pre .1 .0) (a .rest) s (a .spans .now));
+          (sym (c .if1 .taken)) (walk-none _ _ (start .pre .1 .accepted) (a .rest) s (a .spans .now));
     }
 
 row-at-requires : (m : ℕ) → lts.Need-row-at-requires (known m) (here m) gather-loop-vars.Post
 row-at-requires m c κs =
     let pre = c .before .before .before .before .pre .1 in
-    (pre .0 .room, row-low _ (pre .0) _ (c .if1 .left) (pre .2))
+    (pre .accepted .room, row-low _ (pre .accepted) _ (c .if1 .left) (pre .row-in))
 
 -- The row that was read.
 row-is : (m : ℕ) (c : lts.After-row-at (known m) (here m) gather-loop-vars.Post)
@@ -77,7 +77,14 @@ loop-step-requires : (m : ℕ) → lts.Need-loop-step-requires (known m) (here m
 loop-step-requires m c κs =
     let r = c .before .before .before .before .before in
     let pre = r .before .before .before .before .before .pre .1 in
-    (pre .0, pre .1, second-low _ (pre .0) _ (r .before .if1 .left) (pre .2) _ (row-is m r), pre .3, pre .4, pre .5)
+    record {
+      accepted = pre .accepted;
+      outer-room = pre .outer-room;
+      row-in = second-low _ (pre .accepted) _ (r .before .if1 .left) (pre .row-in) _ (row-is m r);
+      unscoped-words = pre .unscoped-words;
+      inputs-words = pre .inputs-words;
+      spans-room = pre .spans-room;
+    }
 
 ready : (m : ℕ) (c : lts.After-next-of (known m) (here m) gather-loop-vars.Post)
     → let start = c .before .before .before .before .before .before .before in
@@ -85,7 +92,7 @@ ready : (m : ℕ) (c : lts.After-next-of (known m) (here m) gather-loop-vars.Pos
 ready m c =
     let r = c .before .before in
     let start = r .before .before .before .before .before in
-    calls _ (start .pre .1 .0) _ (r .before .if1 .left) (start .pre .1 .2) m (start .pre .0) _ _ (row-is m r) _ (c .before .kids-of .ensures)
+    calls _ (start .pre .1 .accepted) _ (r .before .if1 .left) (start .pre .1 .row-in) m (start .pre .0) _ _ (row-is m r) _ (c .before .kids-of .ensures)
 
 -- A walk over the row n, from the flag, the unscoped names, the inputs and the spans on; lists stay as long as they are.
 abbrev State : Type 0
@@ -112,14 +119,14 @@ first-requires m c κs =
     let pre = n .before .before .before .before .before .before .before .pre .1 in
     let k = ready m n .first in (
       k .0,
-      (
-        pre .0,
-        pre .1,
-        k .1,
-        step .loop-step .ensures .unscoped-long ∙ pre .3,
-        step .loop-step .ensures .inputs-long ∙ pre .4,
-        omega (arith, pre .5, step .loop-step .kept .1 .1 .1 .1 .1 .1 .1 .0),
-      ),
+      record {
+        accepted = pre .accepted;
+        outer-room = pre .outer-room;
+        row-in = k .1;
+        unscoped-words = step .loop-step .ensures .unscoped-long ∙ pre .unscoped-words;
+        inputs-words = step .loop-step .ensures .inputs-long ∙ pre .inputs-words;
+        spans-room = omega (arith, pre .spans-room, step .loop-step .kept .1 .1 .1 .1 .1 .1 .1 .0);
+      },
     )
 
 -- The three parts, each walked where there is one.
@@ -131,7 +138,7 @@ first-walk : (m : ℕ) (c : lts.Joined2 (known m) (here m) gather-loop-vars.Post
 first-walk m c =
     let start = c .before .before .before .before .before .before .before .before .before .before .before .before .before .before .before in
     let a = start .args in
-    guarded (Walked (a .tables .now) (a .outer .now) (a .locals .now)) (walked-none _ _ _ (start .pre .1 .0)) _ _ _
+    guarded (Walked (a .tables .now) (a .outer .now) (a .locals .now)) (walked-none _ _ _ (start .pre .1 .accepted)) _ _ _
     (λ w. (_, (w .4 .ensures, w .4 .kept .1 .1 .1 .1 .1 .1 .1 .1 .0), λ i. (w .10 i, w .7 i, w .8 i, w .9 i))) (λ w. (w .0 .left, λ i. (w .4 i, w .1 i, w .2 i, w .3 i))) (c .if2 .came)
 
 first-long : (m : ℕ) (c : lts.Joined2 (known m) (here m) gather-loop-vars.Post)
@@ -140,8 +147,8 @@ first-long m c =
     let step = c .before .before .before .before in
     let pre = step .before .before .before .before .before .before .before .before .before .before .before .pre .1 in
     let w = first-walk m c in (
-      w .0 .unscoped-long ∙ step .loop-step .ensures .unscoped-long ∙ pre .3,
-      w .0 .inputs-long ∙ step .loop-step .ensures .inputs-long ∙ pre .4,
+      w .0 .unscoped-long ∙ step .loop-step .ensures .unscoped-long ∙ pre .unscoped-words,
+      w .0 .inputs-long ∙ step .loop-step .ensures .inputs-long ∙ pre .inputs-words,
       w .1 ∙ step .loop-step .kept .1 .1 .1 .1 .1 .1 .1 .0,
     )
 
@@ -151,8 +158,17 @@ second-requires m c κs =
     let n = j .before .before .before .before .before .before .before .before in
     let pre = n .before .before .before .before .before .before .before .pre .1 in
     let k = ready m n .second in
-    let l = first-long m j in
-    (k .0, (pre .0, pre .1, k .1, l .0, l .1, omega (arith, pre .5, l .2)))
+    let l = first-long m j in (
+      k .0,
+      record {
+        accepted = pre .accepted;
+        outer-room = pre .outer-room;
+        row-in = k .1;
+        unscoped-words = l .0;
+        inputs-words = l .1;
+        spans-room = omega (arith, pre .spans-room, l .2);
+      },
+    )
 
 second-walk : (m : ℕ) (c : lts.Joined3 (known m) (here m) gather-loop-vars.Post)
     → let j = c .before .before in
@@ -163,7 +179,7 @@ second-walk : (m : ℕ) (c : lts.Joined3 (known m) (here m) gather-loop-vars.Pos
 second-walk m c =
     let start = c .before .before .before .before .before .before .before .before .before .before .before .before .before .before .before .before .before in
     let a = start .args in
-    guarded (Walked (a .tables .now) (a .outer .now) (a .locals .now)) (walked-none _ _ _ (start .pre .1 .0)) _ _ _
+    guarded (Walked (a .tables .now) (a .outer .now) (a .locals .now)) (walked-none _ _ _ (start .pre .1 .accepted)) _ _ _
     (λ w. (_, (w .4 .ensures, w .4 .kept .1 .1 .1 .1 .1 .1 .1 .1 .0), λ i. (w .10 i, w .7 i, w .8 i, w .9 i))) (λ w. (w .0 .left, λ i. (w .4 i, w .1 i, w .2 i, w .3 i))) (c .if3 .came)
 
 second-long : (m : ℕ) (c : lts.Joined3 (known m) (here m) gather-loop-vars.Post)
@@ -179,8 +195,17 @@ third-requires m c κs =
     let n = j .before .before .before .before .before .before .before .before .before .before in
     let pre = n .before .before .before .before .before .before .before .pre .1 in
     let k = ready m n .third in
-    let l = second-long m j in
-    (k .0, (pre .0, pre .1, k .1, l .0, l .1, omega (arith, pre .5, l .2)))
+    let l = second-long m j in (
+      k .0,
+      record {
+        accepted = pre .accepted;
+        outer-room = pre .outer-room;
+        row-in = k .1;
+        unscoped-words = l .0;
+        inputs-words = l .1;
+        spans-room = omega (arith, pre .spans-room, l .2);
+      },
+    )
 
 third-walk : (m : ℕ) (c : lts.Joined4 (known m) (here m) gather-loop-vars.Post)
     → let j = c .before .before in
@@ -191,7 +216,7 @@ third-walk : (m : ℕ) (c : lts.Joined4 (known m) (here m) gather-loop-vars.Post
 third-walk m c =
     let start = c .before .before .before .before .before .before .before .before .before .before .before .before .before .before .before .before .before .before .before in
     let a = start .args in
-    guarded (Walked (a .tables .now) (a .outer .now) (a .locals .now)) (walked-none _ _ _ (start .pre .1 .0)) _ _ _
+    guarded (Walked (a .tables .now) (a .outer .now) (a .locals .now)) (walked-none _ _ _ (start .pre .1 .accepted)) _ _ _
     (λ w. (_, (w .4 .ensures, w .4 .kept .1 .1 .1 .1 .1 .1 .1 .1 .0), λ i. (w .10 i, w .7 i, w .8 i, w .9 i))) (λ w. (w .0 .left, λ i. (w .4 i, w .1 i, w .2 i, w .3 i))) (c .if4 .came)
 
 third-long : (m : ℕ) (c : lts.Joined4 (known m) (here m) gather-loop-vars.Post)
@@ -212,7 +237,7 @@ turned m c g v j l rest =
     let n = step .before .before .before .before in
     let r = n .before .before in
     let start = r .before .before .before .before .before in
-    walk-turn _ _ (start .pre .1 .0) _ (r .before .if1 .left) (start .pre .1 .2) (start .args .rest) _ (row-is m r) _ (n .before .kids-of .ensures) _ (n .next-of .ensures)
+    walk-turn _ _ (start .pre .1 .accepted) _ (r .before .if1 .left) (start .pre .1 .row-in) (start .args .rest) _ (row-is m r) _ (n .before .kids-of .ensures) _ (n .next-of .ensures)
     _ _ _ _ _ _ _ _ _ _ _ _ (step .loop-step .ensures .done) (first-walk m (c .before .before .before .before) .0 .done) (second-walk m (c .before .before) .0 .done) (third-walk m c .0 .done) rest
 
 same-length : (m : ℕ) → lts.Need-same-length (known m) (here m) gather-loop-vars.Post
@@ -226,11 +251,11 @@ returns-2 m c =
     let l = third-long m j in
     let s = scopeIn (a .locals .now) (j .if4 .unscoped) (j .if4 .inputs) (j .if4 .s) in
     record {
-      unscoped-long = l .0 ∙ sym (start .pre .1 .3);
-      inputs-long = l .1 ∙ sym (start .pre .1 .4);
+      unscoped-long = l .0 ∙ sym (start .pre .1 .unscoped-words);
+      inputs-long = l .1 ∙ sym (start .pre .1 .inputs-words);
       done = turned m j _ _ _ _
           (subst (λ (n : ℕ). LoopWalk (a .tables .now) (a .outer .now) n true s (j .if4 .spans) s (j .if4 .spans))
-          (sym (c .if5 .taken)) (walk-none _ _ (start .pre .1 .0) true s (j .if4 .spans)));
+          (sym (c .if5 .taken)) (walk-none _ _ (start .pre .1 .accepted) true s (j .if4 .spans)));
     }
 
 next-requires : (m : ℕ) → lts.Need-gather-loop-vars-requires-4 (known m) (here m) gather-loop-vars.Post
@@ -239,8 +264,17 @@ next-requires m c κs =
     let n = j .before .before .before .before .before .before .before .before .before .before .before .before in
     let pre = n .before .before .before .before .before .before .before .pre .1 in
     let k = ready m n .next in
-    let l = third-long m j in
-    (rw (n .next-of .ensures) (k .0), (pre .0, pre .1, rw (n .next-of .ensures) (k .1), l .0, l .1, omega (arith, pre .5, l .2)))
+    let l = third-long m j in (
+      rw (n .next-of .ensures) (k .0),
+      record {
+        accepted = pre .accepted;
+        outer-room = pre .outer-room;
+        row-in = rw (n .next-of .ensures) (k .1);
+        unscoped-words = l .0;
+        inputs-words = l .1;
+        spans-room = omega (arith, pre .spans-room, l .2);
+      },
+    )
 
 same-length-2 : (m : ℕ) → lts.Need-same-length-2 (known m) (here m) gather-loop-vars.Post
 same-length-2 m c = c .before .before .gather-loop-vars4 .kept .1 .1 .1 .1 .1 .1 .1 .1 .0 ∙ third-long m (c .before .before .before .before .before .before .before) .2
@@ -252,8 +286,8 @@ returns-3 m c =
     let pre = j .before .before .before .before .before .before .before .before .before .before .before .before .before .before .before .before .before .before .before .pre .1 in
     let l = third-long m j in
     record {
-      unscoped-long = last .unscoped-long ∙ l .0 ∙ sym (pre .3);
-      inputs-long = last .inputs-long ∙ l .1 ∙ sym (pre .4);
+      unscoped-long = last .unscoped-long ∙ l .0 ∙ sym (pre .unscoped-words);
+      inputs-long = last .inputs-long ∙ l .1 ∙ sym (pre .inputs-words);
       done = turned m j _ _ _ _ (last .done);
     }
 

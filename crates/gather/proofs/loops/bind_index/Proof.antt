@@ -25,8 +25,8 @@ returns c =
     let walk = first .before .before .before .before in
     let start = walk .before .before .before .before .before .before .before .before in
     record {
-      unscoped-long = ap length (first .put .ensures .0) ∙ first .put .ensures .1 ∙ sym (start .pre .3);
-      inputs-long = ap length (c .put2 .ensures .0) ∙ c .put2 .ensures .1 ∙ sym (start .pre .4);
+      unscoped-long = ap length (first .put .ensures .0) ∙ first .put .ensures .1 ∙ sym (start .pre .unscoped-words);
+      inputs-long = ap length (c .put2 .ensures .0) ∙ c .put2 .ensures .1 ∙ sym (start .pre .inputs-words);
       done = rw (first .put .ensures .0, c .put2 .ensures .0) (with-locals _ _ (start .args .row) true _ _ _ _ _ _ _ (walk .gather-assigned-vars .ensures));
     }
 

@@ -9,7 +9,7 @@ use Rattle.gather.proofs.statements.gather_expr.Tie as tie
 returns : tie.Need-returns
 returns c =
     let a = c .before .before .before .before .args in
-    expr-none (a .tables .now) (a .outer .now) (c .before .before .before .before .pre .0) (a .row) (c .if1 .taken) (a .scope) (a .spans .now)
+    expr-none (a .tables .now) (a .outer .now) (c .before .before .before .before .pre .accepted) (a .row) (c .if1 .taken) (a .scope) (a .spans .now)
 
 row-at-requires : tie.Need-row-at-requires
 row-at-requires c κs = search needs
@@ -27,7 +27,7 @@ returns-2 : tie.Need-returns-2
 returns-2 c =
     let start = c .before .before .before .before .before .before .before .before .before .before .before in
     let a = start .args in
-    expr-assign (a .tables .now) (a .outer .now) (start .pre .0) (a .row) (c .before .before .before .before .before .before .before .if1 .left) (start .pre .2) (c .before .before .before .before .before .before .row-at .result)
+    expr-assign (a .tables .now) (a .outer .now) (start .pre .accepted) (a .row) (c .before .before .before .before .before .before .before .if1 .left) (start .pre .row-in) (c .before .before .before .before .before .before .row-at .result)
     (c .before .before .before .before .before .before .row-at .ensures ∙ row-fields _ _) _ (c .before .before .before .before .before .is-assign .ensures) (c .before .before .before .before .if2 .taken) _ _ _ _ (c .before .before .gather-vars .ensures)
 
 gather-read-requires : tie.Need-gather-read-requires
@@ -46,7 +46,7 @@ returns-3 : tie.Need-returns-3
 returns-3 c =
     let start = c .before .before .before .before .before .before .before .before .before .before .before .before .before .before .before .before in
     let a = start .args in
-    expr-other (a .tables .now) (a .outer .now) (start .pre .0) (a .row) (c .before .before .before .before .before .before .before .before .before .before .before .before .if1 .left) (start .pre .2) (c .before .before .before .before .before .before .before .before .before .before .before .row-at .result)
+    expr-other (a .tables .now) (a .outer .now) (start .pre .accepted) (a .row) (c .before .before .before .before .before .before .before .before .before .before .before .before .if1 .left) (start .pre .row-in) (c .before .before .before .before .before .before .before .before .before .before .before .row-at .result)
     (c .before .before .before .before .before .before .before .before .before .before .before .row-at .ensures ∙ row-fields _ _) _ (c .before .before .before .before .before .before .before .before .before .before .is-assign .ensures) (c .before .before .before .before .before .before .before .before .before .if2 .left) _ _ _ _ _ _ (c .before .before .before .before .before .before .before .gather-read .ensures)
     _ (c .before .before .before .before .get-extra-arg .ensures) (c .before .before .gather-vars2 .ensures)
 

@@ -31,7 +31,12 @@ cast-gather-vars-each-2 c = search needs
 gather-vars-each-requires-2 : tie.Need-gather-vars-each-requires-2
 gather-vars-each-requires-2 c κs =
     let pre = c .before .before .before .before .before .before .before .before .before .before .before .before .before .before .pre in
-    (pre .0, pre .1, pre .2 .second, omega (arith, pre .3, c .before .before .before .before .gather-vars-each .kept .1 .1 .1 .1 .1 .0))
+    record {
+      accepted = pre .accepted;
+      outer-room = pre .outer-room;
+      row-in = pre .named .second;
+      spans-room = omega (arith, pre .spans-room, c .before .before .before .before .gather-vars-each .kept .1 .1 .1 .1 .1 .0);
+    }
 
 cast-gather-read : tie.Need-cast-gather-read
 cast-gather-read c = search needs
@@ -39,7 +44,12 @@ cast-gather-read c = search needs
 gather-read-requires : tie.Need-gather-read-requires
 gather-read-requires c κs =
     let pre = c .before .before .before .before .before .before .before .before .before .before .before .before .before .before .before .before .before .before .before .pre in
-    (pre .0, pre .1, pre .2 .third, omega (arith, pre .3, c .before .before .before .before .before .before .before .before .before .gather-vars-each .kept .1 .1 .1 .1 .1 .0, c .before .before .before .before .gather-vars-each2 .kept .1 .1 .1 .1 .1 .0))
+    record {
+      accepted = pre .accepted;
+      outer-room = pre .outer-room;
+      row-in = pre .named .third;
+      spans-room = omega (arith, pre .spans-room, c .before .before .before .before .before .before .before .before .before .gather-vars-each .kept .1 .1 .1 .1 .1 .0, c .before .before .before .before .gather-vars-each2 .kept .1 .1 .1 .1 .1 .0);
+    }
 
 same-length-2 : tie.Need-same-length-2
 same-length-2 c = search needs

@@ -11,7 +11,7 @@ use Rattle.gather.proofs.vars.gather_bound.Tie as tie
 returns : tie.Need-returns
 returns c =
     let a = c .before .before .before .before .args in
-    bound-none (a .tables .now) (a .outer .now) (c .before .before .before .before .pre .0) (a .row) (c .if1 .taken) (a .rest) (a .can-shadow) (a .scope) (a .spans .now)
+    bound-none (a .tables .now) (a .outer .now) (c .before .before .before .before .pre .accepted) (a .row) (c .if1 .taken) (a .rest) (a .can-shadow) (a .scope) (a .spans .now)
 
 row-at-requires : tie.Need-row-at-requires
 row-at-requires c κs = search needs
@@ -25,7 +25,12 @@ cast-gather-assigned-vars c = search needs
 gather-assigned-vars-requires : tie.Need-gather-assigned-vars-requires
 gather-assigned-vars-requires c κs =
     let pre = c .before .before .before .before .before .before .before .before .before .before .pre in
-    (pre .0, pre .1, first-low _ (pre .0) _ (c .before .before .before .before .before .before .if1 .left) (pre .2) _ (c .before .before .before .before .before .row-at .ensures ∙ row-fields _ _), pre .3)
+    record {
+      accepted = pre .accepted;
+      outer-room = pre .outer-room;
+      row-in = first-low _ (pre .accepted) _ (c .before .before .before .before .before .before .if1 .left) (pre .row-in) _ (c .before .before .before .before .before .row-at .ensures ∙ row-fields _ _);
+      spans-room = pre .spans-room;
+    }
 
 cast-gather-assigned-vars-2 : tie.Need-cast-gather-assigned-vars-2
 cast-gather-assigned-vars-2 c = search needs
@@ -33,8 +38,13 @@ cast-gather-assigned-vars-2 c = search needs
 gather-assigned-vars-requires-2 : tie.Need-gather-assigned-vars-requires-2
 gather-assigned-vars-requires-2 c κs =
     let pre = c .before .before .before .before .before .before .before .before .before .before .before .before .before .before .before .pre in
-    let low = second-low _ (pre .0) _ (c .before .before .before .before .before .before .before .before .before .before .before .if1 .left) (pre .2) _ (c .before .before .before .before .before .before .before .before .before .before .row-at .ensures ∙ row-fields _ _) in
-    (pre .0, pre .1, low, omega (arith, pre .3, c .before .before .before .before .gather-assigned-vars .kept .1 .1 .1 .1 .1 .1 .0))
+    let low = second-low _ (pre .accepted) _ (c .before .before .before .before .before .before .before .before .before .before .before .if1 .left) (pre .row-in) _ (c .before .before .before .before .before .before .before .before .before .before .row-at .ensures ∙ row-fields _ _) in
+    record {
+      accepted = pre .accepted;
+      outer-room = pre .outer-room;
+      row-in = low;
+      spans-room = omega (arith, pre .spans-room, c .before .before .before .before .gather-assigned-vars .kept .1 .1 .1 .1 .1 .1 .0);
+    }
 
 same-length : tie.Need-same-length
 same-length c = search needs
@@ -43,7 +53,7 @@ returns-2 : tie.Need-returns-2
 returns-2 c =
     let start = c .before .before .before .before .before .before .before .before .before .before .before .before .before .before .before .before .before .before in
     let a = start .args in
-    bound-assign (a .tables .now) (a .outer .now) (start .pre .0) (a .row) (c .before .before .before .before .before .before .before .before .before .before .before .before .before .before .if1 .left) (start .pre .2) (a .rest) (a .can-shadow)
+    bound-assign (a .tables .now) (a .outer .now) (start .pre .accepted) (a .row) (c .before .before .before .before .before .before .before .before .before .before .before .before .before .before .if1 .left) (start .pre .row-in) (a .rest) (a .can-shadow)
     (c .before .before .before .before .before .before .before .before .before .before .before .before .before .row-at .result) (c .before .before .before .before .before .before .before .before .before .before .before .before .before .row-at .ensures ∙ row-fields _ _) _ (c .before .before .before .before .before .before .before .before .before .before .before .before .is-assign .ensures) (c .before .before .before .before .before .before .before .before .before .before .before .if2 .taken)
     _ _ _ _ _ _ (c .before .before .before .before .before .before .before .gather-assigned-vars .ensures) (c .before .before .gather-assigned-vars2 .ensures)
 
@@ -57,7 +67,7 @@ returns-3 : tie.Need-returns-3
 returns-3 c =
     let start = c .before .before .before .before .before .before .before .before .before .before .before in
     let a = start .args in
-    bound-other (a .tables .now) (a .outer .now) (start .pre .0) (a .row) (c .before .before .before .before .before .before .before .if1 .left) (start .pre .2) (a .rest) (a .can-shadow)
+    bound-other (a .tables .now) (a .outer .now) (start .pre .accepted) (a .row) (c .before .before .before .before .before .before .before .if1 .left) (start .pre .row-in) (a .rest) (a .can-shadow)
     (c .before .before .before .before .before .before .row-at .result) (c .before .before .before .before .before .before .row-at .ensures ∙ row-fields _ _) _ (c .before .before .before .before .before .is-assign .ensures) (c .before .before .before .before .if2 .left)
     _ _ _ _ (c .before .before .gather-assigned-vars3 .ensures)
 

@@ -13,7 +13,14 @@ gather-loop-vars-requires c κs =
     let walk = c .before .before .before .before in
     let asked = gather-input-vars-requires (walk .before) (walk .gather-input-vars .lifetimes) in
     let pre = walk .before .before .before .before .before .before .before .before .before .pre in
-    (pre .0, pre .1, pre .2, asked .3, walk .gather-input-vars .ensures .long ∙ asked .4, pre .3)
+    record {
+      accepted = pre .accepted;
+      outer-room = pre .outer-room;
+      row-in = pre .row-in;
+      unscoped-words = asked .unscoped-words;
+      inputs-words = walk .gather-input-vars .ensures .long ∙ asked .inputs-words;
+      spans-room = pre .spans-room;
+    }
 
 same-length : tie.Need-same-length
 same-length c = search needs

@@ -31,7 +31,12 @@ add-row c =
 
 name-query-requires : tie.Need-name-query-requires Inv-loop μ-loop
 name-query-requires c κs =
-    let w = c .before .before .before .before .before .before .pre .2 in let m = c .before .before .before .loop .inv .2 .room in (omega arith, c .before .before .before .before .before .before .pre .1, omega (arith, w .few-queries), w)
+    let w = c .before .before .before .before .before .before .pre .2 in let m = c .before .before .before .loop .inv .2 .room in record {
+      marks-room = omega arith;
+      tables-room = c .before .before .before .before .before .before .pre .1;
+      row-low = omega (arith, w .few-queries);
+      within = w;
+    }
 
 loop-less : tie.Need-loop-less Inv-loop μ-loop
 loop-less c =

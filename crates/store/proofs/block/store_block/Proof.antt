@@ -8,40 +8,56 @@ use Rattle.store.proofs.block.store_block.Statement.{statement}
 use Rattle.store.proofs.block.store_block.Tie as tie
 
 place-of-requires : tie.Need-place-of-requires
-place-of-requires c κs = let start = c .before .before in (start .pre .1, start .pre .2, omega arith)
+place-of-requires c κs = let start = c .before .before in (start .pre .0 .from, start .pre .0 .to, omega arith)
 
 store-head-requires : tie.Need-store-head-requires
 store-head-requires c κs =
     let start = c .before .before .before .before in
     let v = start .args .width in
-    omega (arith, c .before .place-of .ensures, block-few v .0, block-in v (start .args .q) (start .pre .1) (start .pre .2), answers-are v, start .pre .0)
+    omega (arith, c .before .place-of .ensures, block-few v .0, block-in v (start .args .q) (start .pre .0 .from) (start .pre .0 .to), answers-are v, start .pre .0 .room)
 
 put-set-requires : tie.Need-put-set-requires
 put-set-requires c κs =
-    let start = c .before .before .before .before .before .before .before .before in
-    (omega (arith, c .before .before .before .store-head .ensures .long, start .pre .0), start .pre .1, start .pre .2, omega arith)
+    let start = c .before .before .before .before .before .before .before .before in (
+      record {
+        room = omega (arith, c .before .before .before .store-head .ensures .long, start .pre .0 .room);
+        from = start .pre .0 .from;
+        to = start .pre .0 .to;
+      },
+      omega arith,
+    )
 
 put-set-requires-2 : tie.Need-put-set-requires-2
 put-set-requires-2 c κs =
-    let start = c .before .before .before .before .before .before .before .before .before .before .before .before in
-    (omega (arith, c .before .before .before .put-set .ensures .long, c .before .before .before .before .before .before .before .store-head .ensures .long, start .pre .0), start .pre .1, start .pre .2, omega arith)
+    let start = c .before .before .before .before .before .before .before .before .before .before .before .before in (
+      record {
+        room = omega (arith, c .before .before .before .put-set .ensures .long, c .before .before .before .before .before .before .before .store-head .ensures .long, start .pre .0 .room);
+        from = start .pre .0 .from;
+        to = start .pre .0 .to;
+      },
+      omega arith,
+    )
 
 put-set-requires-3 : tie.Need-put-set-requires-3
 put-set-requires-3 c κs =
     let start = c .before .before .before .before .before .before .before .before .before .before .before .before .before .before .before .before in (
-      omega (arith, c .before .before .before .put-set2 .ensures .long, c .before .before .before .before .before .before .before .put-set .ensures .long, c .before .before .before .before .before .before .before .before .before .before .before .store-head .ensures .long, start .pre .0),
-      start .pre .1,
-      start .pre .2,
+      record {
+        room = omega (arith, c .before .before .before .put-set2 .ensures .long, c .before .before .before .before .before .before .before .put-set .ensures .long, c .before .before .before .before .before .before .before .before .before .before .before .store-head .ensures .long, start .pre .0 .room);
+        from = start .pre .0 .from;
+        to = start .pre .0 .to;
+      },
       omega arith,
     )
 
 put-spans-requires : tie.Need-put-spans-requires
 put-spans-requires c κs =
     let start = c .before .before .before .before .before .before .before .before .before .before .before .before .before .before .before .before .before .before .before .before in (
-      omega (arith, c .before .before .before .put-set3 .ensures .long, c .before .before .before .before .before .before .before .put-set2 .ensures .long, c .before .before .before .before .before .before .before .before .before .before .before .put-set .ensures .long, c .before .before .before .before .before .before .before .before .before .before .before .before .before .before .before .store-head .ensures .long, start .pre .0),
-      start .pre .1,
-      start .pre .2,
-      omega (arith, at-most (start .args .width), start .pre .3),
+      record {
+        room = omega (arith, c .before .before .before .put-set3 .ensures .long, c .before .before .before .before .before .before .before .put-set2 .ensures .long, c .before .before .before .before .before .before .before .before .before .before .before .put-set .ensures .long, c .before .before .before .before .before .before .before .before .before .before .before .before .before .before .before .store-head .ensures .long, start .pre .0 .room);
+        from = start .pre .0 .from;
+        to = start .pre .0 .to;
+      },
+      omega (arith, at-most (start .args .width), start .pre .1),
     )
 
 same-length : tie.Need-same-length

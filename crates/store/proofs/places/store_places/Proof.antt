@@ -21,7 +21,7 @@ places-of-requires : tie.Need-places-of-requires Inv-loop μ-loop
 places-of-requires c κs = search needs
 
 add-first : tie.Need-add-first Inv-loop μ-loop
-add-first c = let start = c .before .before .before .before in omega (arith, c .places-of .ensures, places-few (start .args .width), start .pre .1)
+add-first c = let start = c .before .before .before .before in omega (arith, c .places-of .ensures, places-few (start .args .width), start .pre .1 .places-room)
 
 loop-holds : tie.Need-loop-holds Inv-loop μ-loop
 loop-holds c = (omega arith, written-none _ _ _)
@@ -39,7 +39,7 @@ mul-place-word : tie.Need-mul-place-word Inv-loop μ-loop
 mul-place-word c = omega (arith, c .shared-slice-known3 .given (c .before .before .loop .k))
 
 shared-slice-read-place-word : tie.Need-shared-slice-read-place-word Inv-loop μ-loop
-shared-slice-read-place-word c = c .before .before .before .before .before .before .before .before .pre .3 (c .before .before .before .loop .k) (omega arith)
+shared-slice-read-place-word c = c .before .before .before .before .before .before .before .before .pre .1 .marked (c .before .before .before .loop .k) (omega arith)
 
 place-word-requires : tie.Need-place-word-requires Inv-loop μ-loop
 place-word-requires c κs = search needs
@@ -48,12 +48,12 @@ inside : (c : tie.After-place-word Inv-loop μ-loop) → (c .before .before .bef
 inside c =
     let start = c .before .before .before .before .before .before .before .before .before in
     let v = start .args .width in
-    omega (arith, c .before .before .before .before .before .places-of .ensures, answers-are v, start .pre .0, start .pre .1)
+    omega (arith, c .before .before .before .before .before .places-of .ensures, answers-are v, start .pre .0, start .pre .1 .places-room)
 
 few : (c : tie.After-place-word Inv-loop μ-loop) → (c .before .before .before .before .before .places-of .result + c .before .before .before .before .before .before .before .before .before .args .base) + c .before .before .before .before .loop .k < 9216
 few c =
     let start = c .before .before .before .before .before .before .before .before .before in
-    omega (arith, c .before .before .before .before .before .places-of .ensures, places-few (start .args .width), start .pre .1)
+    omega (arith, c .before .before .before .before .before .places-of .ensures, places-few (start .args .width), start .pre .1 .places-room)
 
 add-answers : tie.Need-add-answers Inv-loop μ-loop
 add-answers c = omega (arith, few c)

@@ -55,12 +55,12 @@ known m = (
 returns : (m : ℕ) → lts.Need-returns (known m) (at m) used-from.Post
 returns m c =
     let start = c .before .before .before .before in
-    walked-none _ _ _ _ _ (start .pre .1 .0) _ (c .if1 .taken) (start .args .rest) _ _ _
+    walked-none _ _ _ _ _ (start .pre .1 .accepted) _ (c .if1 .taken) (start .args .rest) _ _ _
 
 row-at-requires : (m : ℕ) → lts.Need-row-at-requires (known m) (at m) used-from.Post
 row-at-requires m c κs =
     let pre = c .before .before .before .before .pre .1 in
-    (pre .0 .room, row-low _ (pre .0) _ (c .if1 .left) (pre .1))
+    (pre .accepted .room, row-low _ (pre .accepted) _ (c .if1 .left) (pre .row-in))
 
 -- The row that was read.
 row-is : (m : ℕ) (c : lts.After-row-at (known m) (at m) used-from.Post)
@@ -76,14 +76,14 @@ next-of-requires m c κs = search needs
 use-row-requires : (m : ℕ) → lts.Need-use-row-requires (known m) (at m) used-from.Post
 use-row-requires m c κs =
     let r = c .before .before .before in
-    let pre = r .before .before .before .before .before .pre .1 in (
-      pre .0,
-      rw (row-is m r) (low-name _ (pre .0) _ (r .before .if1 .left) (pre .1)),
-      rw (row-is m r) (second-low _ (pre .0) _ (r .before .if1 .left) (pre .1)),
-      r .before .if1 .left,
-      pre .1,
-      pre .2,
-    )
+    let pre = r .before .before .before .before .before .pre .1 in record {
+      accepted = pre .accepted;
+      name-low = rw (row-is m r) (low-name _ (pre .accepted) _ (r .before .if1 .left) (pre .row-in));
+      second-in = rw (row-is m r) (second-low _ (pre .accepted) _ (r .before .if1 .left) (pre .row-in));
+      some-row = r .before .if1 .left;
+      row-in = pre .row-in;
+      firsts-room = pre .firsts-room;
+    }
 
 fresh-requires : (m : ℕ) → lts.Need-fresh-requires (known m) (at m) used-from.Post
 fresh-requires m c κs = search needs
@@ -94,7 +94,7 @@ ready : (m : ℕ) (c : lts.After-next-of (known m) (at m) used-from.Post)
 ready m c =
     let r = c .before .before in
     let start = r .before .before .before .before .before in
-    calls _ (start .pre .1 .0) _ (r .before .if1 .left) (start .pre .1 .1) m (start .pre .0) _ _ (row-is m r) _ (c .before .kids-of .ensures)
+    calls _ (start .pre .1 .accepted) _ (r .before .if1 .left) (start .pre .1 .row-in) m (start .pre .0) _ _ (row-is m r) _ (c .before .kids-of .ensures)
 
 first-requires : (m : ℕ) → lts.Need-used-from-requires (known m) (at m) used-from.Post
 first-requires m c κs =
@@ -106,13 +106,13 @@ first-requires m c κs =
     let pre = start .pre .1 in
     let k = ready m n .first in (
       k .0,
-      (
-        pre .0,
-        k .1,
-        omega (arith, pre .2, o .use-row .kept .1 .1 .1 .1 .1 .1 .0),
-        first-room _ _ _ _ _ (pre .0) _ (r .before .if1 .left) (pre .1) (start .args .rest) _ (row-is m r) _ (n .before .kids-of .ensures) _ (n .next-of .ensures)
-            (start .args .used) _ (pre .3) (o .use-row .result) (f .fresh .result) (o .use-row .ensures .count) (f .fresh .ensures),
-      ),
+      record {
+        accepted = pre .accepted;
+        row-in = k .1;
+        firsts-room = omega (arith, pre .firsts-room, o .use-row .kept .1 .1 .1 .1 .1 .1 .0);
+        room = first-room _ _ _ _ _ (pre .accepted) _ (r .before .if1 .left) (pre .row-in) (start .args .rest) _ (row-is m r) _ (n .before .kids-of .ensures) _ (n .next-of .ensures)
+            (start .args .used) _ (pre .room) (o .use-row .result) (f .fresh .result) (o .use-row .ensures .count) (f .fresh .ensures);
+      },
     )
 
 -- ---- the three parts, each walked where there is one
@@ -124,7 +124,7 @@ first-walk : (m : ℕ) (c : lts.Joined2 (known m) (at m) used-from.Post)
     × (length (c .if2 .firsts) ≡ length (o .use-row .last .1 .1 .1 .1 .1 .1 .0)) × (length (c .if2 .definitions) ≡ length (a .definitions .now))
 first-walk m c =
     let start = c .before .before .before .before .before .before .before .before .before .before .before .before .before .before in
-    guarded-walk _ _ _ _ _ (start .pre .1 .0) _ _ _ _ _ _ _ (λ w. (_, _, _, w .3 .ensures, w .3 .kept .1 .1 .1 .1 .1 .1 .1 .0, w .3 .kept .1 .1 .1 .1 .1 .1 .1 .1 .0, w .8, w .9, w .10)) (λ w. (w .0 .left, w .1, w .2, w .3)) (c .if2 .came)
+    guarded-walk _ _ _ _ _ (start .pre .1 .accepted) _ _ _ _ _ _ _ (λ w. (_, _, _, w .3 .ensures, w .3 .kept .1 .1 .1 .1 .1 .1 .1 .0, w .3 .kept .1 .1 .1 .1 .1 .1 .1 .1 .0, w .8, w .9, w .10)) (λ w. (w .0 .left, w .1, w .2, w .3)) (c .if2 .came)
 
 first-firsts : (m : ℕ) (c : lts.Joined2 (known m) (at m) used-from.Post) → length (c .if2 .firsts) ≡ length (c .before .before .before .before .before .before .before .before .before .before .before .before .before .before .args .firsts .now)
 first-firsts m c = first-walk m c .1 ∙ c .before .before .before .before .before .use-row .kept .1 .1 .1 .1 .1 .1 .0
@@ -138,10 +138,10 @@ here-requires m c κs =
     let r = n .before .before in
     let start = r .before .before .before .before .before in
     let pre = start .pre .1 in (
-      pre .0,
-      rw (row-is m r) (second-low _ (pre .0) _ (r .before .if1 .left) (pre .1)),
-      here-fits _ _ _ _ _ (pre .0) _ (r .before .if1 .left) (pre .1) (start .args .rest) _ (row-is m r) _ (n .before .kids-of .ensures) _ (n .next-of .ensures)
-          (start .args .used) _ (pre .3) (o .use-row .result) (f .fresh .result) (o .use-row .ensures .count) (f .fresh .ensures) _ _ _ _ _ (first-walk m j .0) _ (first-walk m j .2),
+      pre .accepted,
+      rw (row-is m r) (second-low _ (pre .accepted) _ (r .before .if1 .left) (pre .row-in)),
+      here-fits _ _ _ _ _ (pre .accepted) _ (r .before .if1 .left) (pre .row-in) (start .args .rest) _ (row-is m r) _ (n .before .kids-of .ensures) _ (n .next-of .ensures)
+          (start .args .used) _ (pre .room) (o .use-row .result) (f .fresh .result) (o .use-row .ensures .count) (f .fresh .ensures) _ _ _ _ _ (first-walk m j .0) _ (first-walk m j .2),
     )
 
 second-requires : (m : ℕ) → lts.Need-used-from-requires-2 (known m) (at m) used-from.Post
@@ -156,14 +156,14 @@ second-requires m c κs =
     let pre = start .pre .1 in
     let k = ready m n .second in (
       k .0,
-      (
-        pre .0,
-        k .1,
-        omega (arith, pre .2, first-firsts m j),
-        second-room _ _ _ _ _ (pre .0) _ (r .before .if1 .left) (pre .1) (start .args .rest) _ (row-is m r) _ (n .before .kids-of .ensures) _ (n .next-of .ensures)
-            (start .args .used) _ (pre .3) (o .use-row .result) (f .fresh .result) (o .use-row .ensures .count) (f .fresh .ensures) _ _ _ _ _ (first-walk m j .0) _ _ (h .used-here .ensures) _
-            (h .used-here .kept .1 .1 .1 .1 .1 .1 .0 ∙ first-walk m j .2),
-      ),
+      record {
+        accepted = pre .accepted;
+        row-in = k .1;
+        firsts-room = omega (arith, pre .firsts-room, first-firsts m j);
+        room = second-room _ _ _ _ _ (pre .accepted) _ (r .before .if1 .left) (pre .row-in) (start .args .rest) _ (row-is m r) _ (n .before .kids-of .ensures) _ (n .next-of .ensures)
+            (start .args .used) _ (pre .room) (o .use-row .result) (f .fresh .result) (o .use-row .ensures .count) (f .fresh .ensures) _ _ _ _ _ (first-walk m j .0) _ _ (h .used-here .ensures) _
+            (h .used-here .kept .1 .1 .1 .1 .1 .1 .0 ∙ first-walk m j .2);
+      },
     )
 
 second-walk : (m : ℕ) (c : lts.Joined3 (known m) (at m) used-from.Post)
@@ -174,7 +174,7 @@ second-walk : (m : ℕ) (c : lts.Joined3 (known m) (at m) used-from.Post)
     × (length (c .if3 .firsts) ≡ length (j .if2 .firsts)) × (length (c .if3 .definitions) ≡ length (h .used-here .last .1 .1 .1 .1 .1 .1 .0))
 second-walk m c =
     let start = c .before .before .before .before .before .before .before .before .before .before .before .before .before .before .before .before .before .before .before .before in
-    guarded-walk _ _ _ _ _ (start .pre .1 .0) _ _ _ _ _ _ _ (λ w. (_, _, _, w .3 .ensures, w .3 .kept .1 .1 .1 .1 .1 .1 .1 .0, w .3 .kept .1 .1 .1 .1 .1 .1 .1 .1 .0, w .8, w .9, w .10)) (λ w. (w .0 .left, w .1, w .2, w .3)) (c .if3 .came)
+    guarded-walk _ _ _ _ _ (start .pre .1 .accepted) _ _ _ _ _ _ _ (λ w. (_, _, _, w .3 .ensures, w .3 .kept .1 .1 .1 .1 .1 .1 .1 .0, w .3 .kept .1 .1 .1 .1 .1 .1 .1 .1 .0, w .8, w .9, w .10)) (λ w. (w .0 .left, w .1, w .2, w .3)) (c .if3 .came)
 
 second-firsts : (m : ℕ) (c : lts.Joined3 (known m) (at m) used-from.Post) → length (c .if3 .firsts) ≡ length (c .before .before .before .before .before .before .before .before .before .before .before .before .before .before .before .before .before .before .before .before .args .firsts .now)
 second-firsts m c = second-walk m c .1 ∙ first-firsts m (c .before .before .before .before .before .before)
@@ -195,14 +195,14 @@ third-requires m c κs =
     let pre = start .pre .1 in
     let k = ready m n .third in (
       k .0,
-      (
-        pre .0,
-        k .1,
-        omega (arith, pre .2, second-firsts m l),
-        third-room _ _ _ _ _ (pre .0) _ (r .before .if1 .left) (pre .1) (start .args .rest) _ (row-is m r) _ (n .before .kids-of .ensures) _ (n .next-of .ensures)
-            (start .args .used) _ (pre .3) (o .use-row .result) (f .fresh .result) (o .use-row .ensures .count) (f .fresh .ensures) _ _ _ _ _ (first-walk m j .0) _ _ (h .used-here .ensures) _ _ _ (second-walk m l .0) _
-            (second-definitions m l),
-      ),
+      record {
+        accepted = pre .accepted;
+        row-in = k .1;
+        firsts-room = omega (arith, pre .firsts-room, second-firsts m l);
+        room = third-room _ _ _ _ _ (pre .accepted) _ (r .before .if1 .left) (pre .row-in) (start .args .rest) _ (row-is m r) _ (n .before .kids-of .ensures) _ (n .next-of .ensures)
+            (start .args .used) _ (pre .room) (o .use-row .result) (f .fresh .result) (o .use-row .ensures .count) (f .fresh .ensures) _ _ _ _ _ (first-walk m j .0) _ _ (h .used-here .ensures) _ _ _ (second-walk m l .0) _
+            (second-definitions m l);
+      },
     )
 
 third-walk : (m : ℕ) (c : lts.Joined4 (known m) (at m) used-from.Post)
@@ -213,7 +213,7 @@ third-walk : (m : ℕ) (c : lts.Joined4 (known m) (at m) used-from.Post)
     × (length (c .if4 .firsts) ≡ length (l .if3 .firsts)) × (length (c .if4 .definitions) ≡ length (l .if3 .definitions))
 third-walk m c =
     let start = c .before .before .before .before .before .before .before .before .before .before .before .before .before .before .before .before .before .before .before .before .before .before in
-    guarded-walk _ _ _ _ _ (start .pre .1 .0) _ _ _ _ _ _ _ (λ w. (_, _, _, w .3 .ensures, w .3 .kept .1 .1 .1 .1 .1 .1 .1 .0, w .3 .kept .1 .1 .1 .1 .1 .1 .1 .1 .0, w .8, w .9, w .10)) (λ w. (w .0 .left, w .1, w .2, w .3)) (c .if4 .came)
+    guarded-walk _ _ _ _ _ (start .pre .1 .accepted) _ _ _ _ _ _ _ (λ w. (_, _, _, w .3 .ensures, w .3 .kept .1 .1 .1 .1 .1 .1 .1 .0, w .3 .kept .1 .1 .1 .1 .1 .1 .1 .1 .0, w .8, w .9, w .10)) (λ w. (w .0 .left, w .1, w .2, w .3)) (c .if4 .came)
 
 third-firsts : (m : ℕ) (c : lts.Joined4 (known m) (at m) used-from.Post) → length (c .if4 .firsts) ≡ length (c .before .before .before .before .before .before .before .before .before .before .before .before .before .before .before .before .before .before .before .before .before .before .args .firsts .now)
 third-firsts m c = third-walk m c .1 ∙ second-firsts m (c .before .before)
@@ -237,7 +237,7 @@ turned m c e fs ds rest =
     let r = n .before .before in
     let start = r .before .before .before .before .before in
     let pre = start .pre .1 in
-    walked-turn _ _ _ _ _ (pre .0) _ (r .before .if1 .left) (pre .1) (start .args .rest) _ (row-is m r) _ (n .before .kids-of .ensures) _ (n .next-of .ensures)
+    walked-turn _ _ _ _ _ (pre .accepted) _ (r .before .if1 .left) (pre .row-in) (start .args .rest) _ (row-is m r) _ (n .before .kids-of .ensures) _ (n .next-of .ensures)
     _ _ _ _ _ _ _ _ _ _ _ _ _ _ _ _ _ _ _ _ (o .use-row .ensures) (f .fresh .ensures) (first-walk m j .0) (h .used-here .ensures)
     (second-walk m l .0) (third-walk m c .0) rest
 
@@ -250,7 +250,7 @@ same-length-2 m c = third-definitions m (c .before)
 returns-2 : (m : ℕ) → lts.Need-returns-2 (known m) (at m) used-from.Post
 returns-2 m c =
     let start = c .before .before .before .before .before .before .before .before .before .before .before .before .before .before .before .before .before .before .before .before .before .before .before in
-    turned m (c .before) _ _ _ (walked-none _ _ _ _ _ (start .pre .1 .0) _ (c .if5 .taken) true _ _ _)
+    turned m (c .before) _ _ _ (walked-none _ _ _ _ _ (start .pre .1 .accepted) _ (c .if5 .taken) true _ _ _)
 
 next-requires : (m : ℕ) → lts.Need-used-from-requires-4 (known m) (at m) used-from.Post
 next-requires m c κs =
@@ -266,14 +266,14 @@ next-requires m c κs =
     let pre = start .pre .1 in
     let k = ready m n .next in (
       rw (n .next-of .ensures) (k .0),
-      (
-        pre .0,
-        rw (n .next-of .ensures) (k .1),
-        omega (arith, pre .2, third-firsts m q),
-        next-room _ _ _ _ _ (pre .0) _ (r .before .if1 .left) (pre .1) (start .args .rest) _ (row-is m r) _ (n .before .kids-of .ensures) _ (n .next-of .ensures)
-            (start .args .used) _ (pre .3) (o .use-row .result) (f .fresh .result) (o .use-row .ensures .count) (f .fresh .ensures) _ _ _ _ _ (first-walk m j .0) _ _ (h .used-here .ensures) _ _ _ (second-walk m l .0) _ _ _ (third-walk m q .0) _
-            (third-definitions m q),
-      ),
+      record {
+        accepted = pre .accepted;
+        row-in = rw (n .next-of .ensures) (k .1);
+        firsts-room = omega (arith, pre .firsts-room, third-firsts m q);
+        room = next-room _ _ _ _ _ (pre .accepted) _ (r .before .if1 .left) (pre .row-in) (start .args .rest) _ (row-is m r) _ (n .before .kids-of .ensures) _ (n .next-of .ensures)
+            (start .args .used) _ (pre .room) (o .use-row .result) (f .fresh .result) (o .use-row .ensures .count) (f .fresh .ensures) _ _ _ _ _ (first-walk m j .0) _ _ (h .used-here .ensures) _ _ _ (second-walk m l .0) _ _ _ (third-walk m q .0) _
+            (third-definitions m q);
+      },
     )
 
 same-length-3 : (m : ℕ) → lts.Need-same-length-3 (known m) (at m) used-from.Post

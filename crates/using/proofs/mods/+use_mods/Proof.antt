@@ -46,12 +46,12 @@ returns : (m : ℕ) → lts.Need-returns (known m) (here m) use-mods.Post
 returns m c =
     let start = c .before .before .before .before in
     let a = start .args in
-    mods-none (a .tables .now) (a .statement) (start .pre .1 .0) (a .row) (c .if1 .taken) (a .p) (a .names) (a .firsts .now) (a .work .now)
+    mods-none (a .tables .now) (a .statement) (start .pre .1 .accepted) (a .row) (c .if1 .taken) (a .p) (a .names) (a .firsts .now) (a .work .now)
 
 next-at-requires : (m : ℕ) → lts.Need-next-at-requires (known m) (here m) use-mods.Post
 next-at-requires m c κs =
     let pre = c .before .before .before .before .pre .1 in
-    (pre .0 .room, row-low _ (pre .0) _ (c .if1 .left) (pre .1))
+    (pre .accepted .room, row-low _ (pre .accepted) _ (c .if1 .left) (pre .row-in))
 
 empty-requires : (m : ℕ) → lts.Need-empty-requires (known m) (here m) use-mods.Post
 empty-requires m c κs = search needs
@@ -62,10 +62,12 @@ use-vars-requires m c κs =
     let start = else .before .before .before .before in
     let a = start .args in
     let pre = start .pre .1 in (
-      pre .0,
-      pre .1,
-      pre .2,
-      here-ready (a .tables .now) (a .statement) (pre .0) (a .row) (else .if1 .left) (pre .1) (a .p) (a .firsts .now) (a .work .now) (pre .3),
+      record {
+        accepted = pre .accepted;
+        row-in = pre .row-in;
+        firsts-room = pre .firsts-room;
+        ready = here-ready (a .tables .now) (a .statement) (pre .accepted) (a .row) (else .if1 .left) (pre .row-in) (a .p) (a .firsts .now) (a .work .now) (pre .ready);
+      },
       listed-none _ (c .before .before .empty .ensures),
     )
 
@@ -81,14 +83,14 @@ next-requires m c κs =
     let start = else .before .before .before .before in
     let a = start .args in
     let pre = start .pre .1 in
-    let k = chain-call _ (pre .0) _ (else .if1 .left) (pre .1) m (start .pre .0) _ (next .next-at .ensures) in (
+    let k = chain-call _ (pre .accepted) _ (else .if1 .left) (pre .row-in) m (start .pre .0) _ (next .next-at .ensures) in (
       k .0,
-      (
-        pre .0,
-        k .1,
-        omega (arith, pre .2, used .use-vars .kept .1 .1 .1 .1 .1 .1 .0),
-        next-ready (a .tables .now) (a .statement) (pre .0) (a .row) (else .if1 .left) (pre .1) (a .p) (a .firsts .now) (a .work .now) (pre .3) _ (none .empty .ensures) _ _ _ (used .use-vars .ensures) _ (next .next-at .ensures),
-      ),
+      record {
+        accepted = pre .accepted;
+        row-in = k .1;
+        firsts-room = omega (arith, pre .firsts-room, used .use-vars .kept .1 .1 .1 .1 .1 .1 .0);
+        ready = next-ready (a .tables .now) (a .statement) (pre .accepted) (a .row) (else .if1 .left) (pre .row-in) (a .p) (a .firsts .now) (a .work .now) (pre .ready) _ (none .empty .ensures) _ _ _ (used .use-vars .ensures) _ (next .next-at .ensures);
+      },
     )
 
 after-requires : (m : ℕ) → lts.Need-after-requires (known m) (here m) use-mods.Post
@@ -111,7 +113,7 @@ returns-2 m c =
     let start = else .before .before .before .before in
     let a = start .args in
     let pre = start .pre .1 in
-    mods-row (a .tables .now) (a .statement) (pre .0) (a .row) (else .if1 .left) (pre .1) (a .p) (a .firsts .now) (a .work .now) (pre .3) _ (none .empty .ensures) _ _ _ (used .use-vars .ensures) _ (next .next-at .ensures)
+    mods-row (a .tables .now) (a .statement) (pre .accepted) (a .row) (else .if1 .left) (pre .row-in) (a .p) (a .firsts .now) (a .work .now) (pre .ready) _ (none .empty .ensures) _ _ _ (used .use-vars .ensures) _ (next .next-at .ensures)
     (a .names) _ (both .union .ensures) _ _ _ (others .use-mods .ensures) _ (c .after .ensures)
 
 pub +use-mods-spec : {M : Type 1} → statement M

@@ -21,7 +21,7 @@ front k = length (k .before .before .before .before .before .before .before .arg
 front-last : (k : tie.After-answers-of)
     → (let a = k .before .before .before .before .before .before .before .args in front k + answers (a .p .width) ≡ length (a .work .now))
 unfolding front
-front-last k = omega (arith, k .answers-of .ensures, k .before .before .before .before .before .before .before .pre .3 .room .enough)
+front-last k = omega (arith, k .answers-of .ensures, k .before .before .before .before .before .before .before .pre .0 .ready .room .enough)
 
 fine : (k : tie.Then1) → isSound (k .before .before .before .before .before .args .p .fault) ≡ true
 fine k = sym (k .before .is-sound .ensures) ∙ k .if1 .taken
@@ -35,7 +35,7 @@ answers-of-requires c κs = search needs
 sub-end : tie.Need-sub-end
 sub-end c =
     let start = c .before .before .before .before .before .before .before in
-    omega (arith, c .answers-of .ensures, start .pre .3 .room .enough)
+    omega (arith, c .answers-of .ensures, start .pre .0 .ready .room .enough)
 
 slice-relend-prefix-used-vars : tie.Need-slice-relend-prefix-used-vars
 slice-relend-prefix-used-vars c = search needs
@@ -52,12 +52,12 @@ used-vars-requires c κs =
     let k = ans .before .before in
     let start = k .before .before .before .before .before in
     let a = start .args in
-    let pre = start .pre in (
-      pre .0,
-      pre .1,
-      pre .2,
-      defined-room (a .tables .now) (a .extras) (a .statement) (a .row) (a .rest) (a .p) (a .firsts .now) (a .work .now) (pre .3) (fine k) (pre .4) (front ans) (front-last ans) _ refl,
-    )
+    let pre = start .pre in record {
+      accepted = pre .0 .accepted;
+      row-in = pre .0 .row-in;
+      firsts-room = pre .0 .firsts-room;
+      room = defined-room (a .tables .now) (a .extras) (a .statement) (a .row) (a .rest) (a .p) (a .firsts .now) (a .work .now) (pre .0 .ready) (fine k) (pre .1) (front ans) (front-last ans) _ refl;
+    }
 
 use-defined-requires : tie.Need-use-defined-requires
 use-defined-requires c κs = search needs
@@ -78,9 +78,9 @@ returns c =
     let a = start .args in
     let pre = start .pre in
     uses-defined (a .tables .now) (a .extras) (a .statement) (a .row) (a .rest) (a .p) (a .firsts .now) (a .work .now) (fine k) _ (u .used-vars .ensures .undefined) (c .before .if2 .taken) _ _ _
-    (uses-all (a .tables .now) (a .extras) (a .statement) (a .row) (a .rest) (a .p) (a .firsts .now) (a .work .now) (pre .3) (fine k) (pre .4) (front ans) (front-last ans)
+    (uses-all (a .tables .now) (a .extras) (a .statement) (a .row) (a .rest) (a .p) (a .firsts .now) (a .work .now) (pre .0 .ready) (fine k) (pre .1) (front ans) (front-last ans)
     _ _ (u .used-vars .kept .1 .1 .1 .1 .1 .1 .1 .1 .0) _ (u .used-vars .ensures) _ (c .use-defined .ensures))
-    (comprs-if (a .tables .now) (pre .0) _ (a .rest) (a .row) _ (c .use-defined .ensures .comprs) (u .used-vars .ensures .comprs))
+    (comprs-if (a .tables .now) (pre .0 .accepted) _ (a .rest) (a .row) _ (c .use-defined .ensures .comprs) (u .used-vars .ensures .comprs))
 
 empty-requires : tie.Need-empty-requires
 empty-requires c κs = search needs
@@ -92,8 +92,8 @@ fail-undefined-requires c κs =
     let k = ans .before .before in
     let start = k .before .before .before .before .before in
     let a = start .args in (
-      start .pre .0 .room,
-      undefined-low (a .tables .now) (a .extras) (a .statement) (a .row) (a .rest) (a .p) (a .firsts .now) (a .work .now) (fine k) _ (start .pre .3) (start .pre .0) _ (u .used-vars .ensures .undefined),
+      start .pre .0 .accepted .room,
+      undefined-low (a .tables .now) (a .extras) (a .statement) (a .row) (a .rest) (a .p) (a .firsts .now) (a .work .now) (fine k) _ (start .pre .0 .ready) (start .pre .0 .accepted) _ (u .used-vars .ensures .undefined),
     )
 
 same-length-3 : tie.Need-same-length-3
@@ -112,7 +112,7 @@ returns-2 c =
     let a = start .args in
     let pre = start .pre in
     uses-undefined (a .tables .now) (a .extras) (a .statement) (a .row) (a .rest) (a .p) (a .firsts .now) (a .work .now) (fine k) _ (u .used-vars .ensures .undefined) (c .before .before .if2 .left) _ _
-    (rows-stay (a .tables .now) (a .extras) (a .statement) (a .row) (a .rest) (a .p) (a .firsts .now) (a .work .now) (pre .3) (fine k) (pre .4) (front ans) (front-last ans)
+    (rows-stay (a .tables .now) (a .extras) (a .statement) (a .row) (a .rest) (a .p) (a .firsts .now) (a .work .now) (pre .0 .ready) (fine k) (pre .1) (front ans) (front-last ans)
     _ _ (u .used-vars .kept .1 .1 .1 .1 .1 .1 .1 .1 .0) _ (u .used-vars .ensures)) _ (c .fail-undefined .ensures) _
 
 empty-requires-2 : tie.Need-empty-requires-2

@@ -103,7 +103,7 @@ pub gather-local-vars-requires : (m : ℕ) → analyze-query-lts.Need-gather-loc
 gather-local-vars-requires m c κs =
     let pre = c .before .before .before .before .before .before .pre .1 in
     let b = begins m (c .before) in
-    (pre .0, pre .1, b .from, b .to, b .key-low, b .value-low, omega arith)
+    record { accepted = pre .0; outer-room = pre .1; from = b .from; to = b .to; key-in = b .key-low; value-in = b .value-low; spans-room = omega arith }
 
 pub begun-requires : (m : ℕ) → analyze-query-lts.Need-begun-requires (known m) (analyze-query-at m) analyze-query.Post
 begun-requires m c κs = search needs
@@ -132,12 +132,14 @@ process-stmts-requires m c κs =
     let x = starts m (c .before .before .before) in (
       stmts-below _ (pre .0) _ m (c .before .before .before .before .before .before .before .before .if2 .left) (start .pre .0) _,
       (
-        pre .0,
-        pre .1,
-        omega (arith, c .before .before .before .before .before .before .gather-local-vars .kept .1 .1 .1 .1 .1 .0),
-        omega arith,
+        record {
+          accepted = pre .0;
+          outer-room = pre .1;
+          spans-room = omega (arith, c .before .before .before .before .before .before .gather-local-vars .kept .1 .1 .1 .1 .1 .0);
+          firsts-room = omega arith;
+          asks = asks-stmts _ _ _ _ _ _ _ _ _ _ _ x;
+        },
         row-high _ _ _ _ _ _ _ _ _ _ _ x,
-        asks-stmts _ _ _ _ _ _ _ _ _ _ _ x,
       ),
     )
 
@@ -170,13 +172,13 @@ process-comprs-requires m c κs =
     let start = some .before .before .before .before .before in
     let pre = start .pre .1 in (
       comprs-below _ (pre .0) _ m (some .if2 .left) (start .pre .0) _,
-      (
-        pre .0,
-        omega (arith, e .enclose .kept .1 .1 .1 .0),
-        omega (arith, e .before .before .before .before .before .before .before .process-stmts .kept .1 .1 .1 .1 .1 .1 .1 .0),
-        begins m some .key-low,
-        asks-key _ _ _ _ _ _ _ _ _ _ _ _ _ _ (encloses m e),
-      ),
+      record {
+        accepted = pre .0;
+        inner-room = omega (arith, e .enclose .kept .1 .1 .1 .0);
+        firsts-room = omega (arith, e .before .before .before .before .before .before .before .process-stmts .kept .1 .1 .1 .1 .1 .1 .1 .0);
+        row-in = begins m some .key-low;
+        asks = asks-key _ _ _ _ _ _ _ _ _ _ _ _ _ _ (encloses m e);
+      },
     )
 
 -- The comprehensions of the outputs, each walked where there is a row.
@@ -211,13 +213,13 @@ process-comprs-requires-2 m c κs =
     let start = some .before .before .before .before .before in
     let pre = start .pre .1 in (
       comprs-below _ (pre .0) _ m (some .if2 .left) (start .pre .0) _,
-      (
-        pre .0,
-        omega (arith, e .enclose .kept .1 .1 .1 .0),
-        omega (arith, key-walk m j3 .1, e .before .before .before .before .before .before .before .process-stmts .kept .1 .1 .1 .1 .1 .1 .1 .0),
-        begins m some .value-low,
-        asks-value _ _ _ _ _ _ _ _ _ _ _ _ _ _ (encloses m e) _ _ _ (key-walk m j3 .0),
-      ),
+      record {
+        accepted = pre .0;
+        inner-room = omega (arith, e .enclose .kept .1 .1 .1 .0);
+        firsts-room = omega (arith, key-walk m j3 .1, e .before .before .before .before .before .before .before .process-stmts .kept .1 .1 .1 .1 .1 .1 .1 .0);
+        row-in = begins m some .value-low;
+        asks = asks-value _ _ _ _ _ _ _ _ _ _ _ _ _ _ (encloses m e) _ _ _ (key-walk m j3 .0);
+      },
     )
 
 value-walk : (m : ℕ) (c : analyze-query-lts.Joined4 (known m) (analyze-query-at m) analyze-query.Post) →
@@ -242,10 +244,12 @@ finish-requires m c κs =
     let x = encloses m e in
     let key = key-walk m (j4 .before) .0 in
     let value = value-walk m j4 .1 in (
-      some .before .before .before .before .before .pre .1 .0,
-      b .from,
-      b .to,
-      omega (arith, e .before .before .before .before .before .before .before .before .before .before .before .before .before .before .gather-local-vars .kept .1 .1 .1 .1 .1 .0),
+      record {
+        accepted = some .before .before .before .before .before .pre .1 .0;
+        from = b .from;
+        to = b .to;
+        spans-room = omega (arith, e .before .before .before .before .before .before .before .before .before .before .before .before .before .before .gather-local-vars .kept .1 .1 .1 .1 .1 .0);
+      },
       room-last _ _ _ _ _ _ _ _ _ _ _ _ _ _ x _ _ _ key _ _ _ value,
       based-last _ _ _ _ _ _ _ _ _ _ _ _ _ _ x _ _ _ key _ _ _ value,
     )

@@ -36,12 +36,14 @@ use-expr-requires m c κs =
     let pre = start .pre .1 in (
       omega (arith, start .pre .0),
       (
-        pre .0,
-        pre .1,
-        pre .2,
-        pre .4,
+        record {
+          accepted = pre .accepted;
+          inner-room = pre .inner-room;
+          firsts-room = pre .firsts-room;
+          row-in = pre .right-in;
+          asks = asks-right _ _ _ _ (start .args .check) _ _ _ _ (none .before .if1 .left) (pre .asks);
+        },
         listed-none _ (none .empty .ensures),
-        asks-right _ _ _ _ (start .args .check) _ _ _ _ (none .before .if1 .left) (pre .5),
       ),
     )
 
@@ -50,12 +52,12 @@ assign-requires m c κs =
     let first = c .before .before .before .before .before .before in
     let none = first .before .before .before in
     let start = none .before .before .before .before .before .before in
-    let pre = start .pre .1 in (
-      pre .0,
-      pre .3,
-      omega (arith, pre .2, first .use-expr .kept .1 .1 .1 .1 .1 .1 .1 .0),
-      ready-left _ _ _ _ (start .args .check) _ _ _ _ (none .before .if1 .left) (pre .5) _ (none .empty .ensures) _ _ _ (first .use-expr .ensures),
-    )
+    let pre = start .pre .1 in record {
+      accepted = pre .accepted;
+      row-in = pre .left-in;
+      firsts-room = omega (arith, pre .firsts-room, first .use-expr .kept .1 .1 .1 .1 .1 .1 .1 .0);
+      ready = ready-left _ _ _ _ (start .args .check) _ _ _ _ (none .before .if1 .left) (pre .asks) _ (none .empty .ensures) _ _ _ (first .use-expr .ensures);
+    }
 
 pub use-expr-requires-2 : (m : ℕ) → assign-pair-lts.Need-use-expr-requires-2 (known m) (assign-pair-at m) assign-pair.Post
 use-expr-requires-2 m c κs =
@@ -66,13 +68,15 @@ use-expr-requires-2 m c κs =
     let pre = start .pre .1 in (
       omega (arith, start .pre .0),
       (
-        pre .0,
-        pre .1,
-        omega (arith, pre .2, first .use-expr .kept .1 .1 .1 .1 .1 .1 .1 .0),
-        pre .3,
+        record {
+          accepted = pre .accepted;
+          inner-room = pre .inner-room;
+          firsts-room = omega (arith, pre .firsts-room, first .use-expr .kept .1 .1 .1 .1 .1 .1 .1 .0);
+          row-in = pre .left-in;
+          asks = asks-left _ _ _ _ (start .args .check) _ _ _ _ (none .before .if1 .left) (pre .asks) _ (none .empty .ensures) _ _ _ (first .use-expr .ensures) _ _
+              (assign .assign .ensures);
+        },
         listed-none _ (none .empty .ensures),
-        asks-left _ _ _ _ (start .args .check) _ _ _ _ (none .before .if1 .left) (pre .5) _ (none .empty .ensures) _ _ _ (first .use-expr .ensures) _ _
-            (assign .assign .ensures),
       ),
     )
 
@@ -83,13 +87,13 @@ assign-requires-2 m c κs =
     let first = assign .before .before .before .before .before .before .before in
     let none = first .before .before .before in
     let start = none .before .before .before .before .before .before in
-    let pre = start .pre .1 in (
-      pre .0,
-      pre .4,
-      omega (arith, pre .2, first .use-expr .kept .1 .1 .1 .1 .1 .1 .1 .0, again .use-expr2 .kept .1 .1 .1 .1 .1 .1 .1 .0),
-      ready-right _ _ _ _ (start .args .check) _ _ _ _ (none .before .if1 .left) (pre .5) _ (none .empty .ensures) _ _ _ (first .use-expr .ensures) _ _
-          (assign .assign .ensures) _ _ _ (again .use-expr2 .ensures),
-    )
+    let pre = start .pre .1 in record {
+      accepted = pre .accepted;
+      row-in = pre .right-in;
+      firsts-room = omega (arith, pre .firsts-room, first .use-expr .kept .1 .1 .1 .1 .1 .1 .1 .0, again .use-expr2 .kept .1 .1 .1 .1 .1 .1 .1 .0);
+      ready = ready-right _ _ _ _ (start .args .check) _ _ _ _ (none .before .if1 .left) (pre .asks) _ (none .empty .ensures) _ _ _ (first .use-expr .ensures) _ _
+          (assign .assign .ensures) _ _ _ (again .use-expr2 .ensures);
+    }
 
 pub same-length : (m : ℕ) → assign-pair-lts.Need-same-length (known m) (assign-pair-at m) assign-pair.Post
 same-length m c =
@@ -119,5 +123,5 @@ returns-2 m c =
     let none = first .before .before .before in
     let start = none .before .before .before .before .before .before in
     let pre = start .pre .1 in
-    pair-does _ _ _ _ _ _ _ _ _ (none .before .if1 .left) (pre .5) _ (none .empty .ensures) _ _ _ (first .use-expr .ensures) _ _
+    pair-does _ _ _ _ _ _ _ _ _ (none .before .if1 .left) (pre .asks) _ (none .empty .ensures) _ _ _ (first .use-expr .ensures) _ _
     (assign .assign .ensures) _ _ _ (again .use-expr2 .ensures) _ _ (last .assign2 .ensures)

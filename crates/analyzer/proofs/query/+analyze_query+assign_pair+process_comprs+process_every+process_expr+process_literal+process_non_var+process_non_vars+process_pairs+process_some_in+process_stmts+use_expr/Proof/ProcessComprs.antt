@@ -52,12 +52,12 @@ known m = (
 pub returns : (m : ℕ) → process-comprs-lts.Need-returns (known m) (process-comprs-at m) process-comprs.Post
 returns m c =
     let start = c .before .before .before .before .before in
-    does-none _ _ _ (start .pre .1 .0) _ (c .if1 .taken) (start .args .rest) _ _ _
+    does-none _ _ _ (start .pre .1 .accepted) _ (c .if1 .taken) (start .args .rest) _ _ _
 
 pub row-at-requires : (m : ℕ) → process-comprs-lts.Need-row-at-requires (known m) (process-comprs-at m) process-comprs.Post
 row-at-requires m c κs =
     let pre = c .before .before .before .before .before .pre .1 in
-    (pre .0 .room, row-low _ (pre .0) _ (c .if1 .left) (pre .3))
+    (pre .accepted .room, row-low _ (pre .accepted) _ (c .if1 .left) (pre .row-in))
 
 -- The row that was read.
 row-is : (m : ℕ) (c : process-comprs-lts.After-row-at (known m) (process-comprs-at m) process-comprs.Post)
@@ -69,7 +69,7 @@ row-is m c = c .row-at .ensures ∙ row-fields _ _
 query-in : (m : ℕ) (c : process-comprs-lts.After-row-at (known m) (process-comprs-at m) process-comprs.Post) → QueryIn (c .row-at .result)
 query-in m c =
     let pre = c .before .before .before .before .before .before .pre .1 in
-    row-query _ (pre .0) _ (c .before .if1 .left) (pre .3) _ (row-is m c)
+    row-query _ (pre .accepted) _ (c .before .if1 .left) (pre .row-in) _ (row-is m c)
 
 pub kids-of-requires : (m : ℕ) → process-comprs-lts.Need-kids-of-requires (known m) (process-comprs-at m) process-comprs.Post
 kids-of-requires m c κs = search needs
@@ -83,7 +83,7 @@ room : (m : ℕ) (c : process-comprs-lts.After-row-at (known m) (process-comprs-
     n ≡ Widths.row (a .p .width) * a .p .count → n + answers (a .p .width) ≤ length (a .work .now)
 room m c =
     let pre = c .before .before .before .before .before .before .pre .1 in
-    room-at _ (pre .0) _ _ (c .before .if1 .left) (pre .3) _ (row-is m c) _ _ _ (pre .4)
+    room-at _ (pre .accepted) _ _ (c .before .if1 .left) (pre .row-in) _ (row-is m c) _ _ _ (pre .asks)
 
 -- So many words have the rows.
 rows-are : (m : ℕ) (c : process-comprs-lts.After-row (known m) (process-comprs-at m) process-comprs.Post)
@@ -139,9 +139,9 @@ analyze-query-requires m c κs =
     let pre = start .pre .1 in (
       omega (arith, start .pre .0),
       (
-        pre .0,
-        pre .1,
-        query-asks _ (pre .0) _ _ (r .before .if1 .left) (pre .3) _ (row-is m r) _ _ _ (pre .4)
+        pre .accepted,
+        pre .inner-room,
+        query-asks _ (pre .accepted) _ _ (r .before .if1 .left) (pre .row-in) _ (row-is m r) _ _ _ (pre .asks)
             _ (rows-are m (c .before .before .before .before)) _ (q .pending .ensures) (query-in m r),
       ),
     )
@@ -153,7 +153,7 @@ after-compr-requires m c κs =
     let start = r .before .before .before .before .before .before in
     let rows = rows-are m (a .before .before .before .before .before) in
     let pre = start .pre .1 in (
-      pre .2,
+      pre .firsts-room,
       omega (arith, room m r _ rows, whole-length (start .args .p .width) (start .args .work .now) _ (room m r _ rows) (a .analyze-query .last .1 .1 .1 .1 .1 .1 .0) (a .analyze-query .kept .1 .1 .1 .1 .1 .1 .0)),
       query-in m r,
     )
@@ -177,7 +177,7 @@ own m c =
     let r = q .before .before .before .before .before .before .before .before .before .before in
     let start = r .before .before .before .before .before .before in
     let pre = start .pre .1 in
-    own-does _ (pre .0) _ _ (r .before .if1 .left) (pre .3) _ (row-is m r) _ _ _ (pre .4)
+    own-does _ (pre .accepted) _ _ (r .before .if1 .left) (pre .row-in) _ (row-is m r) _ _ _ (pre .asks)
     _ (rows-are m (q .before .before .before .before .before)) _ (q .before .before .before .before .before .before .pending .ensures) (query-in m r) (start .args .levels) _ _
     (q .analyze-query .kept .1 .1 .1 .1 .1 .1 .0) (q .analyze-query .ensures) _ _ (c .after-compr .ensures)
 
@@ -187,7 +187,7 @@ ready : (m : ℕ) (c : process-comprs-lts.After-next-of (known m) (process-compr
 ready m c =
     let r = c .before .before in
     let pre = r .before .before .before .before .before .before .pre .1 in
-    calls _ (pre .0) _ (r .before .if1 .left) (pre .3) _ refl _ _ (row-is m r) _ (c .before .kids-of .ensures)
+    calls _ (pre .accepted) _ (r .before .if1 .left) (pre .row-in) _ refl _ _ (row-is m r) _ (c .before .kids-of .ensures)
 
 pub process-comprs-requires : (m : ℕ) → process-comprs-lts.Need-process-comprs-requires (known m) (process-comprs-at m) process-comprs.Post
 process-comprs-requires m c κs =
@@ -198,14 +198,14 @@ process-comprs-requires m c κs =
     let pre = start .pre .1 in
     let k = ready m n .first in (
       omega (arith, k .0, start .pre .0),
-      (
-        pre .0,
-        pre .1,
-        omega (arith, pre .2, a .after-compr .kept .1 .1 .1 .0),
-        k .1,
-        first-asks _ (pre .0) _ _ (r .before .if1 .left) (pre .3) _ (row-is m r) _ _ _ (pre .4) (start .args .levels) (start .args .rest) _ (n .before .kids-of .ensures) _ (n .next-of .ensures)
-            _ _ _ (own m a),
-      ),
+      record {
+        accepted = pre .accepted;
+        inner-room = pre .inner-room;
+        firsts-room = omega (arith, pre .firsts-room, a .after-compr .kept .1 .1 .1 .0);
+        row-in = k .1;
+        asks = first-asks _ (pre .accepted) _ _ (r .before .if1 .left) (pre .row-in) _ (row-is m r) _ _ _ (pre .asks) (start .args .levels) (start .args .rest) _ (n .before .kids-of .ensures) _ (n .next-of .ensures)
+            _ _ _ (own m a);
+      },
     )
 
 -- The three parts, each walked where there is one.
@@ -218,7 +218,7 @@ first-walk : (m : ℕ) (c : process-comprs-lts.Joined2 (known m) (process-comprs
 first-walk m c =
     let a = c .before .before .before .before in
     let start = a .before .before .before .before .before .before .before .before .before .before .before .before .before .before .before .before .before .before .before .before .before in
-    walked-comprs _ _ _ (start .pre .1 .0) true _ _ _ (analysed m (a .before .before .before .before .before)) _ _ _
+    walked-comprs _ _ _ (start .pre .1 .accepted) true _ _ _ (analysed m (a .before .before .before .before .before)) _ _ _
     (λ w. (_, _, _, (w .3 .ensures, w .3 .kept .1 .1 .1 .1 .1 .1 .0, w .3 .kept .1 .1 .1 .1 .1 .1 .1 .0), w .8, w .9, w .10))
     (λ w. (w .0 .left, w .1, w .2, w .3)) (c .if2 .came)
 
@@ -232,14 +232,14 @@ process-comprs-requires-2 m c κs =
     let pre = start .pre .1 in
     let k = ready m n .second in (
       omega (arith, k .0, start .pre .0),
-      (
-        pre .0,
-        pre .1,
-        omega (arith, pre .2, a .after-compr .kept .1 .1 .1 .0, first-walk m j2 .1),
-        k .1,
-        second-asks _ (pre .0) _ _ (r .before .if1 .left) (pre .3) _ (row-is m r) _ _ _ (pre .4) (start .args .levels) (start .args .rest) _ (n .before .kids-of .ensures) _ (n .next-of .ensures)
-            _ _ _ (own m a) _ _ _ (first-walk m j2 .0),
-      ),
+      record {
+        accepted = pre .accepted;
+        inner-room = pre .inner-room;
+        firsts-room = omega (arith, pre .firsts-room, a .after-compr .kept .1 .1 .1 .0, first-walk m j2 .1);
+        row-in = k .1;
+        asks = second-asks _ (pre .accepted) _ _ (r .before .if1 .left) (pre .row-in) _ (row-is m r) _ _ _ (pre .asks) (start .args .levels) (start .args .rest) _ (n .before .kids-of .ensures) _ (n .next-of .ensures)
+            _ _ _ (own m a) _ _ _ (first-walk m j2 .0);
+      },
     )
 
 second-walk : (m : ℕ) (c : process-comprs-lts.Joined3 (known m) (process-comprs-at m) process-comprs.Post)
@@ -250,7 +250,7 @@ second-walk : (m : ℕ) (c : process-comprs-lts.Joined3 (known m) (process-compr
     (c .before .before .if2 .s) (c .before .before .if2 .firsts) (c .before .before .if2 .work) (c .if3 .s) (c .if3 .firsts) (c .if3 .work)
 second-walk m c =
     let start = c .before .before .before .before .before .before .before .before .before .before .before .before .before .before .before .before .before .before .before .before .before .before .before .before .before .before .before in
-    walked-comprs _ _ _ (start .pre .1 .0) true _ _ _ _ _ _ _
+    walked-comprs _ _ _ (start .pre .1 .accepted) true _ _ _ _ _ _ _
     (λ w. (_, _, _, (w .3 .ensures, w .3 .kept .1 .1 .1 .1 .1 .1 .0, w .3 .kept .1 .1 .1 .1 .1 .1 .1 .0), w .8, w .9, w .10))
     (λ w. (w .0 .left, w .1, w .2, w .3)) (c .if3 .came)
 
@@ -265,14 +265,14 @@ process-comprs-requires-3 m c κs =
     let pre = start .pre .1 in
     let k = ready m n .third in (
       omega (arith, k .0, start .pre .0),
-      (
-        pre .0,
-        pre .1,
-        omega (arith, pre .2, a .after-compr .kept .1 .1 .1 .0, first-walk m j2 .1, second-walk m j3 .1),
-        k .1,
-        third-asks _ (pre .0) _ _ (r .before .if1 .left) (pre .3) _ (row-is m r) _ _ _ (pre .4) (start .args .levels) (start .args .rest) _ (n .before .kids-of .ensures) _ (n .next-of .ensures)
-            _ _ _ (own m a) _ _ _ (first-walk m j2 .0) _ _ _ (second-walk m j3 .0),
-      ),
+      record {
+        accepted = pre .accepted;
+        inner-room = pre .inner-room;
+        firsts-room = omega (arith, pre .firsts-room, a .after-compr .kept .1 .1 .1 .0, first-walk m j2 .1, second-walk m j3 .1);
+        row-in = k .1;
+        asks = third-asks _ (pre .accepted) _ _ (r .before .if1 .left) (pre .row-in) _ (row-is m r) _ _ _ (pre .asks) (start .args .levels) (start .args .rest) _ (n .before .kids-of .ensures) _ (n .next-of .ensures)
+            _ _ _ (own m a) _ _ _ (first-walk m j2 .0) _ _ _ (second-walk m j3 .0);
+      },
     )
 
 third-walk : (m : ℕ) (c : process-comprs-lts.Joined4 (known m) (process-comprs-at m) process-comprs.Post)
@@ -283,7 +283,7 @@ third-walk : (m : ℕ) (c : process-comprs-lts.Joined4 (known m) (process-comprs
     (c .before .before .if3 .s) (c .before .before .if3 .firsts) (c .before .before .if3 .work) (c .if4 .s) (c .if4 .firsts) (c .if4 .work)
 third-walk m c =
     let start = c .before .before .before .before .before .before .before .before .before .before .before .before .before .before .before .before .before .before .before .before .before .before .before .before .before .before .before .before .before in
-    walked-comprs _ _ _ (start .pre .1 .0) true _ _ _ _ _ _ _
+    walked-comprs _ _ _ (start .pre .1 .accepted) true _ _ _ _ _ _ _
     (λ w. (_, _, _, (w .3 .ensures, w .3 .kept .1 .1 .1 .1 .1 .1 .0, w .3 .kept .1 .1 .1 .1 .1 .1 .1 .0), w .8, w .9, w .10))
     (λ w. (w .0 .left, w .1, w .2, w .3)) (c .if4 .came)
 
@@ -314,7 +314,7 @@ turned m c s fs w rest =
     let r = n .before .before in
     let start = r .before .before .before .before .before .before in
     let pre = start .pre .1 in
-    turn-does _ (pre .0) _ _ (r .before .if1 .left) (pre .3) _ (row-is m r) _ _ _ (pre .4) (start .args .levels) (start .args .rest) _ (n .before .kids-of .ensures) _ (n .next-of .ensures)
+    turn-does _ (pre .accepted) _ _ (r .before .if1 .left) (pre .row-in) _ (row-is m r) _ _ _ (pre .asks) (start .args .levels) (start .args .rest) _ (n .before .kids-of .ensures) _ (n .next-of .ensures)
     _ _ _ (own m a) _ _ _ (first-walk m j2 .0) _ _ _ (second-walk m j3 .0) _ _ _ (third-walk m c .0) _ _ _ rest
 
 pub same-length : (m : ℕ) → process-comprs-lts.Need-same-length (known m) (process-comprs-at m) process-comprs.Post
@@ -326,7 +326,7 @@ same-length-2 m c = kept m (c .before) .1
 pub returns-2 : (m : ℕ) → process-comprs-lts.Need-returns-2 (known m) (process-comprs-at m) process-comprs.Post
 returns-2 m c =
     let start = c .before .before .before .before .before .before .before .before .before .before .before .before .before .before .before .before .before .before .before .before .before .before .before .before .before .before .before .before .before .before in
-    turned m (c .before) _ _ _ (does-none _ _ _ (start .pre .1 .0) _ (c .if5 .taken) true _ _ _)
+    turned m (c .before) _ _ _ (does-none _ _ _ (start .pre .1 .accepted) _ (c .if5 .taken) true _ _ _)
 
 pub process-comprs-requires-4 : (m : ℕ) → process-comprs-lts.Need-process-comprs-requires-4 (known m) (process-comprs-at m) process-comprs.Post
 process-comprs-requires-4 m c κs =
@@ -341,14 +341,14 @@ process-comprs-requires-4 m c κs =
     let k = ready m n .next in
     let low : Falls (start .args .tables .now) (remains (start .args .tables .now) (start .args .row)) (n .next-of .result) = rw (n .next-of .ensures) k in (
       omega (arith, low .0, start .pre .0),
-      (
-        pre .0,
-        pre .1,
-        omega (arith, pre .2, kept m j4 .0),
-        low .1,
-        next-asks _ (pre .0) _ _ (r .before .if1 .left) (pre .3) _ (row-is m r) _ _ _ (pre .4) (start .args .levels) (start .args .rest) _ (n .before .kids-of .ensures) _ (n .next-of .ensures)
-            _ _ _ (own m a) _ _ _ (first-walk m j2 .0) _ _ _ (second-walk m j3 .0) _ _ _ (third-walk m j4 .0),
-      ),
+      record {
+        accepted = pre .accepted;
+        inner-room = pre .inner-room;
+        firsts-room = omega (arith, pre .firsts-room, kept m j4 .0);
+        row-in = low .1;
+        asks = next-asks _ (pre .accepted) _ _ (r .before .if1 .left) (pre .row-in) _ (row-is m r) _ _ _ (pre .asks) (start .args .levels) (start .args .rest) _ (n .before .kids-of .ensures) _ (n .next-of .ensures)
+            _ _ _ (own m a) _ _ _ (first-walk m j2 .0) _ _ _ (second-walk m j3 .0) _ _ _ (third-walk m j4 .0);
+      },
     )
 
 pub same-length-3 : (m : ℕ) → process-comprs-lts.Need-same-length-3 (known m) (process-comprs-at m) process-comprs.Post

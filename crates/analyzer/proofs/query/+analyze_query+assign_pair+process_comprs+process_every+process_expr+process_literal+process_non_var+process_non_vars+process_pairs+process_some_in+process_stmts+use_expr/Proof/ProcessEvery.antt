@@ -68,13 +68,15 @@ use-expr-requires m c κs =
     let pre = start .pre .1 in (
       omega (arith, start .pre .0),
       (
-        pre .0,
-        search needs,
-        pre .3,
-        named (a .tables .now) (pre .0) (a .outer .now) (a .spans .now) (a .st) (a .context) (a .p) (a .firsts .now) (a .work .now) (pre .4) (pre .5) .third,
+        record {
+          accepted = pre .0 .accepted;
+          inner-room = search needs;
+          firsts-room = pre .0 .firsts-room;
+          row-in = named (a .tables .now) (pre .0 .accepted) (a .outer .now) (a .spans .now) (a .st) (a .context) (a .p) (a .firsts .now) (a .work .now) (pre .1) (pre .0 .asks) .third;
+          asks = use-asks (a .tables .now) (pre .0 .accepted) (a .outer .now) (a .spans .now) (a .st) (a .context) (a .p) (a .firsts .now) (a .work .now) (pre .1) (pre .0 .asks)
+              _ (closed .enclose .ensures) _ (empty .empty .ensures);
+        },
         listed-none _ (empty .empty .ensures),
-        use-asks (a .tables .now) (pre .0) (a .outer .now) (a .spans .now) (a .st) (a .context) (a .p) (a .firsts .now) (a .work .now) (pre .4) (pre .5)
-            _ (closed .enclose .ensures) _ (empty .empty .ensures),
       ),
     )
 
@@ -86,7 +88,7 @@ record-one-requires m c κs =
     let start = closed .before .before .before .before .before .before .before in
     let a = start .args in
     let pre = start .pre .1 in
-    one-fits (a .tables .now) (pre .0) (a .outer .now) (a .spans .now) (a .st) (a .context) (a .p) (a .firsts .now) (a .work .now) (pre .4) (pre .5)
+    one-fits (a .tables .now) (pre .0 .accepted) (a .outer .now) (a .spans .now) (a .st) (a .context) (a .p) (a .firsts .now) (a .work .now) (pre .1) (pre .0 .asks)
     _ (closed .enclose .ensures) _ (empty .empty .ensures) _ _ _ (uses .use-expr .ensures)
 
 -- There is room for the rows of definitions, which have n words, and for the table.
@@ -100,7 +102,7 @@ room m c =
     let start = closed .before .before .before .before .before .before .before in
     let a = start .args in
     let pre = start .pre .1 in
-    room-at (a .tables .now) (pre .0) (a .outer .now) (a .spans .now) (a .st) (a .context) (a .p) (a .firsts .now) (a .work .now) (pre .4) (pre .5)
+    room-at (a .tables .now) (pre .0 .accepted) (a .outer .now) (a .spans .now) (a .st) (a .context) (a .p) (a .firsts .now) (a .work .now) (pre .1) (pre .0 .asks)
     _ (closed .enclose .ensures) _ (empty .empty .ensures) _ _ _ (uses .use-expr .ensures) _ _ (c .record-one .ensures)
 
 -- So many words have the rows.
@@ -131,8 +133,14 @@ enclose-every-requires m c κs =
     let start = c .before .before .before .before .before .before .before .before .before .before .before .before .before .before .before .before .before .before .before .before .before .before .before .before .before .before in
     let a = start .args in
     let pre = start .pre .1 in
-    let rows = named (a .tables .now) (pre .0) (a .outer .now) (a .spans .now) (a .st) (a .context) (a .p) (a .firsts .now) (a .work .now) (pre .4) (pre .5) in
-    (pre .0, omega (arith, c .before .before .before .before .before .before .before .before .before .before .before .before .before .before .before .before .before .before .before .enclose .kept .1 .1 .1 .0), rows .first, rows .second, search needs)
+    let rows = named (a .tables .now) (pre .0 .accepted) (a .outer .now) (a .spans .now) (a .st) (a .context) (a .p) (a .firsts .now) (a .work .now) (pre .1) (pre .0 .asks) in
+    record {
+      accepted = pre .0 .accepted;
+      outer-room = omega (arith, c .before .before .before .before .before .before .before .before .before .before .before .before .before .before .before .before .before .before .before .enclose .kept .1 .1 .1 .0);
+      key-in = rows .first;
+      value-in = rows .second;
+      inner-room = search needs;
+    }
 
 pub cast-body-of : (m : ℕ) → process-every-lts.Need-cast-body-of (known m) (process-every-at m) process-every.Post
 cast-body-of m c = search needs
@@ -184,9 +192,9 @@ analyze-query-requires m c κs =
     let pre = start .pre .1 in (
       omega (arith, start .pre .0),
       (
-        pre .0,
+        pre .0 .accepted,
         omega (arith, around .enclose-every .kept .1 .1 .1 .1 .0),
-        query-asks (a .tables .now) (pre .0) (a .outer .now) (a .spans .now) (a .st) (a .context) (a .p) (a .firsts .now) (a .work .now) (pre .4) (pre .5)
+        query-asks (a .tables .now) (pre .0 .accepted) (a .outer .now) (a .spans .now) (a .st) (a .context) (a .p) (a .firsts .now) (a .work .now) (pre .1) (pre .0 .asks)
             _ (closed .enclose .ensures) _ (empty .empty .ensures) _ _ _ (uses .use-expr .ensures) _ _ (one .record-one .ensures)
             _ (rows-are m (c .before .before .before)) _ (around .enclose-every .ensures) _ (which .body-of .ensures),
       ),
@@ -221,7 +229,7 @@ returns m c =
     let start = closed .before .before .before .before .before .before .before in
     let a = start .args in
     let pre = start .pre .1 in
-    every-does (a .tables .now) (pre .0) (a .outer .now) (a .spans .now) (a .st) (a .context) (a .p) (a .firsts .now) (a .work .now) (pre .4) (pre .5)
+    every-does (a .tables .now) (pre .0 .accepted) (a .outer .now) (a .spans .now) (a .st) (a .context) (a .p) (a .firsts .now) (a .work .now) (pre .1) (pre .0 .asks)
     _ (closed .enclose .ensures) _ (empty .empty .ensures) _ _ _ (uses .use-expr .ensures) _ _ (one .record-one .ensures)
     _ (rows-are m (query .before .before .before .before)) _ (around .enclose-every .ensures) _ (which .body-of .ensures) _ _ (query .analyze-query .kept .1 .1 .1 .1 .1 .1 .0) (query .analyze-query .ensures)
     _ (c .after-body .ensures)

@@ -48,14 +48,14 @@ known m = (
 pub extra-arg-requires : (m : ℕ) → process-expr-lts.Need-extra-arg-requires (known m) (process-expr-at m) process-expr.Post
 extra-arg-requires m c κs =
     let pre = c .before .before .before .before .before .pre .1 in
-    (pre .0, pre .4 .low)
+    (pre .accepted, pre .asks .low)
 
 pub extra-vars-requires : (m : ℕ) → process-expr-lts.Need-extra-vars-requires (known m) (process-expr-at m) process-expr.Post
 extra-vars-requires m c κs =
     let start = c .before .before .before .before .before .before in
     let a = start .args in
     let pre = start .pre .1 in
-    (pre .0, pre .1, arg-low (a .tables .now) (pre .0) (a .outer .now) (a .spans .now) (a .row) (a .call) (a .context) (a .p) (a .firsts .now) (a .work .now) (pre .4) _ (c .extra-arg .ensures))
+    (pre .accepted, pre .outer-room, arg-low (a .tables .now) (pre .accepted) (a .outer .now) (a .spans .now) (a .row) (a .call) (a .context) (a .p) (a .firsts .now) (a .work .now) (pre .asks) _ (c .extra-arg .ensures))
 
 pub bind-extras-requires : (m : ℕ) → process-expr-lts.Need-bind-extras-requires (known m) (process-expr-at m) process-expr.Post
 bind-extras-requires m c κs = search needs
@@ -69,7 +69,7 @@ enclose-requires m c κs = search needs
 pub row-at-requires : (m : ℕ) → process-expr-lts.Need-row-at-requires (known m) (process-expr-at m) process-expr.Post
 row-at-requires m c κs =
     let pre = c .before .before .before .before .before .before .before .before .before .before .before .pre .1 in
-    (pre .0 .room, row-low _ (pre .0) _ (λ z. omega (arith, pre .4 .there)) (pre .4 .low))
+    (pre .accepted .room, row-low _ (pre .accepted) _ (λ z. omega (arith, pre .asks .there)) (pre .asks .low))
 
 -- The row that was read.
 row-is : (m : ℕ) (c : process-expr-lts.After-row-at (known m) (process-expr-at m) process-expr.Post)
@@ -99,17 +99,17 @@ process-pairs-requires m c κs =
     let start = bound .before .before .before .before .before .before .before .before in
     let a = start .args in
     let pre = start .pre .1 in (
-      omega (arith, start .pre .0, few-remain _ (pre .0) (row .row-at .result .first)),
-      (
-        pre .0,
-        search needs,
-        pre .3,
-        first-low _ (pre .0) _ (λ z. omega (arith, pre .4 .there)) (pre .4 .low) _ (row-is m row),
-        second-low _ (pre .0) _ (λ z. omega (arith, pre .4 .there)) (pre .4 .low) _ (row-is m row),
-        pairs-asks (a .tables .now) (pre .0) (a .outer .now) (a .spans .now) (a .row) (a .call) (a .context) (a .p) (a .firsts .now) (a .work .now) (pre .4)
+      omega (arith, start .pre .0, few-remain _ (pre .accepted) (row .row-at .result .first)),
+      record {
+        accepted = pre .accepted;
+        inner-room = search needs;
+        firsts-room = pre .firsts-room;
+        left-in = first-low _ (pre .accepted) _ (λ z. omega (arith, pre .asks .there)) (pre .asks .low) _ (row-is m row);
+        right-in = second-low _ (pre .accepted) _ (λ z. omega (arith, pre .asks .there)) (pre .asks .low) _ (row-is m row);
+        asks = pairs-asks (a .tables .now) (pre .accepted) (a .outer .now) (a .spans .now) (a .row) (a .call) (a .context) (a .p) (a .firsts .now) (a .work .now) (pre .asks)
             _ (bound .before .before .extra-arg .ensures) _ (bound .before .extra-vars .ensures) _ (bound .bind-extras .ensures) _ (closed .enclose .ensures)
-            _ (row-is m row) (sym (c .before .before .before .before .before .before .before .is-assign .ensures) ∙ c .before .before .before .before .before .before .if1 .taken),
-      ),
+            _ (row-is m row) (sym (c .before .before .before .before .before .before .before .is-assign .ensures) ∙ c .before .before .before .before .before .before .if1 .taken);
+      },
     )
 
 pub same-length : (m : ℕ) → process-expr-lts.Need-same-length (known m) (process-expr-at m) process-expr.Post
@@ -126,7 +126,7 @@ returns m c =
     let start = bound .before .before .before .before .before .before .before .before in
     let a = start .args in
     let pre = start .pre .1 in
-    assign-does (a .tables .now) (pre .0) (a .outer .now) (a .spans .now) (a .row) (a .call) (a .context) (a .p) (a .firsts .now) (a .work .now) (pre .4)
+    assign-does (a .tables .now) (pre .accepted) (a .outer .now) (a .spans .now) (a .row) (a .call) (a .context) (a .p) (a .firsts .now) (a .work .now) (pre .asks)
     _ (bound .before .before .extra-arg .ensures) _ (bound .before .extra-vars .ensures) _ (bound .bind-extras .ensures) _ (closed .enclose .ensures)
     _ (row-is m row) (sym (c .before .before .before .before .before .before .before .before .before .before .before .before .is-assign .ensures) ∙ c .before .before .before .before .before .before .before .before .before .before .before .if1 .taken)
     _ (c .before .before .before .before .before .before .before .is-col-eq .ensures) _ _ _ (c .before .before .before .before .process-pairs .ensures)
@@ -144,13 +144,15 @@ use-expr-requires m c κs =
     let pre = start .pre .1 in (
       omega (arith, start .pre .0),
       (
-        pre .0,
-        search needs,
-        pre .3,
-        pre .4 .low,
-        listed (a .tables .now) (pre .0) (a .outer .now) (a .spans .now) (a .row) (a .call) (a .context) (a .p) (a .firsts .now) (a .work .now) (pre .4)
-            _ (bound .before .before .extra-arg .ensures) _ (bound .before .extra-vars .ensures) _ (bound .bind-extras .ensures) _ (closed .enclose .ensures),
-        use-asks (a .tables .now) (pre .0) (a .outer .now) (a .spans .now) (a .row) (a .call) (a .context) (a .p) (a .firsts .now) (a .work .now) (pre .4)
+        record {
+          accepted = pre .accepted;
+          inner-room = search needs;
+          firsts-room = pre .firsts-room;
+          row-in = pre .asks .low;
+          asks = use-asks (a .tables .now) (pre .accepted) (a .outer .now) (a .spans .now) (a .row) (a .call) (a .context) (a .p) (a .firsts .now) (a .work .now) (pre .asks)
+              _ (bound .before .before .extra-arg .ensures) _ (bound .before .extra-vars .ensures) _ (bound .bind-extras .ensures) _ (closed .enclose .ensures);
+        },
+        listed (a .tables .now) (pre .accepted) (a .outer .now) (a .spans .now) (a .row) (a .call) (a .context) (a .p) (a .firsts .now) (a .work .now) (pre .asks)
             _ (bound .before .before .extra-arg .ensures) _ (bound .before .extra-vars .ensures) _ (bound .bind-extras .ensures) _ (closed .enclose .ensures),
       ),
     )
@@ -163,7 +165,7 @@ record-each-requires m c κs =
     let start = bound .before .before .before .before .before .before .before .before in
     let a = start .args in
     let pre = start .pre .1 in
-    each-fits (a .tables .now) (pre .0) (a .outer .now) (a .spans .now) (a .row) (a .call) (a .context) (a .p) (a .firsts .now) (a .work .now) (pre .4)
+    each-fits (a .tables .now) (pre .accepted) (a .outer .now) (a .spans .now) (a .row) (a .call) (a .context) (a .p) (a .firsts .now) (a .work .now) (pre .asks)
     _ (bound .before .before .extra-arg .ensures) _ (bound .before .extra-vars .ensures) _ (bound .bind-extras .ensures) _ (closed .enclose .ensures)
     _ _ _ (c .before .before .before .before .before .use-expr .ensures)
 
@@ -181,7 +183,7 @@ returns-2 m c =
     let start = bound .before .before .before .before .before .before .before .before in
     let a = start .args in
     let pre = start .pre .1 in
-    use-does (a .tables .now) (pre .0) (a .outer .now) (a .spans .now) (a .row) (a .call) (a .context) (a .p) (a .firsts .now) (a .work .now) (pre .4)
+    use-does (a .tables .now) (pre .accepted) (a .outer .now) (a .spans .now) (a .row) (a .call) (a .context) (a .p) (a .firsts .now) (a .work .now) (pre .asks)
     _ (bound .before .before .extra-arg .ensures) _ (bound .before .extra-vars .ensures) _ (bound .bind-extras .ensures) _ (closed .enclose .ensures)
     _ _ _ (c .before .before .before .before .before .before .before .before .use-expr .ensures) (ap isAssign (sym (row-is m row)) ∙ sym (c .before .before .before .before .before .before .before .before .before .before .before .before .before .is-assign .ensures) ∙ c .before .before .before .before .before .before .before .before .before .before .before .before .if1 .left)
     _ _ (c .before .before .record-each .ensures)

@@ -32,7 +32,7 @@ check-vars-requires m c κs =
     let start = c .before .before .before .before .before .before .before .before .before in
     let a = start .args in
     let pre = start .pre .1 in
-    (pre .0, first-low (a .tables .now) (a .st) (pre .0) (a .outer .now) (a .spans .now) (a .context) (a .p) (a .firsts .now) (a .work .now) (pre .4), pre .3)
+    (pre .accepted, first-low (a .tables .now) (a .st) (pre .accepted) (a .outer .now) (a .spans .now) (a .context) (a .p) (a .firsts .now) (a .work .now) (pre .asks), pre .firsts-room)
 
 pub same-length : (m : ℕ) → process-literal-lts.Need-same-length (known m) (process-literal-at m) process-literal.Post
 same-length m c = search needs
@@ -42,14 +42,25 @@ returns m c =
     let start = c .before .before .before .before .before .before .before .before .before .before in
     let a = start .args in
     let pre = start .pre .1 in
-    literal-vars (a .tables .now) (a .st) (pre .0) (a .outer .now) (a .spans .now) (a .context) (a .p) (a .firsts .now) (a .work .now) (pre .4) (c .before .before .before .if1 .taken) _ (c .check-vars .ensures)
+    literal-vars (a .tables .now) (a .st) (pre .accepted) (a .outer .now) (a .spans .now) (a .context) (a .p) (a .firsts .now) (a .work .now) (pre .asks) (c .before .before .before .if1 .taken) _ (c .check-vars .ensures)
 
 pub process-some-in-requires : (m : ℕ) → process-literal-lts.Need-process-some-in-requires (known m) (process-literal-at m) process-literal.Post
 process-some-in-requires m c κs =
     let start = c .before .before .before .before .before .before .before .before .before .before .before in
     let a = start .args in
-    let pre = start .pre .1 in
-    (omega (arith, start .pre .0), (pre .0, pre .1, pre .2, pre .3, c .before .before .if2 .taken, pre .4))
+    let pre = start .pre .1 in (
+      omega (arith, start .pre .0),
+      (
+        record {
+          accepted = pre .accepted;
+          outer-room = pre .outer-room;
+          spans-room = pre .spans-room;
+          firsts-room = pre .firsts-room;
+          asks = pre .asks;
+        },
+        c .before .before .if2 .taken,
+      ),
+    )
 
 pub same-length-2 : (m : ℕ) → process-literal-lts.Need-same-length-2 (known m) (process-literal-at m) process-literal.Post
 same-length-2 m c = search needs
@@ -62,14 +73,25 @@ returns-2 m c =
     let start = c .before .before .before .before .before .before .before .before .before .before .before .before .before .before .before .before in
     let a = start .args in
     let pre = start .pre .1 in
-    literal-some-in (a .tables .now) (a .st) (pre .0) (a .outer .now) (a .spans .now) (a .context) (a .p) (a .firsts .now) (a .work .now) (pre .4) _ _ _ (c .before .before .before .before .before .before .before .if2 .taken) (c .before .before .before .before .process-some-in .ensures)
+    literal-some-in (a .tables .now) (a .st) (pre .accepted) (a .outer .now) (a .spans .now) (a .context) (a .p) (a .firsts .now) (a .work .now) (pre .asks) _ _ _ (c .before .before .before .before .before .before .before .if2 .taken) (c .before .before .before .before .process-some-in .ensures)
 
 pub process-every-requires : (m : ℕ) → process-literal-lts.Need-process-every-requires (known m) (process-literal-at m) process-literal.Post
 process-every-requires m c κs =
     let start = c .before .before .before .before .before .before .before .before .before .before .before .before .before in
     let a = start .args in
-    let pre = start .pre .1 in
-    (omega (arith, start .pre .0), (pre .0, pre .1, pre .2, pre .3, c .before .before .if3 .taken, pre .4))
+    let pre = start .pre .1 in (
+      omega (arith, start .pre .0),
+      (
+        record {
+          accepted = pre .accepted;
+          outer-room = pre .outer-room;
+          spans-room = pre .spans-room;
+          firsts-room = pre .firsts-room;
+          asks = pre .asks;
+        },
+        c .before .before .if3 .taken,
+      ),
+    )
 
 pub same-length-4 : (m : ℕ) → process-literal-lts.Need-same-length-4 (known m) (process-literal-at m) process-literal.Post
 same-length-4 m c = search needs
@@ -82,7 +104,7 @@ returns-3 m c =
     let start = c .before .before .before .before .before .before .before .before .before .before .before .before .before .before .before .before .before .before in
     let a = start .args in
     let pre = start .pre .1 in
-    literal-every (a .tables .now) (a .st) (pre .0) (a .outer .now) (a .spans .now) (a .context) (a .p) (a .firsts .now) (a .work .now) (pre .4) _ _ _ (c .before .before .before .before .before .before .before .if3 .taken) (c .before .before .before .before .process-every .ensures)
+    literal-every (a .tables .now) (a .st) (pre .accepted) (a .outer .now) (a .spans .now) (a .context) (a .p) (a .firsts .now) (a .work .now) (pre .asks) _ _ _ (c .before .before .before .before .before .before .before .if3 .taken) (c .before .before .before .before .process-every .ensures)
 
 pub cast-process-expr : (m : ℕ) → process-literal-lts.Need-cast-process-expr (known m) (process-literal-at m) process-literal.Post
 cast-process-expr m c = search needs
@@ -91,8 +113,16 @@ pub process-expr-requires : (m : ℕ) → process-literal-lts.Need-process-expr-
 process-expr-requires m c κs =
     let start = c .before .before .before .before .before .before .before .before .before .before .before .before .before .before .before in
     let a = start .args in
-    let pre = start .pre .1 in
-    (omega (arith, start .pre .0), (pre .0, pre .1, pre .2, pre .3, asks-expr (a .tables .now) (a .st) (pre .0) (a .outer .now) (a .spans .now) (a .context) (a .p) (a .firsts .now) (a .work .now) (pre .4) (c .before .before .before .before .before .before .before .before .if1 .left) (c .before .before .before .before .before .before .if2 .left) (c .before .before .before .before .if3 .left)))
+    let pre = start .pre .1 in (
+      omega (arith, start .pre .0),
+      record {
+        accepted = pre .accepted;
+        outer-room = pre .outer-room;
+        spans-room = pre .spans-room;
+        firsts-room = pre .firsts-room;
+        asks = asks-expr (a .tables .now) (a .st) (pre .accepted) (a .outer .now) (a .spans .now) (a .context) (a .p) (a .firsts .now) (a .work .now) (pre .asks) (c .before .before .before .before .before .before .before .before .if1 .left) (c .before .before .before .before .before .before .if2 .left) (c .before .before .before .before .if3 .left);
+      },
+    )
 
 pub same-length-6 : (m : ℕ) → process-literal-lts.Need-same-length-6 (known m) (process-literal-at m) process-literal.Post
 same-length-6 m c = search needs
@@ -105,4 +135,4 @@ returns-4 m c =
     let start = c .before .before .before .before .before .before .before .before .before .before .before .before .before .before .before .before .before .before .before .before in
     let a = start .args in
     let pre = start .pre .1 in
-    literal-expr (a .tables .now) (a .st) (pre .0) (a .outer .now) (a .spans .now) (a .context) (a .p) (a .firsts .now) (a .work .now) (pre .4) (c .before .before .before .before .before .before .before .before .before .before .before .before .before .if1 .left) (c .before .before .before .before .before .before .before .before .before .before .before .if2 .left) (c .before .before .before .before .before .before .before .before .before .if3 .left) _ refl _ _ _ (c .before .before .before .before .process-expr .ensures)
+    literal-expr (a .tables .now) (a .st) (pre .accepted) (a .outer .now) (a .spans .now) (a .context) (a .p) (a .firsts .now) (a .work .now) (pre .asks) (c .before .before .before .before .before .before .before .before .before .before .before .before .before .if1 .left) (c .before .before .before .before .before .before .before .before .before .before .before .if2 .left) (c .before .before .before .before .before .before .before .before .before .if3 .left) _ refl _ _ _ (c .before .before .before .before .process-expr .ensures)

@@ -52,10 +52,12 @@ use-vars-requires m c κs =
     let start = else .before .before .before .before .before in
     let a = start .args in
     let pre = start .pre .1 in (
-      pre .0,
-      pre .3,
-      pre .2,
-      asks-use (a .tables .now) (a .inner .now) (a .row) (else .if1 .left) (a .context) (a .p) (a .firsts .now) (a .work .now) (pre .4),
+      record {
+        accepted = pre .accepted;
+        row-in = pre .row-in;
+        firsts-room = pre .firsts-room;
+        ready = asks-use (a .tables .now) (a .inner .now) (a .row) (else .if1 .left) (a .context) (a .p) (a .firsts .now) (a .work .now) (pre .asks);
+      },
       listed-none _ (none .empty .ensures),
     )
 
@@ -71,15 +73,15 @@ process-comprs-requires m c κs =
     let start = else .before .before .before .before .before in
     let a = start .args in
     let pre = start .pre .1 in (
-      omega (arith, start .pre .0, few-remain (a .tables .now) (pre .0) (used .use-vars .result .comprs)),
-      (
-        pre .0,
-        pre .1,
-        omega (arith, pre .2, used .use-vars .kept .1 .1 .1 .1 .1 .1 .0),
-        at-low (a .tables .now) false (a .row) _ (used .use-vars .ensures .comprs) (pre .3),
-        asks-own (a .tables .now) (a .inner .now) (a .row) (else .if1 .left) (a .context) (a .p) (a .firsts .now) (a .work .now) _ (none .empty .ensures) _ _ _
-            (used .use-vars .ensures) _ (failed .fail-if-some .ensures) (pre .4),
-      ),
+      omega (arith, start .pre .0, few-remain (a .tables .now) (pre .accepted) (used .use-vars .result .comprs)),
+      record {
+        accepted = pre .accepted;
+        inner-room = pre .inner-room;
+        firsts-room = omega (arith, pre .firsts-room, used .use-vars .kept .1 .1 .1 .1 .1 .1 .0);
+        row-in = at-low (a .tables .now) false (a .row) _ (used .use-vars .ensures .comprs) (pre .row-in);
+        asks = asks-own (a .tables .now) (a .inner .now) (a .row) (else .if1 .left) (a .context) (a .p) (a .firsts .now) (a .work .now) _ (none .empty .ensures) _ _ _
+            (used .use-vars .ensures) _ (failed .fail-if-some .ensures) (pre .asks);
+      },
     )
 
 -- Its comprehensions, walked where there is a row.
@@ -91,7 +93,7 @@ own-walk : (m : ℕ) (c : process-non-var-lts.Joined2 (known m) (process-non-var
     (failed .fail-if-some .result) (used .use-vars .last .1 .1 .1 .1 .1 .1 .0) (used .use-vars .last .1 .1 .1 .1 .1 .1 .1 .0) (c .if2 .s) (c .if2 .firsts) (c .if2 .work)
 own-walk m c =
     let start = c .before .before .before .before .before .before .before .before .before .before .before .before .before .before .before in
-    walked-comprs _ _ _ (start .pre .1 .0) false _ _ _ _ _ _ _
+    walked-comprs _ _ _ (start .pre .1 .accepted) false _ _ _ _ _ _ _
     (λ w. (_, _, _, (w .3 .ensures, w .3 .kept .1 .1 .1 .1 .1 .1 .0, w .3 .kept .1 .1 .1 .1 .1 .1 .1 .0), w .8, w .9, w .10))
     (λ w. (w .0 .left, w .1, w .2, w .3)) (c .if2 .came)
 
@@ -126,7 +128,7 @@ same-length-2 m c = kept m (c .before) .1
 pub returns-2 : (m : ℕ) → process-non-var-lts.Need-returns-2 (known m) (process-non-var-at m) process-non-var.Post
 returns-2 m c =
     let start = c .before .before .before .before .before .before .before .before .before .before .before .before .before .before .before .before in
-    done m (c .before) _ _ _ (does-none _ _ _ (start .pre .1 .0) _ (c .if3 .taken) true _ _ _)
+    done m (c .before) _ _ _ (does-none _ _ _ (start .pre .1 .accepted) _ (c .if3 .taken) true _ _ _)
 
 pub process-comprs-requires-2 : (m : ℕ) → process-non-var-lts.Need-process-comprs-requires-2 (known m) (process-non-var-at m) process-non-var.Post
 process-comprs-requires-2 m c κs =
@@ -138,15 +140,15 @@ process-comprs-requires-2 m c κs =
     let start = else .before .before .before .before .before in
     let a = start .args in
     let pre = start .pre .1 in (
-      omega (arith, start .pre .0, few-remain (a .tables .now) (pre .0) (a .context .mods)),
-      (
-        pre .0,
-        pre .1,
-        omega (arith, pre .2, kept m j2 .0),
-        pre .4 .mods-low,
-        asks-mods (a .tables .now) (a .inner .now) (a .row) (else .if1 .left) (a .context) (a .p) (a .firsts .now) (a .work .now) _ (none .empty .ensures) _ _ _
-            (used .use-vars .ensures) _ (failed .fail-if-some .ensures) _ _ _ (own-walk m j2 .0) (pre .4),
-      ),
+      omega (arith, start .pre .0, few-remain (a .tables .now) (pre .accepted) (a .context .mods)),
+      record {
+        accepted = pre .accepted;
+        inner-room = pre .inner-room;
+        firsts-room = omega (arith, pre .firsts-room, kept m j2 .0);
+        row-in = pre .asks .mods-low;
+        asks = asks-mods (a .tables .now) (a .inner .now) (a .row) (else .if1 .left) (a .context) (a .p) (a .firsts .now) (a .work .now) _ (none .empty .ensures) _ _ _
+            (used .use-vars .ensures) _ (failed .fail-if-some .ensures) _ _ _ (own-walk m j2 .0) (pre .asks);
+      },
     )
 
 pub same-length-3 : (m : ℕ) → process-non-var-lts.Need-same-length-3 (known m) (process-non-var-at m) process-non-var.Post

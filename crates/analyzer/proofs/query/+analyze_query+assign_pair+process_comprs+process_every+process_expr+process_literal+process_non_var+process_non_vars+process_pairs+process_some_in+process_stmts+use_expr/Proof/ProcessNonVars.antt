@@ -41,12 +41,12 @@ pub returns : (m : ℕ) → process-non-vars-lts.Need-returns (known m) (process
 returns m c =
     let start = c .before .before .before .before .before in
     let a = start .args in
-    non-vars-do-none (a .tables .now) (start .pre .1 .0) (a .inner .now) (a .row) (c .if1 .taken) (a .context) (a .p) (a .firsts .now) (a .work .now)
+    non-vars-do-none (a .tables .now) (start .pre .1 .accepted) (a .inner .now) (a .row) (c .if1 .taken) (a .context) (a .p) (a .firsts .now) (a .work .now)
 
 pub row-at-requires : (m : ℕ) → process-non-vars-lts.Need-row-at-requires (known m) (process-non-vars-at m) process-non-vars.Post
 row-at-requires m c κs =
     let pre = c .before .before .before .before .before .pre .1 in
-    (pre .0 .room, row-low _ (pre .0) _ (c .if1 .left) (pre .3))
+    (pre .accepted .room, row-low _ (pre .accepted) _ (c .if1 .left) (pre .row-in))
 
 -- The row that was read.
 row-is : (m : ℕ) (c : process-non-vars-lts.After-row-at (known m) (process-non-vars-at m) process-non-vars.Post)
@@ -63,7 +63,7 @@ ready m c =
     let found = c .before in
     let else = found .before in
     let pre = else .before .before .before .before .before .pre .1 in
-    pattern-calls _ (pre .0) _ (else .if1 .left) (pre .3) _ refl true _ (row-is m found) _ (c .pattern-of .ensures) _ refl
+    pattern-calls _ (pre .accepted) _ (else .if1 .left) (pre .row-in) _ refl true _ (row-is m found) _ (c .pattern-of .ensures) _ refl
 
 pub pattern-of-requires : (m : ℕ) → process-non-vars-lts.Need-pattern-of-requires (known m) (process-non-vars-at m) process-non-vars.Post
 pattern-of-requires m c κs = search needs
@@ -73,7 +73,7 @@ non-var-requires m c κs =
     let found = c .before in
     let else = found .before in
     let pre = else .before .before .before .before .before .pre .1 in
-    (pre .0 .room, rw (row-is m found) (low-name _ (pre .0) _ (else .if1 .left) (pre .3)))
+    (pre .accepted .room, rw (row-is m found) (low-name _ (pre .accepted) _ (else .if1 .left) (pre .row-in)))
 
 pub process-non-var-requires : (m : ℕ) → process-non-vars-lts.Need-process-non-var-requires (known m) (process-non-vars-at m) process-non-vars.Post
 process-non-var-requires m c κs =
@@ -85,14 +85,14 @@ process-non-var-requires m c κs =
     let a = start .args in
     let pre = start .pre .1 in (
       omega (arith, start .pre .0),
-      (
-        pre .0,
-        pre .1,
-        pre .2,
-        non-var-low (a .tables .now) (a .p .scope) (a .row) (found .row-at .result) _ (n .non-var .ensures) _ (pre .3),
-        asks-other (a .tables .now) (pre .0) (a .inner .now) (a .row) (else .if1 .left) (pre .3) (found .row-at .result) (row-is m found)
-            _ (parts .pattern-of .ensures) (a .context) (a .p) _ (n .non-var .ensures) (a .firsts .now) (a .work .now) (pre .4),
-      ),
+      record {
+        accepted = pre .accepted;
+        inner-room = pre .inner-room;
+        firsts-room = pre .firsts-room;
+        row-in = non-var-low (a .tables .now) (a .p .scope) (a .row) (found .row-at .result) _ (n .non-var .ensures) _ (pre .row-in);
+        asks = asks-other (a .tables .now) (pre .accepted) (a .inner .now) (a .row) (else .if1 .left) (pre .row-in) (found .row-at .result) (row-is m found)
+            _ (parts .pattern-of .ensures) (a .context) (a .p) _ (n .non-var .ensures) (a .firsts .now) (a .work .now) (pre .asks);
+      },
     )
 
 -- The row itself and the parts of a pattern, each processed where there is one.
@@ -119,15 +119,15 @@ process-non-vars-requires m c κs =
     let pre = start .pre .1 in
     let k = ready m parts .0 in (
       omega (arith, start .pre .0, k .0),
-      (
-        pre .0,
-        pre .1,
-        omega (arith, pre .2, one-done m j2 .1),
-        k .1,
-        asks-parts (a .tables .now) (pre .0) (a .inner .now) (a .row) (else .if1 .left) (pre .3) (found .row-at .result) (row-is m found)
+      record {
+        accepted = pre .accepted;
+        inner-room = pre .inner-room;
+        firsts-room = omega (arith, pre .firsts-room, one-done m j2 .1);
+        row-in = k .1;
+        asks = asks-parts (a .tables .now) (pre .accepted) (a .inner .now) (a .row) (else .if1 .left) (pre .row-in) (found .row-at .result) (row-is m found)
             _ (parts .pattern-of .ensures) (a .context) (a .p) _ (n .non-var .ensures) (a .firsts .now) (a .work .now) _ _ _
-            (one-done m j2 .0) (pre .4),
-      ),
+            (one-done m j2 .0) (pre .asks);
+      },
     )
 
 parts-done : (m : ℕ) (c : process-non-vars-lts.Joined3 (known m) (process-non-vars-at m) process-non-vars.Post)
@@ -139,7 +139,7 @@ parts-done m c =
     let start = c .before .before .before .before .before .before .before .before .before .before in
     let a = start .args in
     guarded-lists (λ r. DoesNonVars (a .tables .now) (a .inner .now) r (a .context))
-    (non-vars-do-none (a .tables .now) (start .pre .1 .0) (a .inner .now) 0 refl (a .context)) _ _ _ _ _ _ _
+    (non-vars-do-none (a .tables .now) (start .pre .1 .accepted) (a .inner .now) 0 refl (a .context)) _ _ _ _ _ _ _
     (λ w. (_, _, _, (w .3 .ensures, w .3 .kept .1 .1 .1 .1 .1 .0, w .3 .kept .1 .1 .1 .1 .1 .1 .0), w .8, w .9, w .10))
     (λ w. (w .0 .left, w .1, w .2, w .3)) (c .if3 .came)
 
@@ -167,7 +167,7 @@ done m c s fs w last =
     let start = else .before .before .before .before .before in
     let a = start .args in
     let pre = start .pre .1 in
-    non-vars-do (a .tables .now) (pre .0) (a .inner .now) (a .row) (else .if1 .left) (pre .3) (found .row-at .result) (row-is m found)
+    non-vars-do (a .tables .now) (pre .accepted) (a .inner .now) (a .row) (else .if1 .left) (pre .row-in) (found .row-at .result) (row-is m found)
     _ (parts .pattern-of .ensures) (a .context) (a .p) _ (n .non-var .ensures) (a .firsts .now) (a .work .now) _ _ _
     (one-done m j2 .0) _ _ _ (parts-done m c .0) _ _ _ last
 
@@ -181,7 +181,7 @@ pub returns-2 : (m : ℕ) → process-non-vars-lts.Need-returns-2 (known m) (pro
 returns-2 m c =
     let start = c .before .before .before .before .before .before .before .before .before .before .before .before in
     let a = start .args in
-    done m (c .before .before) _ _ _ (non-vars-do-none (a .tables .now) (start .pre .1 .0) (a .inner .now) _ (c .if4 .taken) (a .context) _ _ _)
+    done m (c .before .before) _ _ _ (non-vars-do-none (a .tables .now) (start .pre .1 .accepted) (a .inner .now) _ (c .if4 .taken) (a .context) _ _ _)
 
 pub cast-process-non-vars : (m : ℕ) → process-non-vars-lts.Need-cast-process-non-vars (known m) (process-non-vars-at m) process-non-vars.Post
 cast-process-non-vars m c = search needs
@@ -199,15 +199,15 @@ process-non-vars-requires-2 m c κs =
     let pre = start .pre .1 in
     let k = ready m parts .1 in (
       omega (arith, start .pre .0, k .0),
-      (
-        pre .0,
-        pre .1,
-        omega (arith, pre .2, kept m j3 .0),
-        k .1,
-        asks-rest (a .tables .now) (pre .0) (a .inner .now) (a .row) (else .if1 .left) (pre .3) (found .row-at .result) (row-is m found)
+      record {
+        accepted = pre .accepted;
+        inner-room = pre .inner-room;
+        firsts-room = omega (arith, pre .firsts-room, kept m j3 .0);
+        row-in = k .1;
+        asks = asks-rest (a .tables .now) (pre .accepted) (a .inner .now) (a .row) (else .if1 .left) (pre .row-in) (found .row-at .result) (row-is m found)
             _ (parts .pattern-of .ensures) (a .context) (a .p) _ (n .non-var .ensures) (a .firsts .now) (a .work .now) _ _ _
-            (one-done m j2 .0) _ _ _ (parts-done m j3 .0) (pre .4),
-      ),
+            (one-done m j2 .0) _ _ _ (parts-done m j3 .0) (pre .asks);
+      },
     )
 
 pub same-length-3 : (m : ℕ) → process-non-vars-lts.Need-same-length-3 (known m) (process-non-vars-at m) process-non-vars.Post

@@ -40,23 +40,23 @@ pub returns : (m : ℕ) → process-pairs-lts.Need-returns (known m) (process-pa
 returns m c =
     let start = c .before .before .before .before .before in
     let a = start .args in
-    no-pairs _ _ (a .check) (a .context) _ _ _ _ (pairings-left _ (start .pre .1 .0) (a .left) (a .right) (c .if1 .taken))
+    no-pairs _ _ (a .check) (a .context) _ _ _ _ (pairings-left _ (start .pre .1 .accepted) (a .left) (a .right) (c .if1 .taken))
 
 pub returns-2 : (m : ℕ) → process-pairs-lts.Need-returns-2 (known m) (process-pairs-at m) process-pairs.Post
 returns-2 m c =
     let start = c .before .before .before .before .before .before in
     let a = start .args in
-    no-pairs _ _ (a .check) (a .context) _ _ _ _ (pairings-right _ (start .pre .1 .0) (a .left) (a .right) (c .if2 .taken))
+    no-pairs _ _ (a .check) (a .context) _ _ _ _ (pairings-right _ (start .pre .1 .accepted) (a .left) (a .right) (c .if2 .taken))
 
 pub row-at-requires : (m : ℕ) → process-pairs-lts.Need-row-at-requires (known m) (process-pairs-at m) process-pairs.Post
 row-at-requires m c κs =
     let pre = c .before .before .before .before .before .before .pre .1 in
-    (pre .0 .room, row-low _ (pre .0) _ (c .before .if1 .left) (pre .3))
+    (pre .accepted .room, row-low _ (pre .accepted) _ (c .before .if1 .left) (pre .left-in))
 
 pub row-at-requires-2 : (m : ℕ) → process-pairs-lts.Need-row-at-requires-2 (known m) (process-pairs-at m) process-pairs.Post
 row-at-requires-2 m c κs =
     let pre = c .before .before .before .before .before .before .before .pre .1 in
-    (pre .0 .room, row-low _ (pre .0) _ (c .before .if2 .left) (pre .4))
+    (pre .accepted .room, row-low _ (pre .accepted) _ (c .before .if2 .left) (pre .right-in))
 
 -- The rows that were read.
 left-is : (m : ℕ) (c : process-pairs-lts.After-row-at (known m) (process-pairs-at m) process-pairs.Post) → c .row-at .result ≡ rowAt (c .before .before .before .before .before .before .before .args .tables .now) (c .before .before .before .before .before .before .before .args .left)
@@ -69,9 +69,9 @@ pub pair-of-requires : (m : ℕ) → process-pairs-lts.Need-pair-of-requires (kn
 pair-of-requires m c κs =
     let left = c .before in
     let pre = c .before .before .before .before .before .before .before .before .pre .1 in (
-      pre .0,
-      first-low _ (pre .0) _ (left .before .before .if1 .left) (pre .3) _ (left-is m left),
-      first-low _ (pre .0) _ (left .before .if2 .left) (pre .4) _ (right-is m c),
+      pre .accepted,
+      first-low _ (pre .accepted) _ (left .before .before .if1 .left) (pre .left-in) _ (left-is m left),
+      first-low _ (pre .accepted) _ (left .before .if2 .left) (pre .right-in) _ (right-is m c),
     )
 
 -- What they come to.
@@ -81,7 +81,7 @@ parts m c =
     let right = c .before in
     let left = right .before in
     let pre = c .before .before .before .before .before .before .before .before .before .pre .1 in
-    split _ (pre .0) _ (left .before .before .if1 .left) (pre .3) _ (left .before .if2 .left) (pre .4) _ _ (left-is m left) (right-is m right) _
+    split _ (pre .accepted) _ (left .before .before .if1 .left) (pre .left-in) _ (left .before .if2 .left) (pre .right-in) _ _ (left-is m left) (right-is m right) _
     (c .pair-of .ensures)
 
 pub differ-requires : (m : ℕ) → process-pairs-lts.Need-differ-requires (known m) (process-pairs-at m) process-pairs.Post
@@ -94,14 +94,14 @@ assign-pair-requires m c κs =
     let pre = start .pre .1 in
     let s = parts m (differ .before) in (
       omega (arith, start .pre .0),
-      (
-        pre .0,
-        pre .1,
-        pre .2,
-        s .left-low,
-        s .right-low,
-        asks-pair _ _ _ _ (start .args .check) _ _ _ _ (pre .5) _ _ _ s _ (differ .differ .ensures),
-      ),
+      record {
+        accepted = pre .accepted;
+        inner-room = pre .inner-room;
+        firsts-room = pre .firsts-room;
+        left-in = s .left-low;
+        right-in = s .right-low;
+        asks = asks-pair _ _ _ _ (start .args .check) _ _ _ _ (pre .asks) _ _ _ s _ (differ .differ .ensures);
+      },
     )
 
 -- The pair itself and the pairs of two arrays, each processed where there is one.
@@ -127,14 +127,14 @@ process-pairs-requires m c κs =
     let pre = start .pre .1 in
     let s = parts m (differ .before) in (
       omega (arith, start .pre .0, s .lefts-fall .0),
-      (
-        pre .0,
-        pre .1,
-        omega (arith, pre .2, one-done m j3 .1),
-        s .lefts-fall .1,
-        s .rights-low,
-        asks-parts _ _ _ _ (start .args .check) _ _ _ _ (pre .5) _ _ _ s _ (differ .differ .ensures) _ _ _ (one-done m j3 .0),
-      ),
+      record {
+        accepted = pre .accepted;
+        inner-room = pre .inner-room;
+        firsts-room = omega (arith, pre .firsts-room, one-done m j3 .1);
+        left-in = s .lefts-fall .1;
+        right-in = s .rights-low;
+        asks = asks-parts _ _ _ _ (start .args .check) _ _ _ _ (pre .asks) _ _ _ s _ (differ .differ .ensures) _ _ _ (one-done m j3 .0);
+      },
     )
 
 below-done : (m : ℕ) (c : process-pairs-lts.Joined4 (known m) (process-pairs-at m) process-pairs.Post)
@@ -149,7 +149,7 @@ below-done m c =
     let start = j3 .before .before .before .before .before .before .before .before .before .before .before .before in
     let a = start .args in
     guarded-lists (λ l. DoesPairs (a .tables .now) (a .inner .now) (pairsAt (a .tables .now) l rights) (a .check) (a .context))
-    (λ p fs w. no-pairs _ _ (a .check) (a .context) p fs w _ (pairings-left _ (start .pre .1 .0) 0 rights refl)) _ _ _ _ _ _ _
+    (λ p fs w. no-pairs _ _ (a .check) (a .context) p fs w _ (pairings-left _ (start .pre .1 .accepted) 0 rights refl)) _ _ _ _ _ _ _
     (λ w. (_, _, _, (w .3 .ensures, w .3 .kept .1 .1 .1 .1 .1 .1 .1 .0, w .3 .kept .1 .1 .1 .1 .1 .1 .1 .1 .0), w .8, w .9, w .10))
     (λ w. (w .0 .left, w .1, w .2, w .3)) (c .if4 .came)
 
@@ -174,7 +174,7 @@ done m c s fs w behind =
     let differ = j3 .before .before in
     let start = differ .before .before .before .before .before .before .before .before .before .before in
     let pre = start .pre .1 in
-    pairs-does _ _ _ _ (start .args .check) _ _ _ _ (pre .5) _ _ _ (parts m (differ .before)) _ (differ .differ .ensures) _ _ _ (one-done m j3 .0) _ _ _
+    pairs-does _ _ _ _ (start .args .check) _ _ _ _ (pre .asks) _ _ _ (parts m (differ .before)) _ (differ .differ .ensures) _ _ _ (one-done m j3 .0) _ _ _
     (below-done m c .0) _ _ _ behind
 
 pub same-length : (m : ℕ) → process-pairs-lts.Need-same-length (known m) (process-pairs-at m) process-pairs.Post
@@ -187,7 +187,7 @@ pub returns-3 : (m : ℕ) → process-pairs-lts.Need-returns-3 (known m) (proces
 returns-3 m c =
     let start = c .before .before .before .before .before .before .before .before .before .before .before .before .before .before .before .before in
     let a = start .args in
-    done m (c .before .before) _ _ _ (no-pairs _ _ (a .check) (a .context) _ _ _ _ (pairings-left _ (start .pre .1 .0) _ _ (c .if5 .taken)))
+    done m (c .before .before) _ _ _ (no-pairs _ _ (a .check) (a .context) _ _ _ _ (pairings-left _ (start .pre .1 .accepted) _ _ (c .if5 .taken)))
 
 pub cast-process-pairs : (m : ℕ) → process-pairs-lts.Need-cast-process-pairs (known m) (process-pairs-at m) process-pairs.Post
 cast-process-pairs m c = search needs
@@ -204,14 +204,14 @@ process-pairs-requires-2 m c κs =
     let pre = start .pre .1 in
     let s = parts m (differ .before) in (
       omega (arith, start .pre .0, s .next-falls .0),
-      (
-        pre .0,
-        pre .1,
-        omega (arith, pre .2, kept m j4 .0),
-        s .next-falls .1,
-        s .next-low,
-        asks-rest _ _ _ _ (start .args .check) _ _ _ _ (pre .5) _ _ _ s _ (differ .differ .ensures) _ _ _ (one-done m j3 .0) _ _ _ (below-done m j4 .0),
-      ),
+      record {
+        accepted = pre .accepted;
+        inner-room = pre .inner-room;
+        firsts-room = omega (arith, pre .firsts-room, kept m j4 .0);
+        left-in = s .next-falls .1;
+        right-in = s .next-low;
+        asks = asks-rest _ _ _ _ (start .args .check) _ _ _ _ (pre .asks) _ _ _ s _ (differ .differ .ensures) _ _ _ (one-done m j3 .0) _ _ _ (below-done m j4 .0);
+      },
     )
 
 pub same-length-3 : (m : ℕ) → process-pairs-lts.Need-same-length-3 (known m) (process-pairs-at m) process-pairs.Post

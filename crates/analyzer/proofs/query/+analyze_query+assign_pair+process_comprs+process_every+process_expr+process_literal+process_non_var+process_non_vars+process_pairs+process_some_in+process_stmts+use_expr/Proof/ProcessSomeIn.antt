@@ -50,7 +50,7 @@ slice-aggregate-enclose m c = search needs
 pub enclose-requires : (m : ℕ) → process-some-in-lts.Need-enclose-requires (known m) (process-some-in-at m) process-some-in.Post
 enclose-requires m c κs =
     let pre = c .before .before .before .before .before .before .pre .1 in
-    (pre .1, pre .2, omega arith)
+    (pre .0 .outer-room, pre .0 .spans-room, omega arith)
 
 -- The scopes around nested queries.
 around : (m : ℕ) (c : process-some-in-lts.After-enclose (known m) (process-some-in-at m) process-some-in.Post)
@@ -68,7 +68,7 @@ rows m inside =
     let start = inside .before .before .before .before .before .before .before in
     let a = start .args in
     let pre = start .pre .1 in
-    parts-low (a .tables .now) (pre .0) (a .outer .now) (a .spans .now) (inside .enclose .last .1 .1 .1 .0) (a .st) (a .context) (a .p) (a .firsts .now) (a .work .now) (pre .4) (around m inside) (pre .5)
+    parts-low (a .tables .now) (pre .0 .accepted) (a .outer .now) (a .spans .now) (inside .enclose .last .1 .1 .1 .0) (a .st) (a .context) (a .p) (a .firsts .now) (a .work .now) (pre .1) (around m inside) (pre .0 .asks)
 
 pub empty-requires : (m : ℕ) → process-some-in-lts.Need-empty-requires (known m) (process-some-in-at m) process-some-in.Post
 empty-requires m c κs = search needs
@@ -82,12 +82,12 @@ cast-value m c = search needs
 pub some-vars-requires : (m : ℕ) → process-some-in-lts.Need-some-vars-requires (known m) (process-some-in-at m) process-some-in.Post
 some-vars-requires m c κs =
     let inside = c .before .before .before .before in
-    (inside .before .before .before .before .before .before .before .pre .1 .0, rows m inside .first)
+    (inside .before .before .before .before .before .before .before .pre .1 .0 .accepted, rows m inside .first)
 
 pub some-vars-requires-2 : (m : ℕ) → process-some-in-lts.Need-some-vars-requires-2 (known m) (process-some-in-at m) process-some-in.Post
 some-vars-requires-2 m c κs =
     let inside = c .before .before .before .before .before in
-    (inside .before .before .before .before .before .before .before .pre .1 .0, rows m inside .second)
+    (inside .before .before .before .before .before .before .before .pre .1 .0 .accepted, rows m inside .second)
 
 pub slice-aggregate-use-expr : (m : ℕ) → process-some-in-lts.Need-slice-aggregate-use-expr (known m) (process-some-in-at m) process-some-in.Post
 slice-aggregate-use-expr m c = sym (c .before .before .before .before .before .before .before .enclose .kept .1 .1 .1 .0)
@@ -104,13 +104,15 @@ use-expr-requires m c κs =
     let pre = start .pre .1 in (
       omega (arith, start .pre .0),
       (
-        pre .0,
-        omega (arith, inside .enclose .kept .1 .1 .1 .0),
-        pre .3,
-        rows m inside .third,
+        record {
+          accepted = pre .0 .accepted;
+          inner-room = omega (arith, inside .enclose .kept .1 .1 .1 .0);
+          firsts-room = pre .0 .firsts-room;
+          row-in = rows m inside .third;
+          asks = asks-collection (a .tables .now) (pre .0 .accepted) (a .outer .now) (a .spans .now) (inside .enclose .last .1 .1 .1 .0)
+              (a .st) (a .context) (a .p) (a .firsts .now) (a .work .now) (pre .1) (around m inside) (pre .0 .asks);
+        },
         listed-none _ (none .empty .ensures),
-        asks-collection (a .tables .now) (pre .0) (a .outer .now) (a .spans .now) (inside .enclose .last .1 .1 .1 .0)
-            (a .st) (a .context) (a .p) (a .firsts .now) (a .work .now) (pre .4) (around m inside) (pre .5),
       ),
     )
 
@@ -124,8 +126,8 @@ record-some-requires m c κs =
     let start = inside .before .before .before .before .before .before .before in
     let a = start .args in
     let pre = start .pre .1 in
-    asks-record (a .tables .now) (pre .0) (a .outer .now) (a .spans .now) (inside .enclose .last .1 .1 .1 .0)
-    (a .st) (a .context) (a .p) (a .firsts .now) (a .work .now) (pre .4) (around m inside) (pre .5)
+    asks-record (a .tables .now) (pre .0 .accepted) (a .outer .now) (a .spans .now) (inside .enclose .last .1 .1 .1 .0)
+    (a .st) (a .context) (a .p) (a .firsts .now) (a .work .now) (pre .1) (around m inside) (pre .0 .asks)
     _ _ _ (none .empty .ensures) (vars .some-vars .ensures) (vars2 .some-vars2 .ensures) _ _ _ (used .use-expr .ensures)
 
 pub first-some-requires : (m : ℕ) → process-some-in-lts.Need-first-some-requires (known m) (process-some-in-at m) process-some-in.Post
@@ -135,7 +137,7 @@ first-some-requires m c κs =
     let start = inside .before .before .before .before .before .before .before in
     let a = start .args in
     let pre = start .pre .1 in
-    (pre .0, rows m inside .first, omega (arith, pre .3, used .use-expr .kept .1 .1 .1 .1 .1 .1 .1 .0))
+    (pre .0 .accepted, rows m inside .first, omega (arith, pre .0 .firsts-room, used .use-expr .kept .1 .1 .1 .1 .1 .1 .1 .0))
 
 pub first-some-requires-2 : (m : ℕ) → process-some-in-lts.Need-first-some-requires-2 (known m) (process-some-in-at m) process-some-in.Post
 first-some-requires-2 m c κs =
@@ -145,7 +147,7 @@ first-some-requires-2 m c κs =
     let start = inside .before .before .before .before .before .before .before in
     let a = start .args in
     let pre = start .pre .1 in
-    (pre .0, rows m inside .second, omega (arith, pre .3, used .use-expr .kept .1 .1 .1 .1 .1 .1 .1 .0, enter .first-some .kept .1 .1 .1 .0))
+    (pre .0 .accepted, rows m inside .second, omega (arith, pre .0 .firsts-room, used .use-expr .kept .1 .1 .1 .1 .1 .1 .1 .0, enter .first-some .kept .1 .1 .1 .0))
 
 pub slice-aggregate-process-non-vars : (m : ℕ) → process-some-in-lts.Need-slice-aggregate-process-non-vars (known m) (process-some-in-at m) process-some-in.Post
 slice-aggregate-process-non-vars m c = sym (c .before .before .before .before .before .before .before .before .before .before .before .before .before .before .before .before .before .before .before .before .before .before .before .before .before .before .before .before .enclose .kept .1 .1 .1 .0)
@@ -163,17 +165,17 @@ process-non-vars-requires m c κs =
     let start = inside .before .before .before .before .before .before .before in
     let a = start .args in
     let pre = start .pre .1 in (
-      omega (arith, start .pre .0, few-remain (a .tables .now) (pre .0) (a .st .first)),
-      (
-        pre .0,
-        omega (arith, inside .enclose .kept .1 .1 .1 .0),
-        omega (arith, pre .3, used .use-expr .kept .1 .1 .1 .1 .1 .1 .1 .0, enter .first-some .kept .1 .1 .1 .0, enter2 .first-some2 .kept .1 .1 .1 .0),
-        rows m inside .first,
-        asks-key (a .tables .now) (pre .0) (a .outer .now) (a .spans .now) (inside .enclose .last .1 .1 .1 .0)
-            (a .st) (a .context) (a .p) (a .firsts .now) (a .work .now) (pre .4) (around m inside) (pre .5)
+      omega (arith, start .pre .0, few-remain (a .tables .now) (pre .0 .accepted) (a .st .first)),
+      record {
+        accepted = pre .0 .accepted;
+        inner-room = omega (arith, inside .enclose .kept .1 .1 .1 .0);
+        firsts-room = omega (arith, pre .0 .firsts-room, used .use-expr .kept .1 .1 .1 .1 .1 .1 .1 .0, enter .first-some .kept .1 .1 .1 .0, enter2 .first-some2 .kept .1 .1 .1 .0);
+        row-in = rows m inside .first;
+        asks = asks-key (a .tables .now) (pre .0 .accepted) (a .outer .now) (a .spans .now) (inside .enclose .last .1 .1 .1 .0)
+            (a .st) (a .context) (a .p) (a .firsts .now) (a .work .now) (pre .1) (around m inside) (pre .0 .asks)
             _ _ _ (none .empty .ensures) (vars .some-vars .ensures) (vars2 .some-vars2 .ensures) _ _ _ (used .use-expr .ensures)
-            _ _ (recorded .record-some .ensures) _ _ (enter .first-some .ensures) (enter2 .first-some2 .ensures),
-      ),
+            _ _ (recorded .record-some .ensures) _ _ (enter .first-some .ensures) (enter2 .first-some2 .ensures);
+      },
     )
 
 pub slice-aggregate-process-non-vars-2 : (m : ℕ) → process-some-in-lts.Need-slice-aggregate-process-non-vars-2 (known m) (process-some-in-at m) process-some-in.Post
@@ -193,18 +195,18 @@ process-non-vars-requires-2 m c κs =
     let start = inside .before .before .before .before .before .before .before in
     let a = start .args in
     let pre = start .pre .1 in (
-      omega (arith, start .pre .0, few-remain (a .tables .now) (pre .0) (a .st .second)),
-      (
-        pre .0,
-        omega (arith, inside .enclose .kept .1 .1 .1 .0),
-        omega (arith, pre .3, used .use-expr .kept .1 .1 .1 .1 .1 .1 .1 .0, enter .first-some .kept .1 .1 .1 .0, enter2 .first-some2 .kept .1 .1 .1 .0, key .process-non-vars .kept .1 .1 .1 .1 .1 .0),
-        rows m inside .second,
-        asks-value (a .tables .now) (pre .0) (a .outer .now) (a .spans .now) (inside .enclose .last .1 .1 .1 .0)
-            (a .st) (a .context) (a .p) (a .firsts .now) (a .work .now) (pre .4) (around m inside) (pre .5)
+      omega (arith, start .pre .0, few-remain (a .tables .now) (pre .0 .accepted) (a .st .second)),
+      record {
+        accepted = pre .0 .accepted;
+        inner-room = omega (arith, inside .enclose .kept .1 .1 .1 .0);
+        firsts-room = omega (arith, pre .0 .firsts-room, used .use-expr .kept .1 .1 .1 .1 .1 .1 .1 .0, enter .first-some .kept .1 .1 .1 .0, enter2 .first-some2 .kept .1 .1 .1 .0, key .process-non-vars .kept .1 .1 .1 .1 .1 .0);
+        row-in = rows m inside .second;
+        asks = asks-value (a .tables .now) (pre .0 .accepted) (a .outer .now) (a .spans .now) (inside .enclose .last .1 .1 .1 .0)
+            (a .st) (a .context) (a .p) (a .firsts .now) (a .work .now) (pre .1) (around m inside) (pre .0 .asks)
             _ _ _ (none .empty .ensures) (vars .some-vars .ensures) (vars2 .some-vars2 .ensures) _ _ _ (used .use-expr .ensures)
             _ _ (recorded .record-some .ensures) _ _ (enter .first-some .ensures) (enter2 .first-some2 .ensures)
-            _ _ _ (key .process-non-vars .ensures),
-      ),
+            _ _ _ (key .process-non-vars .ensures);
+      },
     )
 
 pub others-used-requires : (m : ℕ) → process-some-in-lts.Need-others-used-requires (known m) (process-some-in-at m) process-some-in.Post
@@ -222,12 +224,12 @@ others-used-requires m c κs =
     let start = inside .before .before .before .before .before .before .before in
     let a = start .args in
     let pre = start .pre .1 in
-    let room = asks-last (a .tables .now) (pre .0) (a .outer .now) (a .spans .now) (inside .enclose .last .1 .1 .1 .0)
-    (a .st) (a .context) (a .p) (a .firsts .now) (a .work .now) (pre .4) (around m inside) (pre .5)
+    let room = asks-last (a .tables .now) (pre .0 .accepted) (a .outer .now) (a .spans .now) (inside .enclose .last .1 .1 .1 .0)
+    (a .st) (a .context) (a .p) (a .firsts .now) (a .work .now) (pre .1) (around m inside) (pre .0 .asks)
     _ _ _ (none .empty .ensures) (vars .some-vars .ensures) (vars2 .some-vars2 .ensures) _ _ _ (used .use-expr .ensures)
     _ _ (recorded .record-some .ensures) _ _ (enter .first-some .ensures) (enter2 .first-some2 .ensures)
     _ _ _ (key .process-non-vars .ensures) _ _ _ (two .process-non-vars2 .ensures) in
-    (pre .0, rows m inside .first, rows m inside .second, pre .5 .mods-low, omega (arith, room))
+    (record { accepted = pre .0 .accepted; row-in = rows m inside .first; mods-in = pre .0 .asks .mods-low; answers-room = omega (arith, room) }, rows m inside .second)
 
 pub record-one-requires : (m : ℕ) → process-some-in-lts.Need-record-one-requires (known m) (process-some-in-at m) process-some-in.Post
 record-one-requires m c κs =
@@ -244,8 +246,8 @@ record-one-requires m c κs =
     let start = inside .before .before .before .before .before .before .before in
     let a = start .args in
     let pre = start .pre .1 in
-    asks-last (a .tables .now) (pre .0) (a .outer .now) (a .spans .now) (inside .enclose .last .1 .1 .1 .0)
-    (a .st) (a .context) (a .p) (a .firsts .now) (a .work .now) (pre .4) (around m inside) (pre .5)
+    asks-last (a .tables .now) (pre .0 .accepted) (a .outer .now) (a .spans .now) (inside .enclose .last .1 .1 .1 .0)
+    (a .st) (a .context) (a .p) (a .firsts .now) (a .work .now) (pre .1) (around m inside) (pre .0 .asks)
     _ _ _ (none .empty .ensures) (vars .some-vars .ensures) (vars2 .some-vars2 .ensures) _ _ _ (used .use-expr .ensures)
     _ _ (recorded .record-some .ensures) _ _ (enter .first-some .ensures) (enter2 .first-some2 .ensures)
     _ _ _ (key .process-non-vars .ensures) _ _ _ (two .process-non-vars2 .ensures)
@@ -285,8 +287,8 @@ returns m c =
     let start = inside .before .before .before .before .before .before .before in
     let a = start .args in
     let pre = start .pre .1 in
-    some-in-does (a .tables .now) (pre .0) (a .outer .now) (a .spans .now) (inside .enclose .last .1 .1 .1 .0)
-    (a .st) (a .context) (a .p) (a .firsts .now) (a .work .now) (pre .4) (around m inside) (pre .5)
+    some-in-does (a .tables .now) (pre .0 .accepted) (a .outer .now) (a .spans .now) (inside .enclose .last .1 .1 .1 .0)
+    (a .st) (a .context) (a .p) (a .firsts .now) (a .work .now) (pre .1) (around m inside) (pre .0 .asks)
     _ _ _ (none .empty .ensures) (vars .some-vars .ensures) (vars2 .some-vars2 .ensures) _ _ _ (used .use-expr .ensures)
     _ _ (recorded .record-some .ensures) _ _ (enter .first-some .ensures) (enter2 .first-some2 .ensures)
     _ _ _ (key .process-non-vars .ensures) _ _ _ (two .process-non-vars2 .ensures)

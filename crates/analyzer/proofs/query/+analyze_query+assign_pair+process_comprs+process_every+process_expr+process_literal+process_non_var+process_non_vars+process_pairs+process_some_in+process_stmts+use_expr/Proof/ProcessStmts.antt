@@ -34,12 +34,12 @@ pub returns : (m : ℕ) → process-stmts-lts.Need-returns (known m) (process-st
 returns m c =
     let start = c .before .before .before .before .before .before in
     let a = start .args in
-    stmts-end (a .tables .now) (start .pre .1 .0) (a .outer .now) (a .spans .now) (a .row) (a .statement) (a .levels) (c .if1 .taken) (a .p) (a .firsts .now) (a .work .now)
+    stmts-end (a .tables .now) (start .pre .1 .0 .accepted) (a .outer .now) (a .spans .now) (a .row) (a .statement) (a .levels) (c .if1 .taken) (a .p) (a .firsts .now) (a .work .now)
 
 pub statement-at-requires : (m : ℕ) → process-stmts-lts.Need-statement-at-requires (known m) (process-stmts-at m) process-stmts.Post
 statement-at-requires m c κs =
     let pre = c .before .before .before .before .before .before .pre .1 in
-    (pre .0 .room, omega (arith, pre .4, pre .0 .within .few-statements))
+    (pre .0 .accepted .room, omega (arith, pre .1, pre .0 .accepted .within .few-statements))
 
 pub empty-requires : (m : ℕ) → process-stmts-lts.Need-empty-requires (known m) (process-stmts-at m) process-stmts.Post
 empty-requires m c κs = search needs
@@ -54,12 +54,12 @@ use-mods-requires m c κs =
     let else = read .before in
     let start = else .before .before .before .before .before .before in
     let a = start .args in
-    let pre = start .pre .1 in (
-      pre .0,
-      with-low (a .tables .now) (pre .0) (a .outer .now) (a .spans .now) (a .row) (a .statement) (a .levels) (else .if1 .left) (pre .4) _ (read .statement-at .ensures) (a .p) (a .firsts .now) (a .work .now) (pre .5),
-      pre .3,
-      mods-ready (a .tables .now) (pre .0) (a .outer .now) (a .spans .now) (a .row) (a .statement) (a .levels) (else .if1 .left) (pre .4) _ (read .statement-at .ensures) (a .p) (a .firsts .now) (a .work .now) (pre .5),
-    )
+    let pre = start .pre .1 in record {
+      accepted = pre .0 .accepted;
+      row-in = with-low (a .tables .now) (pre .0 .accepted) (a .outer .now) (a .spans .now) (a .row) (a .statement) (a .levels) (else .if1 .left) (pre .1) _ (read .statement-at .ensures) (a .p) (a .firsts .now) (a .work .now) (pre .0 .asks);
+      firsts-room = pre .0 .firsts-room;
+      ready = mods-ready (a .tables .now) (pre .0 .accepted) (a .outer .now) (a .spans .now) (a .row) (a .statement) (a .levels) (else .if1 .left) (pre .1) _ (read .statement-at .ensures) (a .p) (a .firsts .now) (a .work .now) (pre .0 .asks);
+    }
 
 pub process-literal-requires : (m : ℕ) → process-stmts-lts.Need-process-literal-requires (known m) (process-stmts-at m) process-stmts.Post
 process-literal-requires m c κs =
@@ -71,13 +71,13 @@ process-literal-requires m c κs =
     let a = start .args in
     let pre = start .pre .1 in (
       omega (arith, start .pre .0),
-      (
-        pre .0,
-        pre .1,
-        pre .2,
-        omega (arith, pre .3, used .use-mods .kept .1 .1 .1 .1 .1 .0),
-        asks-literal (a .tables .now) (pre .0) (a .outer .now) (a .spans .now) (a .row) (a .statement) (a .levels) (else .if1 .left) (pre .4) _ (read .statement-at .ensures) (a .p) (a .firsts .now) (a .work .now) (pre .5) _ (none .empty .ensures) _ _ _ (used .use-mods .ensures),
-      ),
+      record {
+        accepted = pre .0 .accepted;
+        outer-room = pre .0 .outer-room;
+        spans-room = pre .0 .spans-room;
+        firsts-room = omega (arith, pre .0 .firsts-room, used .use-mods .kept .1 .1 .1 .1 .1 .0);
+        asks = asks-literal (a .tables .now) (pre .0 .accepted) (a .outer .now) (a .spans .now) (a .row) (a .statement) (a .levels) (else .if1 .left) (pre .1) _ (read .statement-at .ensures) (a .p) (a .firsts .now) (a .work .now) (pre .0 .asks) _ (none .empty .ensures) _ _ _ (used .use-mods .ensures);
+      },
     )
 
 pub at-least-one-requires : (m : ℕ) → process-stmts-lts.Need-at-least-one-requires (known m) (process-stmts-at m) process-stmts.Post
@@ -90,13 +90,13 @@ at-least-one-requires m c κs =
     let start = else .before .before .before .before .before .before in
     let a = start .args in
     let pre = start .pre .1 in
-    least-fits (a .tables .now) (pre .0) (a .outer .now) (a .spans .now) (a .row) (a .statement) (a .levels) (else .if1 .left) (pre .4) _ (read .statement-at .ensures) (a .p) (a .firsts .now) (a .work .now) (pre .5) _ (none .empty .ensures) _ _ _ (used .use-mods .ensures) _ _ _ (literal .process-literal .ensures)
+    least-fits (a .tables .now) (pre .0 .accepted) (a .outer .now) (a .spans .now) (a .row) (a .statement) (a .levels) (else .if1 .left) (pre .1) _ (read .statement-at .ensures) (a .p) (a .firsts .now) (a .work .now) (pre .0 .asks) _ (none .empty .ensures) _ _ _ (used .use-mods .ensures) _ _ _ (literal .process-literal .ensures)
 
 pub cast-process-stmts : (m : ℕ) → process-stmts-lts.Need-cast-process-stmts (known m) (process-stmts-at m) process-stmts.Post
 cast-process-stmts m c = search needs
 
 pub add-process-stmts : (m : ℕ) → process-stmts-lts.Need-add-process-stmts (known m) (process-stmts-at m) process-stmts.Post
-add-process-stmts m c = omega (arith, c .before .before .before .before .before .before .before .before .before .before .before .before .before .before .before .before .before .before .before .before .before .before .before .before .before .before .before .before .before .pre .1 .5 .few)
+add-process-stmts m c = omega (arith, c .before .before .before .before .before .before .before .before .before .before .before .before .before .before .before .before .before .before .before .before .before .before .before .before .before .before .before .before .before .pre .1 .0 .asks .few)
 
 pub process-stmts-requires : (m : ℕ) → process-stmts-lts.Need-process-stmts-requires (known m) (process-stmts-at m) process-stmts.Post
 process-stmts-requires m c κs =
@@ -109,15 +109,17 @@ process-stmts-requires m c κs =
     let start = else .before .before .before .before .before .before in
     let a = start .args in
     let pre = start .pre .1 in
-    let next = next-stmt _ (pre .0) (a .row) _ (else .if1 .left) (pre .4) refl _ (read .statement-at .ensures) in (
+    let next = next-stmt _ (pre .0 .accepted) (a .row) _ (else .if1 .left) (pre .1) refl _ (read .statement-at .ensures) in (
       omega (arith, start .pre .0, next .0),
       (
-        pre .0,
-        pre .1,
-        pre .2,
-        omega (arith, pre .3, used .use-mods .kept .1 .1 .1 .1 .1 .0, literal .process-literal .kept .1 .1 .1 .1 .1 .1 .0),
+        record {
+          accepted = pre .0 .accepted;
+          outer-room = pre .0 .outer-room;
+          spans-room = pre .0 .spans-room;
+          firsts-room = omega (arith, pre .0 .firsts-room, used .use-mods .kept .1 .1 .1 .1 .1 .0, literal .process-literal .kept .1 .1 .1 .1 .1 .1 .0);
+          asks = asks-next (a .tables .now) (pre .0 .accepted) (a .outer .now) (a .spans .now) (a .row) (a .statement) (a .levels) (else .if1 .left) (pre .1) _ (read .statement-at .ensures) (a .p) (a .firsts .now) (a .work .now) (pre .0 .asks) _ (none .empty .ensures) _ _ _ (used .use-mods .ensures) _ _ _ (literal .process-literal .ensures) _ _ (least .at-least-one .ensures);
+        },
         next .1,
-        asks-next (a .tables .now) (pre .0) (a .outer .now) (a .spans .now) (a .row) (a .statement) (a .levels) (else .if1 .left) (pre .4) _ (read .statement-at .ensures) (a .p) (a .firsts .now) (a .work .now) (pre .5) _ (none .empty .ensures) _ _ _ (used .use-mods .ensures) _ _ _ (literal .process-literal .ensures) _ _ (least .at-least-one .ensures),
       ),
     )
 
@@ -151,4 +153,4 @@ returns-2 m c =
     let start = else .before .before .before .before .before .before in
     let a = start .args in
     let pre = start .pre .1 in
-    stmts-turn (a .tables .now) (pre .0) (a .outer .now) (a .spans .now) (a .row) (a .statement) (a .levels) (else .if1 .left) (pre .4) _ (read .statement-at .ensures) (a .p) (a .firsts .now) (a .work .now) (pre .5) _ (none .empty .ensures) _ _ _ (used .use-mods .ensures) _ _ _ (literal .process-literal .ensures) _ _ (least .at-least-one .ensures) _ _ _ (c .before .before .before .before .process-stmts .ensures)
+    stmts-turn (a .tables .now) (pre .0 .accepted) (a .outer .now) (a .spans .now) (a .row) (a .statement) (a .levels) (else .if1 .left) (pre .1) _ (read .statement-at .ensures) (a .p) (a .firsts .now) (a .work .now) (pre .0 .asks) _ (none .empty .ensures) _ _ _ (used .use-mods .ensures) _ _ _ (literal .process-literal .ensures) _ _ (least .at-least-one .ensures) _ _ _ (c .before .before .before .before .process-stmts .ensures)

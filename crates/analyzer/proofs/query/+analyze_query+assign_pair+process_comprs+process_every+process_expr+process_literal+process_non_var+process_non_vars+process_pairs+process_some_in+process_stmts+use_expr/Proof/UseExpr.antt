@@ -40,8 +40,15 @@ known m = (
 pub use-vars-requires : (m : ℕ) → use-expr-lts.Need-use-vars-requires (known m) (use-expr-at m) use-expr.Post
 use-vars-requires m c κs =
     let start = c .before .before .before .before .before .before in
-    let pre = start .pre .1 in
-    (pre .0, pre .3, pre .2, use-ready _ _ _ _ (start .args .rest) _ _ _ _ (pre .5) (pre .4), pre .4)
+    let pre = start .pre .1 in (
+      record {
+        accepted = pre .0 .accepted;
+        row-in = pre .0 .row-in;
+        firsts-room = pre .0 .firsts-room;
+        ready = use-ready _ _ _ _ (start .args .rest) _ _ _ _ (pre .0 .asks) (pre .1);
+      },
+      pre .1,
+    )
 
 pub none-left-requires : (m : ℕ) → use-expr-lts.Need-none-left-requires (known m) (use-expr-at m) use-expr.Post
 none-left-requires m c κs = search needs
@@ -62,7 +69,7 @@ returns m c =
     let cs = u .use-vars .result .comprs in
     let ms = start .args .context .mods in
     let none = sym (c .before .before .none-left .ensures) ∙ c .before .if1 .taken in
-    does-without _ _ _ _ (start .args .rest) _ _ _ _ (start .pre .1 .0) _ _ _ (u .use-vars .ensures)
+    does-without _ _ _ _ (start .args .rest) _ _ _ _ (start .pre .1 .0 .accepted) _ _ _ (u .use-vars .ensures)
     (eqb-true cs 0 (and-left (eqb cs 0) (eqb ms 0) none)) (eqb-true ms 0 (and-right (eqb cs 0) (eqb ms 0) none)) _ (c .without-comprs .ensures)
 
 pub process-comprs-requires : (m : ℕ) → use-expr-lts.Need-process-comprs-requires (known m) (use-expr-at m) use-expr.Post
@@ -70,14 +77,14 @@ process-comprs-requires m c κs =
     let u = c .before .before .before .before .before .before .before .before .before .before .before in
     let start = u .before .before .before .before .before .before .before in
     let pre = start .pre .1 in (
-      omega (arith, start .pre .0, few-remain _ (pre .0) (u .use-vars .result .comprs)),
-      (
-        pre .0,
-        pre .1,
-        omega (arith, pre .2, u .use-vars .kept .1 .1 .1 .1 .1 .1 .0),
-        at-low _ (start .args .rest) _ _ (u .use-vars .ensures .comprs) (pre .3),
-        own-asks _ _ _ _ (start .args .rest) _ _ _ _ (pre .5) (pre .4) _ _ _ (u .use-vars .ensures),
-      ),
+      omega (arith, start .pre .0, few-remain _ (pre .0 .accepted) (u .use-vars .result .comprs)),
+      record {
+        accepted = pre .0 .accepted;
+        inner-room = pre .0 .inner-room;
+        firsts-room = omega (arith, pre .0 .firsts-room, u .use-vars .kept .1 .1 .1 .1 .1 .1 .0);
+        row-in = at-low _ (start .args .rest) _ _ (u .use-vars .ensures .comprs) (pre .0 .row-in);
+        asks = own-asks _ _ _ _ (start .args .rest) _ _ _ _ (pre .0 .asks) (pre .1) _ _ _ (u .use-vars .ensures);
+      },
     )
 
 -- The comprehensions, each walked where there is a row.
@@ -88,7 +95,7 @@ own-walk : (m : ℕ) (c : use-expr-lts.Joined2 (known m) (use-expr-at m) use-exp
     (u .use-vars .result .progress) (u .use-vars .last .1 .1 .1 .1 .1 .1 .0) (u .use-vars .last .1 .1 .1 .1 .1 .1 .1 .0) (c .if2 .s) (c .if2 .firsts) (c .if2 .work)
 own-walk m c =
     let start = c .before .before .before .before .before .before .before .before .before .before .before .before .before .before .before .before in
-    walked-comprs _ _ _ (start .pre .1 .0) (start .args .rest) _ _ _ _ _ _ _
+    walked-comprs _ _ _ (start .pre .1 .0 .accepted) (start .args .rest) _ _ _ _ _ _ _
     (λ w. (_, _, _, (w .3 .ensures, w .3 .kept .1 .1 .1 .1 .1 .1 .0, w .3 .kept .1 .1 .1 .1 .1 .1 .1 .0), w .8, w .9, w .10))
     (λ w. (w .0 .left, w .1, w .2, w .3)) (c .if2 .came)
 
@@ -98,14 +105,14 @@ process-comprs-requires-2 m c κs =
     let u = j2 .before .before .before .before .before .before .before .before .before in
     let start = u .before .before .before .before .before .before .before in
     let pre = start .pre .1 in (
-      omega (arith, start .pre .0, few-remain _ (pre .0) (start .args .context .mods)),
-      (
-        pre .0,
-        pre .1,
-        omega (arith, pre .2, u .use-vars .kept .1 .1 .1 .1 .1 .1 .0, own-walk m j2 .1),
-        pre .5 .mods-low,
-        mods-asks _ _ _ _ (start .args .rest) _ _ _ _ (pre .5) (pre .4) _ _ _ (u .use-vars .ensures) _ _ _ (own-walk m j2 .0),
-      ),
+      omega (arith, start .pre .0, few-remain _ (pre .0 .accepted) (start .args .context .mods)),
+      record {
+        accepted = pre .0 .accepted;
+        inner-room = pre .0 .inner-room;
+        firsts-room = omega (arith, pre .0 .firsts-room, u .use-vars .kept .1 .1 .1 .1 .1 .1 .0, own-walk m j2 .1);
+        row-in = pre .0 .asks .mods-low;
+        asks = mods-asks _ _ _ _ (start .args .rest) _ _ _ _ (pre .0 .asks) (pre .1) _ _ _ (u .use-vars .ensures) _ _ _ (own-walk m j2 .0);
+      },
     )
 
 mods-walk : (m : ℕ) (c : use-expr-lts.Joined3 (known m) (use-expr-at m) use-expr.Post)
@@ -115,7 +122,7 @@ mods-walk : (m : ℕ) (c : use-expr-lts.Joined3 (known m) (use-expr-at m) use-ex
     (c .before .if2 .s) (c .before .if2 .firsts) (c .before .if2 .work) (c .if3 .s) (c .if3 .firsts) (c .if3 .work)
 mods-walk m c =
     let start = c .before .before .before .before .before .before .before .before .before .before .before .before .before .before .before .before .before in
-    walked-comprs _ _ _ (start .pre .1 .0) true _ _ _ _ _ _ _
+    walked-comprs _ _ _ (start .pre .1 .0 .accepted) true _ _ _ _ _ _ _
     (λ w. (_, _, _, (w .3 .ensures, w .3 .kept .1 .1 .1 .1 .1 .1 .0, w .3 .kept .1 .1 .1 .1 .1 .1 .1 .0), w .8, w .9, w .10))
     (λ w. (w .0 .left, w .1, w .2, w .3)) (c .if3 .came)
 
@@ -125,12 +132,12 @@ all-used-requires m c κs =
     let j2 = j3 .before in
     let u = j2 .before .before .before .before .before .before .before .before .before in
     let start = u .before .before .before .before .before .before .before in
-    let pre = start .pre .1 in (
-      pre .0,
-      at-low _ (start .args .rest) _ _ (u .use-vars .ensures .comprs) (pre .3),
-      pre .5 .mods-low,
-      use-room _ _ _ _ (start .args .rest) _ _ _ _ (pre .5) (pre .4) _ _ _ (u .use-vars .ensures) _ _ _ (own-walk m j2 .0) _ _ _ (mods-walk m j3 .0),
-    )
+    let pre = start .pre .1 in record {
+      accepted = pre .0 .accepted;
+      row-in = at-low _ (start .args .rest) _ _ (u .use-vars .ensures .comprs) (pre .0 .row-in);
+      mods-in = pre .0 .asks .mods-low;
+      answers-room = use-room _ _ _ _ (start .args .rest) _ _ _ _ (pre .0 .asks) (pre .1) _ _ _ (u .use-vars .ensures) _ _ _ (own-walk m j2 .0) _ _ _ (mods-walk m j3 .0);
+    }
 
 pub same-length-3 : (m : ℕ) → use-expr-lts.Need-same-length-3 (known m) (use-expr-at m) use-expr.Post
 same-length-3 m c =
