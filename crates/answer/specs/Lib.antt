@@ -1,9 +1,2 @@
-pub mod Stored
-pub mod Sound
-pub mod Ranges
-pub mod Lines
-pub mod Texts
-pub mod Listed
-pub mod Agrees
-pub mod Sections
-pub mod Asks
+pub mod Text
+pub mod Call

@@ -4,7 +4,7 @@ ghost use mathlib.Core.Path.{_≡_};
 ghost use mathlib.Core.List.{_++_};
 ghost use Prim.Native.Nat.{_≤_};
 ghost use lib.ListN.{length, drop, replicate};
-ghost use Rattle.basics.specs.Ranges.{range};
+ghost use Rattle.base.specs.Lists.{range};
 
 // Zeros throughout.
 pub fn clear(buffer: &mut [u16])

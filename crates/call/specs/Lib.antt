@@ -1,5 +1,1 @@
-pub mod Replies
-pub mod Answering
-pub mod ReadSheet
-pub mod Whole
-pub mod Asks
+pub mod Inner

@@ -2,22 +2,22 @@
 
 use crate::replies::Reply;
 use crate::replies::of_fault;
-use analyzer::snippet::analyze_sheet;
-use blocks::answers_of;
-use widths::Width;
+use answer_blocks::answers_of;
+use definition_query::snippet::analyze_sheet;
+use names_width::Width;
 ghost use mathlib.Core.Path.{_≡_};
 ghost use mathlib.Core.List.{List};
 ghost use lib.ListN.{length, replicate};
-ghost use Rattle.analysis.specs.States.{QuerySchedule};
-ghost use Rattle.answers.specs.Text.{answerText};
-ghost use Rattle.answers.specs.Call.{fitting};
-ghost use Rattle.answers.specs.Once.{analysedOnce};
-ghost use Rattle.answer.specs.Stored.{Stored};
-ghost use Rattle.gather.specs.Sheets.{sheetAt};
-ghost use Rattle.frame.specs.Table.{answersOf};
-ghost use Rattle.analyzer.specs.Asks.{AsksSheet};
-ghost use Rattle.call.specs.Asks.{AsksAnswer};
-ghost use Rattle.call.specs.Replies.{Replies};
+ghost use Rattle.definition.specs.States.{QuerySchedule};
+ghost use Rattle.answer.specs.Text.{answerText};
+ghost use Rattle.answer.specs.Call.{fitting};
+ghost use Rattle.original.specs.Inner.AnalysedOnce.{analysedOnce};
+ghost use Rattle.answer_text.specs.Inner.Stored.{Stored};
+ghost use Rattle.scope_walk.specs.Inner.Sheets.{sheetAt};
+ghost use Rattle.definition_state.specs.Inner.Table.{answersOf};
+ghost use Rattle.definition_cycle.specs.Inner.Asks.{AsksSheet};
+ghost use Rattle.call.specs.Inner.Asks.{AsksAnswer};
+ghost use Rattle.call.specs.Inner.Replies.{Replies};
 
 // Question 8, of the answers in the last words of work. The lent bytes are zeros.
 fn write_answer(work: &[u64], queries: usize, answer: &mut [u8], width: Width) -> Reply
@@ -25,7 +25,7 @@ fn write_answer(work: &[u64], queries: usize, answer: &mut [u8], width: Width) -
     ensures { λ r. ⌜ ((schedules : List QuerySchedule) → Stored width (answersOf width (now (work .entry))) schedules → Replies (length (now (answer .entry))) (fitting (length (now (answer .entry))) (answerText queries schedules)) r (now (answer .exit))) ⌝ }
 {
     let from = work.len() - answers_of(width);
-    let end = answer::put_answer(&work[from..], queries, answer, 0, width);
+    let end = answer_text::put_answer(&work[from..], queries, answer, 0, width);
     if answer.len() < end {
         buffers::clear_bytes(answer);
         return Reply {

@@ -6,12 +6,12 @@ pub mod replies;
 use crate::answering::answer_sheet;
 use crate::replies::Reply;
 use crate::replies::of_outcome;
-use widths::Width;
+use names_width::Width;
 ghost use mathlib.Core.Path.{_≡_};
 ghost use lib.ListN.{length, replicate};
-ghost use Rattle.widths.specs.Widths.{limits};
-ghost use Rattle.answers.specs.Call.{result, left};
-ghost use Rattle.call.specs.Replies.{asLeft, Replies};
+ghost use Rattle.names_width.specs.Widths.{limits};
+ghost use Rattle.answer.specs.Call.{result, left};
+ghost use Rattle.call.specs.Inner.Replies.{asLeft, Replies};
 
 // All questions, with lent bytes that are zeros. Tables and work are left as they come.
 fn reply_to(
@@ -24,11 +24,11 @@ fn reply_to(
     requires { ⌜ now answer ≡ replicate (length (now answer)) 0 ⌝ }
     ensures { λ r. ⌜ Replies (length (now (answer .entry))) (result (limits width) (now (sheet .entry)) (length (now (tables .entry))) (length (now (work .entry))) (length (now (answer .entry)))) r (now (answer .exit)) ⌝ }
 {
-    let outcome = sheet::take(sheet, tables, work, width);
-    if sheet::number_of(outcome) != 0 {
+    let outcome = sheet_read::take(sheet, tables, work, width);
+    if sheet_read::number_of(outcome) != 0 {
         return of_outcome(outcome);
     }
-    answer_sheet(&tables[..tables::LENGTH], work, answer, width)
+    answer_sheet(&tables[..base::TABLE_ENTRIES], work, answer, width)
 }
 
 // The answer's text, or a refusal and zeros. Tables and work are zeros afterwards in any case.

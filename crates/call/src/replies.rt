@@ -1,12 +1,12 @@
 // What a call returns: the number, the line and the column of a refusal, or zeros.
 
-use frame::Fault;
+use definition_state::Fault;
 use sheet::Outcome;
 ghost use mathlib.Core.Path.{_≡_};
 ghost use Prim.Native.Nat.{_≤_};
-ghost use Rattle.basics.specs.Limits as limits;
+ghost use Rattle.base.specs.Limits as limits;
 ghost use Rattle.sheet.specs.Verdict.{faultLine};
-ghost use Rattle.call.specs.Replies.{outcomeReply, faultReply};
+ghost use Rattle.call.specs.Inner.Replies.{outcomeReply, faultReply};
 
 pub struct Reply {
     pub number: u16,
@@ -16,12 +16,12 @@ pub struct Reply {
 
 // Questions 1 to 6.
 pub fn of_outcome(outcome: Outcome) -> Reply
-    requires { ⌜ faultLine outcome ≤ limits.value ⌝ }
+    requires { ⌜ faultLine outcome ≤ limits.largestValue ⌝ }
     ensures { λ r. ⌜ r ≡ outcomeReply outcome ⌝ }
 {
     Reply {
-        number: sheet::number_of(outcome) as u16,
-        line: sheet::line_of(outcome) as u16,
+        number: sheet_read::number_of(outcome) as u16,
+        line: sheet_read::line_of(outcome) as u16,
         col: 0,
     }
 }

@@ -1,5 +1,5 @@
 // Sets of names, a bit for each name. A name is a number below CAPACITY. Sets of statements are in `statements`.
-// The public contracts speak of members alone (specs/Sets.antt); no caller sees a bit.
+// The public contracts speak of members alone (specs/Inner/Sets.antt); no caller sees a bit.
 // By value, words are read and stored in loops over WORDS alone: unrolled, these have constant indexes, where an index that a name gives would have
 // the set stored to memory and loaded back at once, which stalls. A set in lent words has no such cost (`has`, `add`).
 
@@ -9,13 +9,14 @@ ghost use mathlib.Core.Path.{_≡_};
 ghost use mathlib.Core.Bool.{cond};
 ghost use Prim.Native.Nat.{_-_, _<_};
 ghost use lib.ListN.{length, getD};
-ghost use Rattle.basics.specs.Limits as limits;
-ghost use Rattle.basics.specs.Lists.{all};
-ghost use Rattle.names.specs.Sets.{member, members, isEmpty, Empty, Only, Inserted, Removed, Union, Difference, Intersection, Next};
-ghost use Rattle.names.specs.Lowest.{LowestBit};
+ghost use Rattle.base.specs.Limits as limits;
+ghost use Rattle.base.specs.Lists.{all};
+ghost use Rattle.base.specs.Sets.{member, members};
+ghost use Rattle.names.specs.Inner.Sets.{isEmpty, Empty, Only, Inserted, Removed, Union, Difference, Intersection, Next};
+ghost use Rattle.names.specs.Inner.Lowest.{LowestBit};
 
-// How many words a set has. The code says it here alone, and the proofs in proofs/Size.antt.
-pub const WORDS: usize = 8;
+// How many words a set has; the proofs say it in proofs/Size.antt.
+pub const WORDS: usize = base::WORDS;
 
 // How many names there are.
 pub const CAPACITY: usize = 64 * WORDS;

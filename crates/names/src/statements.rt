@@ -4,11 +4,11 @@ use crate::above;
 use crate::lowest;
 use crate::pick;
 ghost use Prim.Native.Nat.{_<_};
-ghost use Rattle.basics.specs.Limits as limits;
-ghost use Rattle.names.specs.Sets.{Empty, Only, Inserted, Union, Difference, Next};
+ghost use Rattle.base.specs.Limits as limits;
+ghost use Rattle.names.specs.Inner.Sets.{Empty, Only, Inserted, Union, Difference, Next};
 
 // How many statements there are.
-pub const STATEMENTS: usize = 128;
+pub const STATEMENTS: usize = base::STATEMENTS;
 
 pub struct Statements {
     pub words: [u64; 2],
@@ -22,7 +22,7 @@ impl Statements {
     }
 
     pub fn insert(self, statement: usize) -> Statements
-        requires { ⌜ statement < limits.statements ⌝ }
+        requires { ⌜ statement < limits.mostStatements ⌝ }
         ensures { λ r. ⌜ Inserted (self .words) statement (r .words) ⌝ }
     {
         self.union(Statements::only(statement))
@@ -51,7 +51,7 @@ impl Statements {
 
     // The lowest member from `from` up, or 128 where there is none.
     pub fn next(self, from: usize) -> usize
-        ensures { λ r. ⌜ Next (self .words) limits.statements from r ⌝ }
+        ensures { λ r. ⌜ Next (self .words) limits.mostStatements from r ⌝ }
     {
         for i in from / 64..2 {
             let k = lowest(self.words[i], above(from, 64 * i));
@@ -64,7 +64,7 @@ impl Statements {
 
     // The set that has `statement` alone.
     fn only(statement: usize) -> Statements
-        requires { ⌜ statement < limits.statements ⌝ }
+        requires { ⌜ statement < limits.mostStatements ⌝ }
         ensures { λ r. ⌜ Only statement (r .words) ⌝ }
     {
         let mut one = Statements { words: [0; 2] };

@@ -1,16 +1,17 @@
 -- What each exported call returns and leaves in the lent buffers.
+-- Beside: include/nokchbem.h.
 use mathlib.Core.Path.{_≡_}
 use mathlib.Core.List.{List}
 use Prim.Native.Nat.{ℕ, _≤_}
 use lib.ListN.{replicate}
-use Rattle.basics.specs.Limits.{Limits, library}
-use Rattle.schedule.specs.Call.{refusal, scheduleNumber, scheduleOutcome, orderBuffer, reachedBuffer}
-use Rattle.definitions.specs.declared.Definition.{Definition}
-use Rattle.definitions.specs.Rows.{rowsOfRecords}
+use Rattle.base.specs.Limits.{Limits, library}
+use Rattle.order.specs.Call.{refusal, scheduleNumber, scheduleOutcome, orderBuffer, reachedBuffer}
+use Rattle.order_records.specs.declared.Definition.{Definition}
+use Rattle.order_records.specs.Records.{rowsOfRecords}
 use Rattle.sheet.specs.declared.Outcome.{Outcome}
 use Rattle.sheet.specs.Verdict as Verdict
 use Rattle.sheet.specs.Verdict.{verdict, leftTables}
-use Rattle.answers.specs.Call.{Left, left}
+use Rattle.answer.specs.Call.{Left, left}
 
 -- `nokchbem_schedule`: the number of its outcome, and every element of both buffers, whatever stood in them before.
 pub record ScheduleCall (definitions : List ℕ) (statements room marks r : ℕ) (orderAfter reachedAfter : List ℕ) : Type 0 where

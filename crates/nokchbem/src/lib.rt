@@ -1,16 +1,19 @@
 // The exported calls, with C linkage. A slice passes as a pointer and a length.
 
-use definitions::Definition;
-use rows::DEFINITIONS;
-use widths::Width;
+use base::DEFINITIONS;
+use names_width::Width;
+use order_records::Definition;
+use order_schedule::number_of;
+use order_schedule::schedule;
+use sheet_read::line_of;
 ghost use mathlib.Core.Path.{_≡_};
 ghost use mathlib.Core.List.{List};
 ghost use Prim.Native.Nat.{_≤_};
 ghost use lib.ListN.{length};
-ghost use Rattle.basics.specs.Limits.{library};
-ghost use Rattle.schedule.specs.Call.{refusal};
-ghost use Rattle.definitions.specs.declared.Definition.{Definition};
-ghost use Rattle.definitions.specs.Copies.{CopyOf};
+ghost use Rattle.base.specs.Limits.{library};
+ghost use Rattle.order.specs.Call.{refusal};
+ghost use Rattle.order_records.specs.declared.Definition.{Definition};
+ghost use Rattle.order_records.specs.Inner.Copies.{CopyOf};
 ghost use Rattle.nokchbem.specs.Calls.{ScheduleCall, RecordsCall, ReadCall, AnalyzeCall};
 
 // A refusal and its position as one number.
@@ -35,7 +38,7 @@ pub extern "C" fn nokchbem_schedule(
 ) -> u64
     ensures { λ r. ⌜ ScheduleCall (now (definitions .entry)) statements (length (now (order .entry))) (length (now (reached .entry))) r (now (order .exit)) (now (reached .exit)) ⌝ }
 {
-    schedule::number_of(schedule::schedule(Width::Eight, definitions, statements, order, reached))
+    number_of(schedule(Width::Eight, definitions, statements, order, reached))
 }
 
 // The call below, over a copy of its records.
@@ -48,7 +51,7 @@ fn schedule_copy(
 ) -> u64
     ensures { λ r. ⌜ ((records : List Definition) → length records ≡ len → CopyOf all records → RecordsCall records statements (length (now (order .entry))) (length (now (reached .entry))) r (now (order .exit)) (now (reached .exit))) ⌝ }
 {
-    schedule::number_of(definitions::schedule_copy(all, len, statements, order, reached))
+    number_of(order_records::schedule_copy(all, len, statements, order, reached))
 }
 
 // The same as `nokchbem_schedule`, of definitions that are records. More than 640 of them are refused as more than 640 rows are.
@@ -62,7 +65,7 @@ pub extern "C" fn nokchbem_schedule_records(
     ensures { λ r. ⌜ RecordsCall (now (records .entry)) statements (length (now (order .entry))) (length (now (reached .entry))) r (now (order .exit)) (now (reached .exit)) ⌝ }
 {
     schedule_copy(
-        definitions::copied(records),
+        order_records::copied(records),
         records.len(),
         statements,
         order,
@@ -78,8 +81,8 @@ pub extern "C" fn nokchbem_schedule_records(
 pub extern "C" fn nokchbem_read(sheet: &[u8], tables: &mut [u16], work: &mut [u64]) -> u64
     ensures { λ r. ⌜ ReadCall library (now (sheet .entry)) (length (now (tables .entry))) (length (now (work .entry))) r (now (tables .exit)) (now (work .exit)) ⌝ }
 {
-    let outcome = sheet::read(sheet, tables, work, Width::Eight);
-    pack(sheet::number_of(outcome), sheet::line_of(outcome), 0)
+    let outcome = sheet_read::read(sheet, tables, work, Width::Eight);
+    pack(sheet_read::number_of(outcome), line_of(outcome), 0)
 }
 
 // Analyses the queries of a sheet, and writes the text of the answer.

@@ -1,3 +1,1 @@
-pub mod Ends
-pub mod NoZeros
-pub mod Printed
+pub mod Inner

@@ -1,18 +1,18 @@
 // The text that is printed of a sheet.
 
-use answer::rows::put_three;
-use widths::Width;
-use writer::put;
-use writer::put_bytes;
+use answer_text::rows::put_three;
+use answer_write::put;
+use answer_write::put_bytes;
+use names_width::Width;
 ghost use mathlib.Core.Path.{_≡_};
 ghost use Prim.Native.Nat.{_≤_};
 ghost use lib.ListN.{length, take};
-ghost use Rattle.basics.specs.Limits.{printing};
-ghost use Rattle.writer.specs.Writes.{Puts};
-ghost use Rattle.answers.specs.Text.{refusalText};
-ghost use Rattle.answers.specs.Call.{result, printed};
+ghost use Rattle.base.specs.Limits.{printing};
+ghost use Rattle.answer_write.specs.Inner.Writes.{Puts};
+ghost use Rattle.answer.specs.Text.{refusalText};
+ghost use Rattle.answer.specs.Call.{result, printed};
 ghost use Rattle.io.specs.Counts.{Counts};
-ghost use Rattle.print.specs.Ends.{Ends};
+ghost use Rattle.print.specs.Inner.Ends.{Ends};
 
 fn put_refusal(answer: &mut [u8], number: usize, line: usize, col: usize) -> usize
     requires { ⌜ (number ≤ 65535) × (line ≤ 65535) × (col ≤ 65535) ⌝ }

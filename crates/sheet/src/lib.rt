@@ -1,19 +1,71 @@
-// The reader's call: the questions put to a sheet, and its rows in the tables.
+// The rows of a sheet, and where they stand in the tables.
 
-use records::Counts;
-use spelling::Special;
-use widths::Width;
-ghost use mathlib.Core.Path.{_≡_};
-ghost use mathlib.Core.Bool.{_&&_};
-ghost use Prim.Native.Nat.{_≤_};
-ghost use lib.Dec.{leb};
-ghost use lib.ListN.{length};
-ghost use lib.Seq.{sets};
-ghost use Rattle.basics.specs.Limits as limit;
-ghost use Rattle.widths.specs.Widths.{limits};
-ghost use Rattle.records.specs.Layout.{Within};
-ghost use Rattle.sheet.specs.Verdict.{number, faultLine, emptyTables, headOf, SheetLeft};
-ghost use Rattle.sheet.specs.Asked.{isRead, Small, Asked, SheetTaken};
+use base::BUILT_INS;
+use base::EXPRESSIONS;
+use base::NAMES;
+use base::QUERIES;
+use base::STATEMENTS;
+
+// Room for rows of so many values: row r, counted from 1, stands at start + width * r.
+pub struct Area {
+    pub start: usize,
+    pub width: usize,
+    pub rows: usize,
+}
+
+// The entries in front of the areas are for counts. A name has no values, so names take no room.
+pub const NAME_AREA: Area = Area {
+    start: 8,
+    width: 0,
+    rows: NAMES,
+};
+
+// Each area starts where the one before it ends.
+pub const BUILT_IN_AREA: Area = Area {
+    start: NAME_AREA.start + NAME_AREA.width * (NAMES + 1),
+    width: 4,
+    rows: BUILT_INS,
+};
+
+pub const EXPRESSION_AREA: Area = Area {
+    start: BUILT_IN_AREA.start + BUILT_IN_AREA.width * (BUILT_INS + 1),
+    width: 8,
+    rows: EXPRESSIONS,
+};
+
+pub const STATEMENT_AREA: Area = Area {
+    start: EXPRESSION_AREA.start + EXPRESSION_AREA.width * (EXPRESSIONS + 1),
+    width: 7,
+    rows: STATEMENTS,
+};
+
+pub const QUERY_AREA: Area = Area {
+    start: STATEMENT_AREA.start + STATEMENT_AREA.width * (STATEMENTS + 1),
+    width: 1,
+    rows: QUERIES,
+};
+
+// What a field holds: the number of a row of a section.
+pub struct Field {
+    pub section: u32,
+    // It may not be 0.
+    pub set: bool,
+    // It is a comprehension's term, key or value, which lies in the comprehension's query.
+    pub term: bool,
+    // It is the first row of a chain.
+    pub chain: bool,
+    // It, or every member of the chain, is a Var.
+    pub var: bool,
+    // The chain alternates key and value.
+    pub pairs: bool,
+}
+
+// The rows of the names that the language gives a meaning, or 0.
+pub struct Special {
+    pub blank: usize,
+    pub input: usize,
+    pub data: usize,
+}
 
 // What a sheet comes to: read, or the first question that it fails, with the first line at fault.
 pub enum Outcome {
@@ -26,137 +78,41 @@ pub enum Outcome {
     BadField(usize),
 }
 
-// Question 1.
-fn has_room(tables: usize, work: usize, width: Width) -> bool
-    ensures { λ r. ⌜ r ≡ (leb limit.tables tables && leb (limits width .work) work) ⌝ }
-{
-    if tables < tables::LENGTH {
-        return false;
-    }
-    width.work() <= work
+// An expression and its position.
+pub struct Row {
+    pub kind: u16,
+    pub name: u16,
+    pub line: u16,
+    pub col: u16,
+    pub first: u16,
+    pub second: u16,
+    pub third: u16,
+    pub next: u16,
 }
 
-// The counts and the special names in front of the rows.
-fn store_head(table: &mut [u16], counts: Counts, special: Special)
-    requires { ⌜ (limit.tables ≤ length (now table)) × Within counts × Small special ⌝ }
-    ensures { λ _. ⌜ now (table .exit) ≡ sets (now (table .entry)) 0 (headOf counts special) ⌝ }
-{
-    table[0] = counts.names as u16;
-    table[1] = counts.builtins as u16;
-    table[2] = counts.exprs as u16;
-    table[3] = counts.statements as u16;
-    table[4] = counts.queries as u16;
-    table[5] = special.blank as u16;
-    table[6] = special.input as u16;
-    table[7] = special.data as u16;
+// A built-in's arity and path.
+pub struct Builtin {
+    pub arity: u16,
+    pub first: u16,
+    pub second: u16,
+    pub third: u16,
 }
 
-// Questions 2 to 6. Where the sheet is read, its rows are left in the table.
-fn ask(s: &[u8], table: &mut [u16], work: &mut [u64], width: Width) -> Outcome
-    requires { ⌜ (now table ≡ emptyTables) × (limit.leastWork ≤ length (now work)) ⌝ }
-    ensures { λ r. ⌜ Asked (limits width) (now (s .entry)) r (now (table .exit)) ⌝ }
-{
-    if tables::SHEET_BYTES < s.len() {
-        return Outcome::TooLong;
-    }
-    let read = reader::read_sheet(s, table);
-    let form = read.fault;
-    if form != 0 {
-        return Outcome::BadForm(form);
-    }
-    let name = spelling::names_fault(s);
-    if name != 0 {
-        return Outcome::BadName(name);
-    }
-    let count = counts::counts_fault(
-        read.names,
-        read.built_ins,
-        read.expressions,
-        read.statements,
-        read.queries,
-        width,
-    );
-    if count != 0 {
-        return Outcome::BadCount(count);
-    }
-    let counts = Counts {
-        names: read.names,
-        builtins: read.built_ins,
-        exprs: read.expressions,
-        statements: read.statements,
-        queries: read.queries,
-    };
-    store_head(table, counts, spelling::special_names(s));
-    let field = faults::first_line(table, counts, work);
-    if field != 0 {
-        return Outcome::BadField(field);
-    }
-    Outcome::Read
+pub struct Statement {
+    pub form: u16,
+    pub first: u16,
+    pub second: u16,
+    pub third: u16,
+    pub query: u16,
+    pub with: u16,
+    pub next: u16,
 }
 
-// All questions. Where the sheet is read, its rows are left in the tables; work, and the tables of a refused sheet, are left as they come.
-pub fn take(s: &[u8], tables: &mut [u16], work: &mut [u64], width: Width) -> Outcome
-    ensures { λ r. ⌜ SheetTaken (limits width) (now (s .entry)) (length (now (tables .entry))) (length (now (work .entry))) r (now (tables .exit)) ⌝ }
-{
-    buffers::clear(tables);
-    if !has_room(tables.len(), work.len(), width) {
-        return Outcome::NoRoom;
-    }
-    ask(s, &mut tables[0..tables::LENGTH], work, width)
-}
-
-fn is_read(outcome: Outcome) -> bool
-    ensures { λ r. ⌜ r ≡ isRead outcome ⌝ }
-{
-    match outcome {
-        Outcome::Read => true,
-        Outcome::NoRoom => false,
-        Outcome::TooLong => false,
-        Outcome::BadForm(_) => false,
-        Outcome::BadName(_) => false,
-        Outcome::BadCount(_) => false,
-        Outcome::BadField(_) => false,
-    }
-}
-
-// Reads a sheet into the tables, or refuses it and leaves zeros. Work is zeros afterwards in any case.
-pub fn read(s: &[u8], tables: &mut [u16], work: &mut [u64], width: Width) -> Outcome
-    ensures { λ r. ⌜ SheetLeft (limits width) (now (s .entry)) (length (now (tables .entry))) (length (now (work .entry))) r (now (tables .exit)) (now (work .exit)) ⌝ }
-{
-    let outcome = take(s, tables, work, width);
-    buffers::clear_words(work);
-    if !is_read(outcome) {
-        buffers::clear(tables);
-    }
-    outcome
-}
-
-// The number that an outcome is returned as.
-pub fn number_of(outcome: Outcome) -> u64
-    ensures { λ r. ⌜ r ≡ number outcome ⌝ }
-{
-    match outcome {
-        Outcome::Read => 0,
-        Outcome::NoRoom => 1,
-        Outcome::TooLong => 2,
-        Outcome::BadForm(_) => 3,
-        Outcome::BadName(_) => 4,
-        Outcome::BadCount(_) => 5,
-        Outcome::BadField(_) => 6,
-    }
-}
-
-// Its line at fault, or 0.
-pub fn line_of(outcome: Outcome) -> usize
-    ensures { λ r. ⌜ r ≡ faultLine outcome ⌝ }
-{
-    match outcome {
-        Outcome::Read => 0,
-        Outcome::NoRoom => 0,
-        Outcome::TooLong => 0,
-        Outcome::BadForm(at) => at,
-        Outcome::BadName(at) => at,
-        Outcome::BadCount(at) => at,
-        Outcome::BadField(at) => at,
-    }
+// How many rows each section has.
+pub struct Counts {
+    pub names: usize,
+    pub builtins: usize,
+    pub exprs: usize,
+    pub statements: usize,
+    pub queries: usize,
 }

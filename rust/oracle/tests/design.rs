@@ -1,9 +1,9 @@
-//! `docs/DESIGN.md` says of every function of the files that the analysis is built of where it
+//! `docs/ORIGINAL.md` says of every function of the files that the analysis is built of where it
 //! went, or that it is not reached. Without the original files there is nothing to ask.
 
 #[cfg(original)]
 mod with_the_original {
-    const DESIGN: &str = include_str!("../../../docs/DESIGN.md");
+    const PAGE: &str = include_str!("../../../docs/ORIGINAL.md");
 
     /// The original files as they are compiled.
     const FILES: [&str; 4] = [
@@ -15,8 +15,8 @@ mod with_the_original {
 
     /// The section on where the original's functions went.
     fn section() -> &'static str {
-        let heading = "### The original's functions, and where each went";
-        let (_, after) = DESIGN.split_once(heading).expect("the section");
+        let heading = "## Its functions, and where each went";
+        let (_, after) = PAGE.split_once(heading).expect("the section");
         after.split("\n## ").next().unwrap_or(after)
     }
 

@@ -5,8 +5,9 @@ use Prim.Native.Nat.{ℕ, _≤_, _-_}
 use native.Mathlib.Omega.{arith}
 use lib.ListN.{length, drop, set, length-set}
 use borrow.Author.Needs.{needs}
-use Rattle.basics.specs.Ranges.{range, range-nil}
-use Rattle.buffers.specs.Fills.{count-more}
+use Rattle.base.specs.Lists.{range}
+use Rattle.base.proofs.Laws.Ranges.{range-nil}
+use Rattle.buffers.proofs.Laws.Fills.{count-more}
 use Rattle.buffers.proofs.count_up.Statement.{statement}
 use Rattle.buffers.proofs.count_up.Tie as tie
 

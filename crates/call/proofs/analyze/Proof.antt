@@ -3,7 +3,7 @@ use mathlib.Core.Path.{ap, _∙_}
 use Prim.Native.Nat.{ℕ}
 use lib.ListN.{length, replicate}
 use borrow.Author.Needs.{needs}
-use Rattle.call.specs.Whole.{zeros-again, leaves}
+use Rattle.call.proofs.Laws.Whole.{zeros-again, whole-leaves}
 use Rattle.call.proofs.analyze.Statement.{statement}
 use Rattle.call.proofs.analyze.Tie as tie
 
@@ -32,7 +32,7 @@ same-length-3 c = search needs
 returns : tie.Need-returns
 returns c =
     let replied = c .before .before .before .before .before .before .before .before .before .before .before .before .before .before .reply-to in
-    leaves _ _ _ _ _ _ (c .before .before .before .before .before .before .before .before .before .before .before .before .before .before .before .before .before .before .before .before .clear-bytes .kept .0) _ _ (replied .ensures) _ _
+    whole-leaves _ _ _ _ _ _ (c .before .before .before .before .before .before .before .before .before .before .before .before .before .before .before .before .before .before .before .before .clear-bytes .kept .0) _ _ (replied .ensures) _ _
     (c .before .before .before .before .before .before .clear .ensures ∙ ap (λ (n : ℕ). replicate n 0) (replied .kept .1 .0))
     (c .before .before .clear-words .ensures ∙ ap (λ (n : ℕ). replicate n 0) (replied .kept .1 .1 .0))
 

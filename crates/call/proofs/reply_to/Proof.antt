@@ -5,9 +5,9 @@ use native.Mathlib.Omega.{arith}
 use lib.ListN.{length}
 use lib.Seq.{length-take-le}
 use borrow.Author.Needs.{needs}
-use Rattle.widths.specs.declared.Width.{Width}
+use Rattle.names_width.specs.declared.Width.{Width}
 use Rattle.sheet.specs.Verdict.{number}
-use Rattle.call.specs.Whole.{line-low, refuses, tables-enough, work-enough, lent-accepted, lent-names, answers}
+use Rattle.call.proofs.Laws.Whole.{line-low, whole-refuses, tables-enough, work-enough, lent-accepted, lent-names, call-answers}
 use Rattle.call.proofs.reply_to.Statement.{statement}
 use Rattle.call.proofs.reply_to.Tie as tie
 
@@ -44,7 +44,7 @@ same-length-2 c = search needs
 returns : tie.Need-returns
 returns c =
     let took = c .before .before .before .before .before .before .before in
-    refuses (width took) _ _ _ _ _ (took .take .ensures) _ (λ z. c .before .if1 .taken (c .before .before .number-of .ensures ∙ z)) _ (c .of-outcome .ensures) _ (c .before .before .before .before .before .before .before .before .before .before .before .before .before .before .pre)
+    whole-refuses (width took) _ _ _ _ _ (took .take .ensures) _ (λ z. c .before .if1 .taken (c .before .before .number-of .ensures ∙ z)) _ (c .of-outcome .ensures) _ (c .before .before .before .before .before .before .before .before .before .before .before .before .before .before .pre)
 
 slice-reshare-prefix-answer-sheet : tie.Need-slice-reshare-prefix-answer-sheet
 slice-reshare-prefix-answer-sheet c = room c
@@ -77,7 +77,7 @@ same-length-5 c = search needs
 returns-2 : tie.Need-returns-2
 returns-2 c =
     let k = c .before .before .before .before .before .before .before .before in
-    answers (width (taken k)) _ _ _ _ _ (taken k .take .ensures) (read k) _ _ _ (c .before .before .before .before .answer-sheet .ensures)
+    call-answers (width (taken k)) _ _ _ _ _ (taken k .take .ensures) (read k) _ _ _ (c .before .before .before .before .answer-sheet .ensures)
 
 pub reply-to-spec : {M : Type 1} → statement M
 reply-to-spec =

@@ -4,7 +4,7 @@ use Prim.Native.Nat.{_/_}
 use native.Mathlib.Omega.{arith}
 use lib.ListN.{length-set}
 use borrow.Author.Needs.{needs}
-use Rattle.names.specs.Words.{stored-in}
+use Rattle.names.proofs.Laws.Words.{stored-in}
 use Rattle.names.proofs.add.Statement.{statement}
 use Rattle.names.proofs.add.Tie as tie
 

@@ -4,7 +4,7 @@ use Prim.Native.Nat.{ℕ, _/_, _%_, _^_}
 use lib.Dec.{eqb}
 use lib.Bits.{and-mask}
 use borrow.Author.Needs.{needs}
-use Rattle.names.specs.Sets.{wordOf, member, bit}
+use Rattle.base.specs.Sets.{wordOf, member, bit}
 use Rattle.names.proofs.has.Statement.{statement}
 use Rattle.names.proofs.has.Tie as tie
 

@@ -2,7 +2,7 @@
 use mathlib.Core.Path.{ap, _∙_}
 use native.Mathlib.Omega.{arith}
 use borrow.Author.Needs.{needs}
-use Rattle.answers.specs.Call.{Left}
+use Rattle.answer.specs.Call.{Left}
 use Rattle.nokchbem.specs.Calls.{leftNumber}
 use Rattle.nokchbem.proofs.nokchbem_analyze.Statement.{statement}
 use Rattle.nokchbem.proofs.nokchbem_analyze.Tie as tie

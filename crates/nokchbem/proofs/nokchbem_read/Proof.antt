@@ -4,11 +4,11 @@ use Prim.Native.Nat.{ℕ, _≤_}
 use native.Mathlib.Omega.{arith}
 use lib.ListN.{length}
 use borrow.Author.Needs.{needs}
-use Rattle.widths.specs.declared.Width.the-variants.{Eight}
-use Rattle.schedule.specs.Call.{refusal}
+use Rattle.names_width.specs.declared.Width.the-variants.{Eight}
+use Rattle.order.specs.Call.{refusal}
 use Rattle.sheet.specs.declared.Outcome.{Outcome}
 use Rattle.sheet.specs.Verdict.{faultLine, leftTables}
-use Rattle.sheet.specs.LineBounds.{line-fits, number-fits}
+use Rattle.sheet_read.proofs.Laws.LineBounds.{line-fits, number-fits}
 use Rattle.nokchbem.specs.Calls.{readNumber}
 use Rattle.nokchbem.proofs.nokchbem_read.Statement.{statement}
 use Rattle.nokchbem.proofs.nokchbem_read.Tie as tie

@@ -1,7 +1,7 @@
 -- What `schedule` leaves, with its outcome as a number.
 use mathlib.Core.Path.{ap, _∙_}
 use borrow.Author.Needs.{needs}
-use Rattle.schedule.specs.Call.{scheduleNumber}
+use Rattle.order.specs.Call.{scheduleNumber}
 use Rattle.nokchbem.proofs.nokchbem_schedule.Statement.{statement}
 use Rattle.nokchbem.proofs.nokchbem_schedule.Tie as tie
 

@@ -37,15 +37,15 @@ use denote.Triple.Statement.{Contract, Triple}
 use denote.Triple.Table.{entered, cited}
 use denote.Triple.Walked.{says, Stays, stay-none-slice, stay-none, gave-slice, walkOf, goes-none-slice, goes-none, goes-gave-slice, Walks, ends-at, walked, walk-meets}
 use denote.Exit.{yes}
-use Rattle.definitions.specs.declared.Definition.{Definition}
-use Rattle.definitions.specs.Copies.{CopyOf}
+use Rattle.order_records.specs.declared.Definition.{Definition}
+use Rattle.order_records.specs.Inner.Copies.{CopyOf}
 use Rattle.nokchbem.specs.Calls.{RecordsCall}
-use Rattle.definitions.proofs.Definition as T
-use Rattle.definitions.proofs.Definition.Laws as T′
-use Rattle.definitions.proofs.copied as copied
-use Rattle.definitions.proofs.copied.Symbol as copied-def
-use Rattle.definitions.proofs.copied.Symbol.{name as #definitions·copied}
-use Rattle.definitions.proofs.copied.Met as copied-thm
+use Rattle.order_records.proofs.Definition as T
+use Rattle.order_records.proofs.Definition.Laws as T′
+use Rattle.order_records.proofs.copied as copied
+use Rattle.order_records.proofs.copied.Symbol as copied-def
+use Rattle.order_records.proofs.copied.Symbol.{name as #order-records·copied}
+use Rattle.order_records.proofs.copied.Met as copied-thm
 use Rattle.nokchbem.proofs.schedule_copy as schedule
 use Rattle.nokchbem.proofs.schedule_copy.Symbol as schedule-def
 use Rattle.nokchbem.proofs.schedule_copy.Symbol.{name as #nokchbem·schedule-copy}
@@ -165,7 +165,7 @@ module _ {M : Type 1} (𝓤 : URA M) (H : Heap 𝓤) (A : Atoms 𝓤) (W : Given
       nothing ! $ move ! (3 ∷ 0 ∷ []) $ fjoin ! $ move ! (2 ∷ 0 ∷ []) $ fjoin ! $
       owned ! usize (Is usize) (uint-makes 𝓤 H A W w64) m _ (refl, m-fits) $ fjoin ! $ move ! (1 ∷ 0 ∷ []) $ fjoin ! $ frame ! $ done !
 
-  walk : (𝓣 : Tables 𝓤 H) → Triple 𝓤 (𝓣 .C #definitions·copied) (Copied 𝓤 H A mem run)
+  walk : (𝓣 : Tables 𝓤 H) → Triple 𝓤 (𝓣 .C #order-records·copied) (Copied 𝓤 H A mem run)
       → Triple 𝓤 (𝓣 .C #nokchbem·schedule-copy) (Schedules 𝓤 H A mem run)
       → ent 𝓤 (onEntry 𝓤 H A f.signature (κ₀, (κ₁, (κ₂, tt))) (q₀, (q₁, (q₂, tt))) a at)
       (WpFn 𝓤 H (𝓣 .C) (𝓣 .Λ) code.function (v₀ ∷ vint w64 m ∷ v₁ ∷ v₂ ∷ []) Post)
@@ -234,7 +234,7 @@ module _ {M : Type 1} (𝓤 : URA M) (H : Heap 𝓤) (A : Atoms 𝓤) (W : Given
       by ! (exits r w (ws .1 .1 .1 .0) (ws .1 .1 .1 .1 .0) (said (s₀ .now) refl same) e₁ e₂)))))))))))))))))))))))
 
 module _ {M : Type 1} (𝓤 : URA M) (H : Heap 𝓤) (A : Atoms 𝓤) (W : Given 𝓤 H A) (mem : Memory → SProp 𝓤) (run : Routine → Fun 𝓤) (𝓣 : Tables 𝓤 H)
-    (known-copied : Triple 𝓤 (𝓣 .C #definitions·copied) (Copied 𝓤 H A mem run))
+    (known-copied : Triple 𝓤 (𝓣 .C #order-records·copied) (Copied 𝓤 H A mem run))
     (known-schedule : Triple 𝓤 (𝓣 .C #nokchbem·schedule-copy) (Schedules 𝓤 H A mem run)) where
   walks : Walks 𝓤 H A f.ended stayed (WpFn 𝓤 H (𝓣 .C) (𝓣 .Λ) code.function) (f.clauses 𝓤 H A mem run)
   walks =
@@ -267,7 +267,7 @@ nokchbem-schedule-records-spec 𝓤 H 𝓜 𝓖 𝓡 =
     entered 𝓤 H (tripleOf 𝓤 H (𝓖 .A) f.signature (f.spec 𝓤 H (𝓖 .A) (𝓜 .mem) (𝓡 .run)))
     (tables 𝓤 H 𝓜 𝓡 code.env .C) (tables 𝓤 H 𝓜 𝓡 code.env .Λ) #nokchbem·nokchbem-schedule-records code.function (code.unfolded 𝓤 H 𝓜 𝓡)
     (meets 𝓤 H (𝓖 .A) (givenOf 𝓤 H 𝓜 𝓖) (𝓜 .mem) (𝓡 .run) (tablesOf 𝓤 H 𝓜 (tables 𝓤 H 𝓜 𝓡 code.env))
-    (cited 𝓤 H (Copied 𝓤 H (𝓖 .A) (𝓜 .mem) (𝓡 .run)) 𝓜 𝓡 code.env #definitions·copied copied-def.routine code.calls-definitions·copied
+    (cited 𝓤 H (Copied 𝓤 H (𝓖 .A) (𝓜 .mem) (𝓡 .run)) 𝓜 𝓡 code.env #order-records·copied copied-def.routine code.calls-order-records·copied
     (copied-thm.met 𝓤 H 𝓜 𝓖 𝓡))
     (cited 𝓤 H (Schedules 𝓤 H (𝓖 .A) (𝓜 .mem) (𝓡 .run)) 𝓜 𝓡 code.env #nokchbem·schedule-copy schedule-def.routine code.calls-nokchbem·schedule-copy
     (schedule-thm.met 𝓤 H 𝓜 𝓖 𝓡)))

@@ -3,7 +3,7 @@ use mathlib.Core.Path.{sym, _∙_}
 use native.Mathlib.Omega.{arith}
 use borrow.Author.Needs.{needs}
 use borrow.Author.Tests.{not-true, not-false}
-use Rattle.call.specs.Answering.{answers-in, faulty, answers-sound, answering}
+use Rattle.call.proofs.Laws.Answering.{answers-in, fault-answered, answers-sound, answering}
 use Rattle.call.proofs.answering.answer_sheet.Statement.{statement}
 use Rattle.call.proofs.answering.answer_sheet.Tie as tie
 
@@ -22,7 +22,7 @@ same-length c = search needs
 returns : tie.Need-returns
 returns c =
     let start = c .before .before .before .before .before .before .before .before .before .before in
-    faulty _ _ _ _ (c .before .before .before .before .before .analyze-sheet .ensures) (sym (c .before .before .is-sound .ensures) ∙ not-true _ (c .before .if1 .taken)) _ _
+    fault-answered _ _ _ _ (c .before .before .before .before .before .analyze-sheet .ensures) (sym (c .before .before .is-sound .ensures) ∙ not-true _ (c .before .if1 .taken)) _ _
     (c .of-fault .ensures) _ (start .pre .1)
 
 shared-slice-read-write-answer : tie.Need-shared-slice-read-write-answer

@@ -4,9 +4,9 @@ use Prim.Native.Nat.{_-_}
 use native.Mathlib.Omega.{arith}
 use lib.ListN.{length, length-drop}
 use borrow.Author.Needs.{needs}
-use Rattle.blocks.specs.Layout.{answers}
-use Rattle.answer.specs.Sound.{Sound}
-use Rattle.call.specs.Answering.{lent-answers, fits, fits-none}
+use Rattle.answer_blocks.specs.Inner.Layout.{answersSize}
+use Rattle.answer_text.specs.Inner.Sound.{SoundBlocks}
+use Rattle.call.proofs.Laws.Answering.{lent-answers, answer-fits, fits-none}
 use Rattle.call.proofs.answering.write_answer.Statement.{statement}
 use Rattle.call.proofs.answering.write_answer.Tie as tie
 
@@ -35,9 +35,9 @@ put-answer-requires c κs =
     let v = start .args .width in
     let w = start .args .work .now in
     let lent = lent-answers v _ (count .answers-of .ensures) w in (
-      omega (arith, start .pre .answers-room, ap length lent, length-drop (length w - answers v) w),
+      omega (arith, start .pre .answers-room, ap length lent, length-drop (length w - answersSize v) w),
       start .pre .queries-few,
-      subst (Sound v) (sym lent) (start .pre .sound),
+      subst (SoundBlocks v) (sym lent) (start .pre .sound),
     )
 
 clear-bytes-requires : tie.Need-clear-bytes-requires
@@ -63,7 +63,7 @@ returns-2 c =
     let count = put .before .before .before in
     let start = count .before .before .before in
     λ schedules stored.
-    fits (start .args .width) _ (count .answers-of .ensures) (start .args .work .now) _ _ (start .pre .zeros) _ _ (put .put-answer .ensures) schedules stored (c .if1 .left)
+    answer-fits (start .args .width) _ (count .answers-of .ensures) (start .args .work .now) _ _ (start .pre .zeros) _ _ (put .put-answer .ensures) schedules stored (c .if1 .left)
 
 pub write-answer-spec : {M : Type 1} → statement M
 write-answer-spec =

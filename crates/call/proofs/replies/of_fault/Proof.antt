@@ -1,7 +1,7 @@
 -- Each arm tells which fault it is.
 use mathlib.Core.Path.{sym, ap}
 use borrow.Author.Needs.{needs}
-use Rattle.call.specs.Replies.{faultReply}
+use Rattle.call.specs.Inner.Replies.{faultReply}
 use Rattle.call.proofs.replies.of_fault.Statement.{statement}
 use Rattle.call.proofs.replies.of_fault.Tie as tie
 

@@ -3,7 +3,7 @@ use mathlib.Core.Path.{ap₂}
 use Prim.Native.Nat.{ℕ}
 use native.Mathlib.Omega.{arith}
 use borrow.Author.Needs.{needs}
-use Rattle.sheet.specs.LineBounds.{number-fits}
+use Rattle.sheet_read.proofs.Laws.LineBounds.{number-fits}
 use Rattle.call.proofs.replies.of_outcome.Statement.{statement}
 use Rattle.call.proofs.replies.of_outcome.Tie as tie
 

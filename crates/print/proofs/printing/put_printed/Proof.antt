@@ -1,8 +1,8 @@
 -- The number tells which of the laws the way out is.
 use lib.ListN.{length}
 use borrow.Author.Needs.{needs}
-use Rattle.basics.specs.Limits.{printing}
-use Rattle.print.specs.Printed.{prints-refusal, prints-answer}
+use Rattle.base.specs.Limits.{printing}
+use Rattle.print.proofs.Laws.Printed.{prints-refusal, prints-answer}
 use Rattle.print.proofs.printing.put_printed.Statement.{statement}
 use Rattle.print.proofs.printing.put_printed.Tie as tie
 

@@ -1,7 +1,7 @@
 -- The heading, the row and an empty line, one behind the other.
 use borrow.Author.Needs.{needs}
-use Rattle.text.specs.Bytes.{bytes}
-use Rattle.print.specs.Printed as laws
+use Rattle.sheet.specs.Text.{bytes}
+use Rattle.print.proofs.Laws.Printed as laws
 use Rattle.print.proofs.printing.put_refusal.Statement.{statement}
 use Rattle.print.proofs.printing.put_refusal.Tie as tie
 

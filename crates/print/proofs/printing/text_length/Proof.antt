@@ -3,7 +3,8 @@ use Prim.Native.Nat.{_-_, _≤_}
 use native.Mathlib.Omega.{arith}
 use lib.ListN.{length}
 use borrow.Author.Needs.{needs}
-use Rattle.print.specs.Ends.{NoneBefore, none-more}
+use Rattle.print.specs.Inner.Ends.{NoneBefore}
+use Rattle.print.proofs.Laws.Ends.{none-more}
 use Rattle.print.proofs.printing.text_length.Statement.{statement}
 use Rattle.print.proofs.printing.text_length.Tie as tie
 

@@ -7,7 +7,7 @@ use mir.Val.{Fits}
 use mir.Syntax.{w64}
 use borrow.Author.Count.{below-none}
 use borrow.Author.Needs.{needs}
-use Rattle.names.specs.Words.{andNotWord, words-next, difference-words}
+use Rattle.names.proofs.Laws.Words.{andNotWord, words-next, difference-words}
 use Rattle.names.proofs.statements.Statements.difference.Statement.{statement}
 use Rattle.names.proofs.statements.Statements.difference.Tie as tie
 

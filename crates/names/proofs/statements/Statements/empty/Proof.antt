@@ -1,5 +1,5 @@
 -- A list of zeros has no member.
-use Rattle.names.specs.Words.{zeros-empty}
+use Rattle.names.proofs.Laws.Words.{zeros-empty}
 use Rattle.names.proofs.statements.Statements.empty.Statement.{statement}
 use Rattle.names.proofs.statements.Statements.empty.Tie as tie
 

@@ -1,6 +1,6 @@
 -- The union with the set that has the name alone has that name more, and no other.
 use borrow.Author.Needs.{needs}
-use Rattle.names.specs.Words.{inserted}
+use Rattle.names.proofs.Laws.Words.{inserted}
 use Rattle.names.proofs.statements.Statements.insert.Statement.{statement}
 use Rattle.names.proofs.statements.Statements.insert.Tie as tie
 

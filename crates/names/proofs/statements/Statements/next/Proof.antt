@@ -4,8 +4,8 @@ use Prim.Native.Nat.{_*_, _-_}
 use native.Mathlib.Omega.{arith}
 use lib.ListN.{length}
 use borrow.Author.Needs.{needs}
-use Rattle.names.specs.Sets.{Gap}
-use Rattle.names.specs.Search.{gap-over, next-found, next-none}
+use Rattle.names.specs.Inner.Sets.{Gap}
+use Rattle.names.proofs.Laws.Search.{gap-over, next-found, next-none}
 use Rattle.names.proofs.statements.Statements.next.Statement.{statement}
 use Rattle.names.proofs.statements.Statements.next.Tie as tie
 

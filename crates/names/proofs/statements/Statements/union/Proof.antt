@@ -5,7 +5,7 @@ use native.Mathlib.Omega.{arith}
 use lib.ListN.{length, getD, length-set}
 use borrow.Author.Count.{below-none}
 use borrow.Author.Needs.{needs}
-use Rattle.names.specs.Words.{orWord, words-next, union-words}
+use Rattle.names.proofs.Laws.Words.{orWord, words-next, union-words}
 use Rattle.names.proofs.statements.Statements.union.Statement.{statement}
 use Rattle.names.proofs.statements.Statements.union.Tie as tie
 

@@ -1,0 +1,4 @@
+pub mod Counts
+pub mod Bases
+pub mod Concluded
+pub mod Asks

@@ -1,0 +1,23 @@
+-- The first value, and the rest of the line.
+use mathlib.Core.List.{[], _∷_}
+use borrow.Author.Needs.{needs}
+use Rattle.answer_text.proofs.Laws.Lines.{line-more}
+use Rattle.answer_text.proofs.rows.put_five.Statement.{statement}
+use Rattle.answer_text.proofs.rows.put_five.Tie as tie
+
+put-value-requires : tie.Need-put-value-requires
+put-value-requires c κs = search needs
+
+put-four-requires : tie.Need-put-four-requires
+put-four-requires c κs = search needs
+
+same-length : tie.Need-same-length
+same-length c = search needs
+
+returns : tie.Need-returns
+returns c =
+    let args = c .before .before .before .before .before .before .before .before .before .args in
+    line-more _ _ _ (args .b) (args .c ∷ args .d ∷ args .e ∷ []) _ _ _ _ (c .before .before .before .before .before .before .put-value .ensures) (c .before .before .put-four .ensures)
+
+pub put-five-spec : {M : Type 1} → statement M
+put-five-spec = tie.close (tie.spec put-value-requires put-four-requires same-length returns)

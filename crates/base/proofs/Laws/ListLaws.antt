@@ -1,0 +1,72 @@
+-- A test that all elements pass, of lists that are put together.
+use mathlib.Core.Path.{_≡_, refl, sym}
+use mathlib.Core.Bool.{Bool, true, false, cond}
+use mathlib.Core.List.{List, [], _∷_, _++_, map, append-assoc}
+use mathlib.Core.Logic.{_⊎_, inl, inr}
+use Prim.Native.Nat.{ℕ, zero, suc}
+use lib.ListN.{getD}
+use Rattle.base.proofs.Laws.Truth.{bool-cases, and-intro, and-left, and-right}
+use Rattle.base.specs.Lists.{all, filter}
+use Rattle.base.specs.Lists.{concatMap, last}
+use Rattle.base.proofs.Laws.Mapping.{toList}
+
+module _ {A : Type 0} where
+  pub all-append : (p : A → Bool) (k l : List A) → all p k ≡ true → all p l ≡ true → all p (k ++ l) ≡ true
+  all-append p [] l h g = g
+  all-append p (x ∷ k) l h g = and-intro (p x) (all p (k ++ l)) (and-left (p x) (all p k) h) (all-append p k l (and-right (p x) _ h) g)
+
+  pub all-weaken : (p q : A → Bool) → ((x : A) → p x ≡ true → q x ≡ true) → (l : List A) → all p l ≡ true → all q l ≡ true
+  all-weaken p q f [] h = refl
+  all-weaken p q f (x ∷ l) h = and-intro _ _ (f x (and-left _ _ h)) (all-weaken p q f l (and-right (p x) _ h))
+
+  -- A test that everything passes.
+  pub all-always : (p : A → Bool) → ((x : A) → p x ≡ true) → (l : List A) → all p l ≡ true
+  all-always p f [] = refl
+  all-always p f (x ∷ l) = and-intro _ _ (f x) (all-always p f l)
+
+  -- What a filter keeps passes its test, and each test that all passed before.
+  pub all-kept : (p : A → Bool) (l : List A) → all p (filter p l) ≡ true
+  all-kept p [] = refl
+  all-kept p (x ∷ l) = go (bool-cases (p x)) (all-kept p l)
+    where
+      go : (p x ≡ true) ⊎ (p x ≡ false) → all p (filter p l) ≡ true → all p (filter p (x ∷ l)) ≡ true
+      go (inl e) ih = rw e (and-intro _ _ e ih)
+      go (inr e) ih = rw e ih
+
+  pub all-filter : (p q : A → Bool) (l : List A) → all p l ≡ true → all p (filter q l) ≡ true
+  all-filter p q [] h = refl
+  all-filter p q (x ∷ l) h = go (q x) (all-filter p q l (and-right (p x) _ h))
+    where
+      go : (b : Bool) → all p (filter q l) ≡ true → all p (cond b (x ∷ filter q l) (filter q l)) ≡ true
+      go true ih = and-intro (p x) (all p (filter q l)) (and-left (p x) (all p l) h) ih
+      go false ih = ih
+
+  pub all-last : (p : A → Bool) (l : List A) → all p l ≡ true → all p (toList (last l)) ≡ true
+  all-last p [] h = refl
+  all-last p (x ∷ []) h = h
+  all-last p (x ∷ (y ∷ l)) h = all-last p (y ∷ l) (and-right (p x) _ h)
+
+  pub all-getD : (p : A → Bool) (l : List A) (i : ℕ) (d : A) → all p l ≡ true → p d ≡ true → p (getD l i d) ≡ true
+  all-getD p [] i d h e = e
+  all-getD p (x ∷ l) zero d h e = and-left _ _ h
+  all-getD p (x ∷ l) (suc i) d h e = all-getD p l i d (and-right (p x) _ h) e
+
+module _ {A B : Type 0} (p : A → Bool) (q : B → Bool) where
+  pub all-map : (f : B → A) → ((x : B) → q x ≡ true → p (f x) ≡ true) → (l : List B) → all q l ≡ true → all p (map f l) ≡ true
+  all-map f h [] e = refl
+  all-map f h (x ∷ l) e = and-intro _ _ (h x (and-left _ _ e)) (all-map f h l (and-right (q x) _ e))
+
+  pub all-concatMap : (f : B → List A) → ((x : B) → q x ≡ true → all p (f x) ≡ true) → (l : List B) → all q l ≡ true
+      → all p (concatMap f l) ≡ true
+  all-concatMap f h [] e = refl
+  all-concatMap f h (x ∷ l) e = all-append p (f x) _ (h x (and-left _ _ e)) (all-concatMap f h l (and-right (q x) _ e))
+
+-- The same, where nothing is known of the elements.
+pub concatMap-always : {A B : Type 0} (p : A → Bool) (f : B → List A) → ((x : B) → all p (f x) ≡ true) → (l : List B)
+    → all p (concatMap f l) ≡ true
+concatMap-always p f h l = all-concatMap p (λ x. true) f (λ x e. h x) l (all-always (λ x. true) (λ x. refl) l)
+
+-- Over two lists, one after the other.
+pub concatMap-append : {A B : Type 0} (f : A → List B) (k l : List A) → concatMap f (k ++ l) ≡ concatMap f k ++ concatMap f l
+concatMap-append f [] l = refl
+concatMap-append f (x ∷ k) l = rw (concatMap-append f k l) (sym (append-assoc (f x) (concatMap f k) (concatMap f l)))

@@ -1,7 +1,0 @@
-pub mod Truth
-pub mod Lists
-pub mod Ranges
-pub mod Members
-pub mod Subsets
-pub mod Refusals
-pub mod Limits

@@ -1,0 +1,4 @@
+pub mod Replies
+pub mod Answering
+pub mod ReadSheet
+pub mod Whole

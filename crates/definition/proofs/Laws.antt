@@ -1,0 +1,2 @@
+pub mod RustWay
+pub mod OutputOwns

@@ -1,0 +1,9 @@
+pub mod Uses
+pub mod States
+pub mod Using
+pub mod Comprs
+pub mod Exprs
+pub mod SomeIn
+pub mod Queries
+pub mod RustWay
+pub mod Inner

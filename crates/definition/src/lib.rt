@@ -1,0 +1,1 @@
+// What an expression uses and what a query records, as definitions: see specs/.

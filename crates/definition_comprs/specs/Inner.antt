@@ -1,0 +1,9 @@
+pub mod Queries
+pub mod Takes
+pub mod Pending
+pub mod OwnInputs
+pub mod Propagated
+pub mod Uses
+pub mod Rising
+pub mod After
+pub mod Used

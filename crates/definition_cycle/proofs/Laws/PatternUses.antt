@@ -1,0 +1,98 @@
+-- What the parts of a some-in pattern use that are no variables.
+use mathlib.Core.Path.{_≡_, sym, ap, _∙_, subst}
+use mathlib.Core.Bool.{true, false, cond}
+use mathlib.Core.List.{List, [], _++_, append-assoc, append-nil}
+use Prim.Native.Nat.{ℕ, _≤_}
+use lib.ListN.{getD}
+use Rattle.names.specs.Inner.Sets.{Empty}
+use Rattle.names.specs.declared.Names.{Names}
+use Rattle.names_width.specs.declared.Width.{Width}
+use Rattle.sheet.specs.declared.Row.{Row}
+use Rattle.sheet.specs.Inner.Sheet.{rowAt}
+use Rattle.sheet.specs.Kinds.{isPattern}
+use Rattle.scope.specs.Trees.{Tree, treeAt}
+use Rattle.scope.specs.Traverse.{comprs}
+use Rattle.definition.specs.Uses.{usedVars}
+use Rattle.definition.specs.Comprs.{comprsUse, allUsed}
+use Rattle.definition.specs.SomeIn.{nonVars}
+use Rattle.definition_once.specs.Inner.OnceWay.{onceWay}
+use Rattle.base.proofs.Laws.ListLaws.{concatMap-append}
+use Rattle.scope_state.specs.declared.Scope.{Scope}
+use Rattle.scope_walk.specs.Inner.Sheets.{sheetAt, Accepted}
+use Rattle.scope_walk.specs.Inner.Exprs.{exprBy}
+use Rattle.definition_walk.specs.Inner.Own.{Holds}
+use Rattle.definition_walk.specs.Inner.Adds.{Adds}
+use Rattle.definition_walk.proofs.Laws.Adds.{adds-none, adds-then, adds-holds}
+use Rattle.definition_expr.proofs.Laws.UsesMods.{holds-none}
+use Rattle.definition_comprs.specs.Inner.Used.{ComprsUsed}
+use Rattle.definition_literal.specs.declared.context.Context.{Context}
+use Rattle.definition_literal.specs.Inner.SomeIn.{NonVar}
+use Rattle.definition_literal.specs.Inner.Used.{NamesWalk}
+use Rattle.definition_cycle.specs.Inner.Asks.{otherAt}
+use Rattle.definition_steps.specs.Inner.Pairs.{leavesAt}
+use Rattle.definition_cycle.specs.Inner.AllUsed.{laterMods, partsUse, othersUse, OtherUsed, LeavesUsed, OthersUsed}
+use Rattle.definition_cycle.proofs.Laws.UsedBy.{use-both}
+use Rattle.definition_cycle.proofs.Laws.Patterns.{other-is, non-vars-append, non-vars-none, non-vars-row}
+
+module _ (t : List ℕ) (v : Width) (k : Scope) (work : List ℕ) where
+  -- ---- one part
+
+  pub other-none : (row : ℕ) → row ≡ 0 → (mods : ℕ) (a : Names) → OtherUsed t v k row mods work a a
+  other-none row z mods a nested parents s h stored = rw z (adds-none a)
+
+  pub other-one : (row : ℕ) → (row ≡ 0 → ⊥) → (mods : ℕ) (none a by own b : Names) → Empty (none .words)
+      → NamesWalk t k none row false a by → ComprsUsed t v k work row false by own → ComprsUsed t v k work mods true own b
+      → OtherUsed t v k row mods work a b
+  unfolding allUsed
+  other-one row some mods none a by own b clear u₀ u₁ u₂ nested parents s h stored =
+      let way = onceWay (sheetAt t) nested parents in
+      let e = exprBy t false row in
+      let names = usedVars (sheetAt t) (s .scope) [] e in
+      let cs = comprs (treeAt (sheetAt t) mods) in
+      let whole : (names ++ comprsUse (sheetAt t) way (comprs e) s) ++ comprsUse (sheetAt t) way cs s ≡ partsUse t way s cs (otherAt t row) =
+      append-assoc names (comprsUse (sheetAt t) way (comprs e) s) (comprsUse (sheetAt t) way cs s)
+      ∙ ap (λ (l : List ℕ). names ++ l) (sym (use-both (sheetAt t) way (comprs e) cs s))
+      ∙ sym (append-nil (allUsed (sheetAt t) way [] (laterMods cs) e s))
+      ∙ ap (partsUse t way s cs) (sym (other-is t row some)) in
+      subst (λ (l : List ℕ). Adds a l b) whole
+      (adds-then a own b (names ++ comprsUse (sheetAt t) way (comprs e) s) (comprsUse (sheetAt t) way cs s)
+      (adds-then a by own names (comprsUse (sheetAt t) way (comprs e) s) (u₀ (s .scope) h [] (holds-none none clear)) (u₁ (sheetAt t) nested parents s h stored)) (u₂ (sheetAt t) nested parents s h stored))
+
+  -- ---- all of them
+
+  module _ (ok : Accepted t) where
+    pub leaves-used-none : (row : ℕ) → row ≡ 0 → (mods : ℕ) (a : Names) → LeavesUsed t v k row mods work a a
+    leaves-used-none row z mods a nested parents s h stored = rw (non-vars-none t (s .scope) ok row z) (adds-none a)
+
+    pub leaves-used-turn : (row : ℕ) → (row ≡ 0 → ⊥) → row ≤ getD t 2 0 → (w : Row) → w ≡ rowAt t row
+        → (items : ℕ) → items ≡ cond (isPattern w) (w .first) 0 → (other : ℕ) → NonVar t k row w other
+        → (mods : ℕ) (a s₀ s₁ s₂ : Names) → OtherUsed t v k other mods work a s₀ → LeavesUsed t v k items mods work s₀ s₁
+        → LeavesUsed t v k (w .next) mods work s₁ s₂ → LeavesUsed t v k row mods work a s₂
+    leaves-used-turn row some high w is items ps other os mods a s₀ s₁ s₂ h₀ h₁ h₂ nested parents s h stored =
+        let way = onceWay (sheetAt t) nested parents in
+        let cs = comprs (treeAt (sheetAt t) mods) in
+        let others : ℕ → List Tree = λ r. nonVars (sheetAt t) (s .scope) (leavesAt t r) in
+        let whole : (partsUse t way s cs (otherAt t other) ++ othersUse t way s cs (leavesAt t items)) ++ othersUse t way s cs (leavesAt t (w .next))
+        ≡ othersUse t way s cs (leavesAt t row) =
+        append-assoc (partsUse t way s cs (otherAt t other)) (partsUse t way s cs (others items)) (partsUse t way s cs (others (w .next)))
+        ∙ ap (λ (l : List ℕ). partsUse t way s cs (otherAt t other) ++ l) (sym (concatMap-append _ (others items) (others (w .next))))
+        ∙ sym (concatMap-append _ (otherAt t other) (others items ++ others (w .next)))
+        ∙ ap (partsUse t way s cs) (sym (non-vars-row t (s .scope) ok row some high w is items ps other (os (s .scope) h))) in
+        subst (λ (l : List ℕ). Adds a l s₂) whole
+        (adds-then a s₁ s₂ (partsUse t way s cs (otherAt t other) ++ othersUse t way s cs (leavesAt t items)) (othersUse t way s cs (leavesAt t (w .next)))
+        (adds-then a s₀ s₁ (partsUse t way s cs (otherAt t other)) (othersUse t way s cs (leavesAt t items)) (h₀ nested parents s h stored) (h₁ nested parents s h stored)) (h₂ nested parents s h stored))
+
+  -- The parts of key and value.
+  pub others-used : (key value : ℕ) (x : Context) (none by r : Names) → Empty (none .words)
+      → LeavesUsed t v k key (x .mods) work none by → LeavesUsed t v k value (x .mods) work by r → OthersUsed t v k key value x work r
+  others-used key value x none by r clear h₀ h₁ m stands nested parents s h stored =
+      let way = onceWay (sheetAt t) nested parents in
+      let cs = comprs (treeAt (sheetAt t) (x .mods)) in
+      let others : ℕ → List Tree = λ r. nonVars (sheetAt t) (s .scope) (leavesAt t r) in
+      let whole : othersUse t way s cs (leavesAt t key) ++ othersUse t way s cs (leavesAt t value) ≡ othersUse t way s (m .comprs) (leavesAt t key ++ leavesAt t value) =
+      sym (concatMap-append _ (others key) (others value))
+      ∙ ap (partsUse t way s cs) (sym (non-vars-append t (s .scope) (leavesAt t key) (leavesAt t value)))
+      ∙ ap (λ (l : List Tree). othersUse t way s l (leavesAt t key ++ leavesAt t value)) (sym (stands .comprs)) in
+      subst (Holds r) whole
+      (adds-holds none r (othersUse t way s cs (leavesAt t key) ++ othersUse t way s cs (leavesAt t value)) clear
+      (adds-then none by r (othersUse t way s cs (leavesAt t key)) (othersUse t way s cs (leavesAt t value)) (h₀ nested parents s h stored) (h₁ nested parents s h stored)))

@@ -1,0 +1,9 @@
+pub mod Budgets
+pub mod Sites
+pub mod Queries
+pub mod Asks
+pub mod Does
+pub mod AllUsed
+pub mod OneWay
+pub mod Ends
+pub mod Analysed

@@ -1,0 +1,5 @@
+pub mod Gathers
+pub mod ComprRows
+pub mod Defined
+pub mod UsesVars
+pub mod UsesMods

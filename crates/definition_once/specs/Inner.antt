@@ -1,0 +1,5 @@
+pub mod OnceWay
+pub mod Own
+pub mod Schedules
+pub mod OwnNames
+pub mod Named

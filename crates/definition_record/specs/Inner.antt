@@ -1,0 +1,8 @@
+pub mod Each
+pub mod Front
+pub mod Records
+pub mod FirstUse
+pub mod Checks
+pub mod AssignedIn
+pub mod SomeVars
+pub mod Least

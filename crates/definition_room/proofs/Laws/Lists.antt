@@ -1,0 +1,77 @@
+-- The lengths of lists that are filtered, mapped and put together.
+use mathlib.Core.Path.{_≡_, refl, ap, _∙_}
+use mathlib.Core.Bool.{Bool, true, false, cond}
+use mathlib.Core.List.{List, [], _∷_, _++_, map, List·Memᴰ, List·Memᴰ·head, List·Memᴰ·tail}
+use mathlib.Core.Logic.{_⊎_, inl, inr}
+use mathlib.Core.Option.{some}
+use Prim.Native.Nat.{ℕ, zero, suc, _+_, _≤_}
+use native.Mathlib.Omega.{arith}
+use lib.ListN.{length, take, length-append}
+use Rattle.base.proofs.Laws.Truth.{bool-cases, and-intro}
+use Rattle.base.specs.Lists.{all, filter}
+use Rattle.base.specs.Lists.{concatMap, find, last}
+use Rattle.definition_room.specs.Inner.Sizes.{total}
+
+module _ {A : Type 0} where
+  -- A filter leaves no more than there is.
+  pub length-filter : (p : A → Bool) (l : List A) → length (filter p l) ≤ length l
+  length-filter p [] = omega arith
+  length-filter p (x ∷ l) = go (p x) (length-filter p l)
+    where
+      go : (b : Bool) → length (filter p l) ≤ length l → length (cond b (x ∷ filter p l) (filter p l)) ≤ suc (length l)
+      go true h = omega arith
+      go false h = omega arith
+
+module _ {A B : Type 0} where
+  -- A test that everything passes that f makes.
+  pub map-always : (p : B → Bool) (f : A → B) → ((x : A) → p (f x) ≡ true) → (l : List A) → all p (map f l) ≡ true
+  map-always p f h [] = refl
+  map-always p f h (x ∷ l) = and-intro (p (f x)) (all p (map f l)) (h x) (map-always p f h l)
+
+  -- The lengths of what is put together add up.
+  pub length-concatMap : (f : A → List B) (l : List A) → length (concatMap f l) ≡ total (λ x. length (f x)) l
+  length-concatMap f [] = refl
+  length-concatMap f (x ∷ l) = rw (length-append (f x) (concatMap f l), length-concatMap f l)
+
+module _ {A : Type 0} where
+  -- Sums over lists.
+  pub total-append : (f : A → ℕ) (k l : List A) → total f (k ++ l) ≡ total f k + total f l
+  total-append f [] l = omega arith
+  total-append f (x ∷ k) l = omega (arith, total-append f k l)
+
+  pub total-mono : (f g : A → ℕ) → ((x : A) → f x ≤ g x) → (l : List A) → total f l ≤ total g l
+  total-mono f g h [] = omega arith
+  total-mono f g h (x ∷ l) = omega (arith, h x, total-mono f g h l)
+
+  pub total-filter : (f : A → ℕ) (p : A → Bool) (l : List A) → total f (filter p l) ≤ total f l
+  total-filter f p [] = omega arith
+  total-filter f p (x ∷ l) = go (p x) (total-filter f p l)
+    where
+      go : (b : Bool) → total f (filter p l) ≤ total f l → total f (cond b (x ∷ filter p l) (filter p l)) ≤ f x + total f l
+      go true h = omega arith
+      go false h = omega arith
+
+  -- The last element is one of those that are summed up.
+  pub total-last : (f : A → ℕ) (l : List A) (x : A) → last l ≡ some x → f x ≤ total f l
+  total-last f [] x e = let z : _≡_ {A = ℕ} 0 1 = cc in omega arith
+  total-last f (y ∷ []) x e = let q : y ≡ x = cc in omega (arith, ap f q)
+  total-last f (y ∷ (z ∷ l)) x e = omega (arith, total-last f (z ∷ l) x e)
+
+  pub total-take : (f : A → ℕ) (k : ℕ) (l : List A) → total f (take k l) ≤ total f l
+  total-take f zero [] = omega arith
+  total-take f zero (x ∷ l) = omega arith
+  total-take f (suc k) [] = omega arith
+  total-take f (suc k) (x ∷ l) = omega (arith, total-take f k l)
+
+  -- What is found is on the list, and passes the test.
+  pub find-some : {a : A} (p : A → Bool) (l : List A) → find p l ≡ some a → List·Memᴰ a l × (p a ≡ true)
+  find-some p [] e = let z : _≡_ {A = ℕ} 0 1 = cc in absurd (omega arith)
+  find-some {a} p (x ∷ l) e = go (bool-cases (p x)) (λ q. find-some p l q)
+    where
+      go : (p x ≡ true) ⊎ (p x ≡ false) → (find p l ≡ some a → List·Memᴰ a l × (p a ≡ true))
+          → List·Memᴰ a (x ∷ l) × (p a ≡ true)
+      go (inl q) rest =
+          let r : some x ≡ some a = rw q at e in
+          let s : a ≡ x = cc in
+          (List·Memᴰ·head s, ap p s ∙ q)
+      go (inr q) rest = let r = rest (rw q at e) in (List·Memᴰ·tail (r .0), r .1)

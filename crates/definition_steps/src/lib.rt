@@ -1,0 +1,1 @@
+// What the steps of the analysis keep, as its code needs it: see proofs/Laws/.

@@ -1,0 +1,13 @@
+pub mod Own
+pub mod Walk
+pub mod Undefined
+pub mod Met
+pub mod Firsts
+pub mod Adds
+pub mod Assigned
+pub mod UsedVars
+pub mod Founds
+pub mod Appended
+pub mod Index
+pub mod Defining
+pub mod Asks

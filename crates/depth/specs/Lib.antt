@@ -1,3 +1,0 @@
-pub mod MoreLevels
-pub mod LyingTrees
-pub mod LevelsSuffice

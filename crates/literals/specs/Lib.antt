@@ -1,8 +1,0 @@
-pub mod Choices
-pub mod Contexts
-pub mod Pairs
-pub mod SomeIn
-pub mod ExtraArgs
-pub mod ExtraNames
-pub mod Binding
-pub mod Used

@@ -1,6 +1,0 @@
-pub mod Codes
-pub mod Marks
-pub mod Rows
-pub mod Homes
-pub mod Steps
-pub mod Asks

@@ -1,0 +1,10 @@
+-- The limits of the calls whose sets have two words, or eight.
+-- Beside: document 02, U6.
+use Rattle.base.specs.Limits.{Limits, library, printing}
+use Rattle.names_width.specs.declared.Width.{Width}
+use Rattle.names_width.specs.declared.Width.the-variants.{Two, Eight}
+
+-- The limits of the calls whose sets have so many words.
+abbrev pub limits : Width → Limits
+limits Two = printing
+limits Eight = library

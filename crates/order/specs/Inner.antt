@@ -1,0 +1,5 @@
+pub mod Sequence
+pub mod Orders
+pub mod Theorems
+pub mod Shared
+pub mod Count

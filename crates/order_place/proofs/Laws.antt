@@ -1,0 +1,5 @@
+pub mod StateLaws
+pub mod Trying
+pub mod Turning
+pub mod Rounding
+pub mod Placing

@@ -1,0 +1,4 @@
+pub mod RowLaws
+pub mod Puts
+pub mod Copies
+pub mod Question

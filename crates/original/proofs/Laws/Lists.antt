@@ -1,0 +1,72 @@
+-- Laws of `concatMap`, `any` and `find`, and of what a walk enters.
+use mathlib.Core.Path.{_≡_, refl, sym, ap, _∙_}
+use mathlib.Core.Bool.{Bool, true, false, cond, _||_, or-assoc}
+use mathlib.Core.List.{List, [], _∷_, _++_}
+use mathlib.Core.Option.{Option, none, some}
+use Prim.Native.Nat.{ℕ}
+use lib.Dec.{eqb}
+use Rattle.base.proofs.Laws.Truth.{or-left-comm}
+use Rattle.base.specs.Lists.{elem}
+use Rattle.base.specs.Lists.{concatMap, any, find}
+use Rattle.scope.specs.Traverse.{Enters, nothing, params, fields, entered}
+use Rattle.base.proofs.Laws.ListLaws.{concatMap-append}
+
+-- Over what is entered.
+pub concatMap-entered : {A B : Type 0} (f : A → List B) (en : Enters) (a b c : List A)
+    → concatMap f (entered en a b c) ≡ entered en (concatMap f a) (concatMap f b) (concatMap f c)
+concatMap-entered f nothing a b c = refl
+concatMap-entered f params a b c = refl
+concatMap-entered f fields a b c =
+    concatMap-append f a (b ++ c) ∙ ap (λ m. concatMap f a ++ m) (concatMap-append f b c)
+
+-- A test over two lists.
+pub any-append : {A : Type 0} (p : A → Bool) (k l : List A) → any p (k ++ l) ≡ (any p k || any p l)
+any-append p [] l = refl
+any-append p (x ∷ k) l = ap (λ (b : Bool). p x || b) (any-append p k l) ∙ sym (or-assoc (p x) (any p k) (any p l))
+
+-- Of three parts the first two change places.
+pub any-swap : {A : Type 0} (p : A → Bool) (a b c : List A) → any p (a ++ (b ++ c)) ≡ any p (b ++ (a ++ c))
+any-swap p a b c =
+    any-append p a (b ++ c) ∙ ap (λ (x : Bool). any p a || x) (any-append p b c) ∙ or-left-comm (any p a) (any p b) (any p c)
+    ∙ sym (any-append p b (a ++ c) ∙ ap (λ (x : Bool). any p b || x) (any-append p a c))
+
+-- A test over what is entered.
+pub any-entered : {A : Type 0} (p : A → Bool) (en : Enters) (a b c d e f : List A) → any p a ≡ any p d → any p b ≡ any p e → any p c ≡ any p f
+    → any p (entered en a b c) ≡ any p (entered en d e f)
+any-entered p nothing a b c d e f x y z = refl
+any-entered p params a b c d e f x y z = y
+any-entered p fields a b c d e f x y z =
+    any-append p a (b ++ c) ∙ cc (x, y, z, any-append p b c, any-append p e f) ∙ sym (any-append p d (e ++ f))
+
+-- Membership is such a test.
+pub elem-any : (n : ℕ) (l : List ℕ) → elem n l ≡ any (eqb n) l
+elem-any n [] = refl
+elem-any n (x ∷ l) = ap (λ (b : Bool). eqb n x || b) (elem-any n l)
+
+-- ---- the first that passes a test
+
+module _ {A : Type 0} where
+  -- The first value, or else the second.
+  abbrev pub orElse : Option A → Option A → Option A
+  orElse none o = o
+  orElse (some x) o = some x
+
+  -- Nothing else.
+  pub orElse-none : (o : Option A) → orElse o none ≡ o
+  orElse-none none = refl
+  orElse-none (some x) = refl
+
+  -- The first value twice is the first value once.
+  pub orElse-twice : (o r : Option A) → orElse o (orElse o r) ≡ orElse o r
+  orElse-twice none r = refl
+  orElse-twice (some x) r = refl
+
+  -- The first of two lists is that of the first list, or else of the second.
+  pub find-append : (p : A → Bool) (k l : List A) → find p (k ++ l) ≡ orElse (find p k) (find p l)
+  find-append p [] l = refl
+  find-append p (x ∷ k) l = go (p x) (find-append p k l)
+    where
+      go : (b : Bool) → find p (k ++ l) ≡ orElse (find p k) (find p l)
+          → cond b (some x) (find p (k ++ l)) ≡ orElse (cond b (some x) (find p k)) (find p l)
+      go true h = refl
+      go false h = h

@@ -1,0 +1,17 @@
+pub mod MoreLevels
+pub mod LevelsSuffice
+pub mod Around
+pub mod Placed
+pub mod EveryInput
+pub mod Settled
+pub mod Takers
+pub mod Events
+pub mod RustWalk
+pub mod BracketRepeats
+pub mod SameOuter
+pub mod Beside
+pub mod Places
+pub mod Distinct
+pub mod LookUps
+pub mod QueryRepeats
+pub mod AnalysedOnce

@@ -1,0 +1,1 @@
+// The original's repeats, its inputs and its levels: laws alone, see proofs/Laws/.

@@ -1,0 +1,6 @@
+pub mod GatherLaws
+pub mod Below
+pub mod Shadowed
+pub mod TreeRows
+pub mod StatementRows
+pub mod StatementWalks

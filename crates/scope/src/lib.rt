@@ -1,0 +1,1 @@
+// Expressions as trees, scopes, and gathering, as definitions: see specs/.

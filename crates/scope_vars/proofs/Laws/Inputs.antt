@@ -1,0 +1,120 @@
+-- Laws of `Inputs`.
+use mathlib.Core.Path.{_≡_, refl, sym, ap, _∙_, subst}
+use mathlib.Core.Bool.{Bool, true, false, cond}
+use mathlib.Core.List.{List, [], _∷_, _++_, foldl}
+use Prim.Native.Nat.{ℕ, _≤_}
+use native.Mathlib.Omega.{arith}
+use borrow.Author.Tests.{eq-eqb, ne-eqb}
+use Rattle.base.specs.Sets.{member}
+use Rattle.sheet.specs.declared.Row.{Row}
+use Rattle.sheet.specs.Sheet.{Sheet, isInput}
+use Rattle.sheet.specs.Inner.Sheet.{rowAt}
+use Rattle.sheet.specs.Kinds.{isVar}
+use Rattle.scope.specs.Trees.{Tree, rowOf, treeAt}
+use Rattle.scope.specs.Traverse.{traverse, vars}
+use Rattle.scope.specs.Scopes as spec
+use Rattle.scope.specs.Gather.{inputVar, gatherInputVars}
+use Rattle.scope_walk.specs.declared.Kids.{Kids}
+use Rattle.scope_walk.specs.Inner.Kids.{kidsOf}
+use Rattle.scope_walk.specs.Inner.Walks.{alone, overBy}
+use Rattle.scope_walk.proofs.Laws.Walks.{overBy-none, overBy-row}
+use Rattle.scope_state.specs.declared.Scope.{Scope}
+use Rattle.scope_walk.specs.Inner.Sheets.{countsAt, specialAt, sheetAt, Accepted, exprCount}
+use Rattle.scope_state.specs.Inner.Agrees.{Sets, WithInput, WithFlag}
+use Rattle.scope_state.specs.Inner.Outers.{Outer, Exists}
+use Rattle.scope_walk.specs.Inner.Exprs.{exprBy}
+use Rattle.scope_vars.specs.Inner.Inputs.{InputVar, InputStep, InputWalk}
+
+-- The definitions' step at any expression.
+abbrev pub inputAt : Sheet → List spec.Scope → spec.Scope → Tree → spec.Scope
+inputAt sheet parents s e = cond (isVar (rowOf e)) (inputVar sheet parents s (rowOf e)) s
+
+-- A walk over the variables is a walk over the expressions.
+pub fold-vars : {S : Type 0} (f : S → Row → S) (s : S) (ts : List Tree)
+    → foldl f s (vars ts) ≡ foldl (λ (u : S) (e : Tree). cond (isVar (rowOf e)) (f u (rowOf e)) u) s ts
+fold-vars f s [] = refl
+fold-vars f s (e ∷ ts) = go (isVar (rowOf e)) (fold-vars f (f s (rowOf e)) ts) (fold-vars f s ts)
+  where
+    go : (b : Bool) → foldl f (f s (rowOf e)) (vars ts) ≡ foldl (λ u e. cond (isVar (rowOf e)) (f u (rowOf e)) u) (f s (rowOf e)) ts
+        → foldl f s (vars ts) ≡ foldl (λ u e. cond (isVar (rowOf e)) (f u (rowOf e)) u) s ts
+        → foldl f s (cond b (rowOf e ∷ []) [] ++ vars ts)
+        ≡ foldl (λ u e. cond (isVar (rowOf e)) (f u (rowOf e)) u) (cond b (f s (rowOf e)) s) ts
+    go true h k = h
+    go false h k = k
+
+module _ (t outer : List ℕ) where
+  -- ---- the ways out of `input_var`
+
+  module _ (w : Row) (k : Scope) where
+    pub var-is-input : isInput (sheetAt t) (w .name) ≡ true → (r : Scope) → WithFlag k true r → InputVar t outer w k r
+    unfolding inputVar
+    var-is-input p r put parents o s a = rw p (put s a)
+
+    module _ (other : isInput (sheetAt t) (w .name) ≡ false) where
+      pub var-unscoped : member (k .unscoped .words) (w .name) ≡ true → InputVar t outer w k k
+      unfolding inputVar
+      var-unscoped p parents o s a = rw (other, a .unscoped (w .name), p) a
+
+      module _ (free : member (k .unscoped .words) (w .name) ≡ false) (found : Bool) (exists : Exists outer w found) where
+        pub var-nowhere : found ≡ false → InputVar t outer w k k
+        unfolding inputVar
+        var-nowhere p parents o s a = rw (other, a .unscoped (w .name), free, sym (exists parents o), p) a
+
+        pub var-found : found ≡ true → (r : Scope) → WithInput k (w .name) r → InputVar t outer w k r
+        unfolding inputVar
+        var-found p r put parents o s a = rw (other, a .unscoped (w .name), free, sym (exists parents o), p) (put s a)
+
+    -- ---- and of `input_step`
+
+    pub input-step-var : w .kind ≡ 6 → (r : Scope) → InputVar t outer w k r → InputStep t outer w k r
+    input-step-var e r h parents o s a = rw (eq-eqb (w .kind) 6 e) (h parents o s a)
+
+    pub input-step-other : (w .kind ≡ 6 → ⊥) → InputStep t outer w k k
+    input-step-other ne parents o s a = rw (ne-eqb (w .kind) 6 ne) a
+
+  -- ---- the walk, a row at a time
+
+  module _ (ok : Accepted t) (parents : List spec.Scope) where
+    abbrev step : spec.Scope → Tree → spec.Scope
+    step = inputAt (sheetAt t) parents
+
+    abbrev overRow : Bool → spec.Scope → ℕ → spec.Scope
+    overRow rest s row = overBy (countsAt t) (specialAt t) t step rest s row
+
+    -- The gathering of the definitions is a walk over all expressions.
+    as-walk : (rest : Bool) (s : spec.Scope) (row : ℕ) → gatherInputVars (sheetAt t) parents (exprBy t rest row) s ≡ overRow rest s row
+    unfolding gatherInputVars sheetAt
+    as-walk true s row = fold-vars (inputVar (sheetAt t) parents) s (traverse (treeAt (sheetAt t) row))
+    as-walk false s row = fold-vars (inputVar (sheetAt t) parents) s (traverse (alone (treeAt (sheetAt t) row)))
+
+    walked : (row : ℕ) (k r : Scope) → InputWalk t outer row true k r → Outer outer parents → (s : spec.Scope) → Sets k s → Sets r (overRow true s row)
+    walked row k r h o s a = subst (Sets r) (as-walk true s row) (h parents o s a)
+
+  pub input-walk-none : Accepted t → (rest : Bool) (k : Scope) → InputWalk t outer 0 rest k k
+  input-walk-none ok rest k parents o s a =
+      subst (Sets k) (sym (as-walk ok parents rest s 0 ∙ overBy-none (countsAt t) (specialAt t) t (ok .facts) (inputAt (sheetAt t) parents) rest s)) a
+
+  walk-row : Accepted t → (row : ℕ) → 1 ≤ row → row ≤ exprCount t → (rest : Bool) (k s₀ s₁ s₂ s₃ s₄ : Scope)
+      → let w = rowAt t row in
+      (InputStep t outer) w k s₀ → InputWalk t outer (kidsOf w .first) true s₀ s₁ → InputWalk t outer (kidsOf w .second) true s₁ s₂
+      → InputWalk t outer (kidsOf w .third) true s₂ s₃ → InputWalk t outer (cond rest (w .next) 0) true s₃ s₄ → InputWalk t outer row rest k s₄
+  walk-row ok row low high rest k s₀ s₁ s₂ s₃ s₄ h₀ h₁ h₂ h₃ h₄ parents o s a =
+      let a₀ = h₀ parents o s a in
+      let a₁ = walked ok parents _ s₀ s₁ h₁ o _ a₀ in
+      let a₂ = walked ok parents _ s₁ s₂ h₂ o _ a₁ in
+      let a₃ = walked ok parents _ s₂ s₃ h₃ o _ a₂ in
+      let a₄ = walked ok parents _ s₃ s₄ h₄ o _ a₃ in
+      subst (Sets s₄)
+      (sym (as-walk ok parents rest s row ∙ overBy-row (countsAt t) (specialAt t) t (ok .facts) (inputAt (sheetAt t) parents) rest s row low high)) a₄
+
+  -- The same of the row that was read, its parts and the row after it, as the code has them.
+  pub input-walk-turn : Accepted t → (row : ℕ) → (row ≡ 0 → ⊥) → row ≤ exprCount t → (rest : Bool) (w : Row) → w ≡ rowAt t row
+      → (p : Kids) → p ≡ kidsOf w → (next : ℕ) → next ≡ cond rest (w .next) 0 → (k s₀ s₁ s₂ s₃ s₄ : Scope)
+      → InputStep t outer w k s₀ → InputWalk t outer (p .first) true s₀ s₁ → InputWalk t outer (p .second) true s₁ s₂ → InputWalk t outer (p .third) true s₂ s₃
+      → InputWalk t outer next true s₃ s₄ → InputWalk t outer row rest k s₄
+  input-walk-turn ok row some high rest w is p ps next ns k s₀ s₁ s₂ s₃ s₄ h₀ h₁ h₂ h₃ h₄ =
+      let parts : p ≡ kidsOf (rowAt t row) = ps ∙ ap kidsOf is in
+      let after : next ≡ cond rest (rowAt t row .next) 0 = ns ∙ ap (λ (v : Row). cond rest (v .next) 0) is in
+      walk-row ok row (omega arith) high rest k s₀ s₁ s₂ s₃ s₄ (subst (λ (v : Row). InputStep t outer v k s₀) is h₀)
+      (subst (λ (q : Kids). InputWalk t outer (q .first) true s₀ s₁) parts h₁) (subst (λ (q : Kids). InputWalk t outer (q .second) true s₁ s₂) parts h₂)
+      (subst (λ (q : Kids). InputWalk t outer (q .third) true s₂ s₃) parts h₃) (subst (λ (n : ℕ). InputWalk t outer n true s₃ s₄) after h₄)

@@ -1,0 +1,11 @@
+pub mod Enclosing
+pub mod SameRows
+pub mod Layout
+pub mod Lines
+pub mod LineBytes
+pub mod Digits
+pub mod RowLines
+pub mod Headings
+pub mod Sheet
+pub mod Records
+pub mod Rows

@@ -1,0 +1,3 @@
+pub mod FineFields
+pub mod Levels
+pub mod Facts

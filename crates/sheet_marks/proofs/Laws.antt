@@ -1,0 +1,5 @@
+pub mod Codes
+pub mod Marks
+pub mod Rows
+pub mod Homes
+pub mod Steps

@@ -1,0 +1,3 @@
+pub mod NumberLaws
+pub mod Fields
+pub mod Rows

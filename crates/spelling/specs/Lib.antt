@@ -1,7 +1,0 @@
-pub mod Names
-pub mod Letters
-pub mod Spelling
-pub mod Order
-pub mod FirstSection
-pub mod Checking
-pub mod Finding

@@ -1,4 +1,0 @@
-pub mod Writes
-pub mod Words
-pub mod Kept
-pub mod Asks

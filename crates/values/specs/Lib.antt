@@ -1,4 +1,0 @@
-pub mod Numbers
-pub mod NumberLaws
-pub mod Fields
-pub mod Rows
