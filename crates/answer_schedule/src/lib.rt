@@ -8,9 +8,8 @@ use answer_store::block::store_block;
 use answer_store::places::store_places;
 use base::STATEMENTS;
 use names_width::Width;
-use order::Outcome;
+use order_schedule::arrange_rows;
 use scope_state::Scope;
-ghost use mathlib.Core.Path.{_≡_};
 ghost use Prim.Native.Nat.{_+_, _*_, _≤_};
 ghost use lib.ListN.{length};
 ghost use Rattle.base.specs.Limits as limits;
@@ -20,20 +19,10 @@ ghost use Rattle.answer_blocks.specs.Inner.Asks.{AsksBlock};
 ghost use Rattle.answer_store.specs.Inner.Asks.{AsksPlaces};
 ghost use Rattle.definition_state.specs.Inner.Table.{answersOf, Based};
 ghost use Rattle.answer_schedule.specs.Inner.Asks.{AsksConclude};
-ghost use Rattle.answer_schedule.specs.Inner.Concluded.{isPlaced, AnswerWritten, Concluded};
+ghost use Rattle.answer_schedule.specs.Inner.Concluded.{AnswerWritten, Schedulable, Concluded};
 
 pub mod bases;
 mod count;
-
-fn is_placed(outcome: Outcome) -> bool
-    ensures { λ r. ⌜ r ≡ isPlaced outcome ⌝ }
-{
-    match outcome {
-        Outcome::Refused => false,
-        Outcome::Placed => true,
-        Outcome::Unplaced => false,
-    }
-}
 
 // The block of a query, and its places from where the block says.
 fn store_answer(
@@ -68,14 +57,14 @@ pub fn conclude(
 )
     requires { ⌜ AsksConclude (now tables) query (now spans) ⌝ }
     requires { ⌜ (rowWords width * count + layout.answersSize width ≤ length (now work)) × Based width (now tables) (answersOf width (now work)) ⌝ }
+    requires { ⌜ Schedulable width (now tables) (now work) query count ⌝ }
     ensures { λ _. ⌜ Concluded width (now (tables .entry)) (now (work .entry)) query scope (now (spans .entry)) count (now (work .exit)) ⌝ }
 {
     let n = count_stmts(tables, query);
     let mut order: [u16; STATEMENTS] = [0; STATEMENTS];
     let mut reached: [u16; STATEMENTS] = [0; STATEMENTS];
     let rows = width.row() * count;
-    let outcome = order_schedule::schedule(width, &work[..rows], n, &mut order, &mut reached);
-    let placed = is_placed(outcome);
+    let placed = arrange_rows(width, &work[..rows], n, &mut order, &mut reached);
     let at = work.len() - answers_of(width);
     store_answer(
         &mut work[at..],

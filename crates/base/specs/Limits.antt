@@ -1,5 +1,5 @@
 -- The most that a call takes of each thing, and the least that it is lent. The definitions say these numbers here alone.
--- Beside: document 01, Sheet (the line `At most`) and Questions; document 02, U6.
+-- Beside: document 01, Sheet (the line `At most`) and Questions; docs/landings/U6.md.
 use Prim.Native.Nat.{ℕ, suc}
 
 -- ---- what the library and the printing program differ in

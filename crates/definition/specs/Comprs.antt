@@ -3,17 +3,14 @@
 use mathlib.Core.Bool.{not}
 use mathlib.Core.List.{List, [], _∷_, _++_, map, foldl}
 use Prim.Native.Nat.{ℕ}
-use Rattle.base.specs.Lists.{filter}
-use Rattle.base.specs.Lists.{concatMap}
+use Rattle.base.specs.Lists.{filter, concatMap}
 use Rattle.sheet.specs.Sheet.{Sheet}
 use Rattle.scope.specs.Trees.{Tree, rowOf}
 use Rattle.scope.specs.Traverse.{comprs}
-use Rattle.scope.specs.Scopes.{elements}
-use Rattle.scope.specs.Scopes.{Scope, owns, addInput, useInput}
+use Rattle.scope.specs.Scopes.{elements, Scope, owns, addInput, useInput}
 use Rattle.definition.specs.Uses.{usedVars}
-use Rattle.definition.specs.States.{State, setScope, addFirstUses, inTurn}
+use Rattle.definition.specs.States.{State, setScope, addFirstUses, inTurn, Way}
 use Rattle.definition.specs.Using.{gatherUsedVars}
-use Rattle.definition.specs.States.{Way}
 
 -- What the modifiers of a statement use (`with_mods_used_vars`, `with_mods_comprs`).
 pub record Mods : Type 0 where

@@ -13,9 +13,8 @@ use Rattle.sheet.specs.Kinds.{isArray, isAssign, isColEq}
 use Rattle.scope.specs.Trees.{Tree, nil, node, rowOf, firstOf, secondOf, chain}
 use Rattle.scope.specs.Scopes.{addUnscoped}
 use Rattle.definition.specs.Uses.{assignedVars}
-use Rattle.definition.specs.States.{lengths, State, setScope, fail, inTurn}
+use Rattle.definition.specs.States.{lengths, State, setScope, fail, inTurn, Way}
 use Rattle.definition.specs.Using.{checkAssigned, recordOne, recordEach}
-use Rattle.definition.specs.States.{Way}
 use Rattle.definition.specs.Comprs.{Mods, allUsed, useExpr}
 
 -- What an assignment comes to where both sides are arrays, one inside the other: pairs to assign, and arrays on the right whose length

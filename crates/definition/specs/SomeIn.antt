@@ -3,19 +3,17 @@
 use mathlib.Core.Bool.{not, _&&_, _||_}
 use mathlib.Core.List.{List, [], _∷_, _++_, map, foldl}
 use Prim.Native.Nat.{ℕ}
-use Rattle.base.specs.Lists.{filter}
+use Rattle.base.specs.Lists.{filter, concatMap}
 use Rattle.order.specs.Definitions.{Definition}
 use Rattle.sheet.specs.declared.Row.{Row}
-use Rattle.base.specs.Lists.{concatMap}
 use Rattle.sheet.specs.Sheet.{Sheet, isInput}
 use Rattle.sheet.specs.Kinds.{isVar}
 use Rattle.scope.specs.Trees.{Tree, rowOf}
 use Rattle.scope.specs.Traverse.{vars, comprs}
 use Rattle.scope.specs.Scopes.{Scope, spanOf, isLocal}
 use Rattle.definition.specs.Uses.{define, indexDefinitions}
-use Rattle.definition.specs.States.{indexVariable, State, addFirstUses, addDefinitions, fail, inTurn}
+use Rattle.definition.specs.States.{indexVariable, State, addFirstUses, addDefinitions, fail, inTurn, Way}
 use Rattle.definition.specs.Using.{gatherUsedVars, recordOne}
-use Rattle.definition.specs.States.{Way}
 use Rattle.definition.specs.Comprs.{Mods, allUsed, processComprs, useExpr}
 
 -- `gather_some_vars`, among the leaves of a pattern: the locals, `input` apart.

@@ -11,8 +11,7 @@ use Rattle.sheet.specs.Sheet.{Sheet}
 use Rattle.scope.specs.Trees.{Tree}
 use Rattle.scope.specs.Traverse.{leaves, vars}
 use Rattle.scope.specs.Scopes.{Span, spanOf, spanIn, isLocal, useInput}
-use Rattle.definition.specs.Uses.{define, readsInput, undefinedVar, variablesUsed, indexDefinitions}
-use Rattle.definition.specs.Uses.{isBefore}
+use Rattle.definition.specs.Uses.{define, readsInput, undefinedVar, variablesUsed, indexDefinitions, isBefore}
 use Rattle.definition.specs.States.{Fault, undefined, usedBefore, State, setScope, addFirstUses, addDefinitions, inTurn, failOr}
 
 -- ---- uses

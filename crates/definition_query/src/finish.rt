@@ -14,6 +14,7 @@ ghost use Rattle.answer_blocks.specs.Inner.Layout.{answersSize};
 ghost use Rattle.definition_state.specs.Inner.Faults.{isSound};
 ghost use Rattle.definition_state.specs.Inner.Table.{answersOf, Based};
 ghost use Rattle.answer_schedule.specs.Inner.Asks.{AsksConclude};
+ghost use Rattle.answer_schedule.specs.Inner.Concluded.{Schedulable};
 ghost use Rattle.definition_cycle.specs.Inner.Ends.{begin, OpenedFrom, Finished};
 
 // Nothing is recorded yet.
@@ -47,6 +48,7 @@ pub fn finish(
     work: &mut [u64],
 ) -> Fault
     requires { ⌜ AsksConclude (now tables) query (now spans) × (rowWords (p .width) * p .count + answersSize (p .width) ≤ length (now work)) × (isSound (p .fault) ≡ true → Based (p .width) (now tables) (answersOf (p .width) (now work))) ⌝ }
+    requires { ⌜ (isSound (p .fault) ≡ true → Schedulable (p .width) (now tables) (now work) query (p .count)) ⌝ }
     ensures { λ r. ⌜ Finished (now (tables .entry)) (now (work .entry)) query scope p (now (spans .entry)) r (now (work .exit)) ⌝ }
 {
     if p.is_sound() {

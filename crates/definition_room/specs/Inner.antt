@@ -3,7 +3,6 @@ pub mod Sizes
 pub mod Leaves
 pub mod Adds
 pub mod Exprs
-pub mod Queries
 pub mod Sums
 pub mod Bound
 pub mod InBounds

@@ -1,5 +1,4 @@
 pub mod Own
-pub mod Walk
 pub mod Undefined
 pub mod Met
 pub mod Firsts

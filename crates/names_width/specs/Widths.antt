@@ -1,5 +1,5 @@
 -- The limits of the calls whose sets have two words, or eight.
--- Beside: document 02, U6.
+-- Beside: docs/landings/U6.md.
 use Rattle.base.specs.Limits.{Limits, library, printing}
 use Rattle.names_width.specs.declared.Width.{Width}
 use Rattle.names_width.specs.declared.Width.the-variants.{Two, Eight}

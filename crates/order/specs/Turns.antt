@@ -5,11 +5,9 @@ use mathlib.Core.List.{List, [], _∷_, _++_, map}
 use Prim.Native.Nat.{ℕ, zero, suc}
 use lib.Dec.{eqb}
 use lib.ListN.{length}
-use Rattle.base.specs.Lists.{elem, filter}
-use Rattle.base.specs.Lists.{range}
+use Rattle.base.specs.Lists.{elem, filter, range}
 use Rattle.order.specs.Walk.{takeable}
-use Rattle.order.specs.Definitions.{Definition}
-use Rattle.order.specs.Definitions.{defines, ready}
+use Rattle.order.specs.Definitions.{Definition, defines, ready}
 
 -- A turn: its round (0 for the opening turn), the name whose turn it is, and whether it is the turn of the empty name that follows that
 -- name's.

@@ -9,8 +9,7 @@ ghost use mathlib.Core.Path.{_≡_};
 ghost use Rattle.base.specs.Lists.{all};
 ghost use Rattle.names_width.specs.Widths.{limits};
 ghost use Rattle.names_width.specs.Inner.Widths.{rowWords};
-ghost use Rattle.order.specs.Call.{definitions};
-ghost use Rattle.order.specs.Call.{within, accepts};
+ghost use Rattle.order.specs.Call.{definitions, within, accepts};
 
 // Is row k's statement below the count, and its name within the limit?
 pub fn all_within(width: Width, rows: &[u64], n: usize) -> bool

@@ -6,18 +6,16 @@ use order_place::State;
 use order_rows::CELLS;
 use order_rows::MASKS;
 ghost use mathlib.Core.Path.{_≡_};
-ghost use mathlib.Core.Bool.{true};
 ghost use Prim.Native.Nat.{ℕ};
 ghost use lib.ListN.{length, getD};
 ghost use Rattle.base.specs.Limits as limit;
 ghost use Rattle.order.specs.Inner.Orders.{placedOrder};
 ghost use Rattle.names_width.specs.Widths.{limits};
 ghost use Rattle.names_width.specs.Inner.Widths.{rowWords};
-ghost use Rattle.order.specs.Call.{definitions};
+ghost use Rattle.order.specs.Call.{definitions, scheduleNumber};
 ghost use Rattle.order_bounds.specs.Inner.Answers.{AcceptedList};
 ghost use Rattle.order_place.specs.Inner.State.{After};
-ghost use Rattle.order.specs.Call.{scheduleNumber};
-ghost use Rattle.order_schedule.specs.Inner.Call.{Scheduled};
+ghost use Rattle.order_schedule.specs.Inner.Call.{Arranged, Scheduled};
 
 // Indexes the rows of a list in bounds, and places what can be placed in buffers of zeros.
 pub fn place_rows(
@@ -39,7 +37,29 @@ pub fn place_rows(
     order_place::place_all(width, rows, &links, &masks, defined, n, order, reached)
 }
 
-// The call: its question, then the turn rule; where not all are placed, the written order.
+// A list in bounds: the turn rule; where not all are placed, the written order. Are all placed?
+pub fn arrange_rows(
+    width: Width,
+    rows: &[u64],
+    n: usize,
+    order: &mut [u16],
+    reached: &mut [u16],
+) -> bool
+    requires { ⌜ AcceptedList (limits width) (now rows) n (length (now order)) (length (now reached)) ⌝ }
+    requires { ⌜ ((i : ℕ) → getD (now order) i 0 ≡ 0) ⌝ }
+    requires { ⌜ ((i : ℕ) → getD (now reached) i 0 ≡ 0) ⌝ }
+    ensures { λ r. ⌜ Arranged (limits width) (now (rows .entry)) n (length (now (order .entry))) (length (now (reached .entry))) r (now (order .exit)) (now (reached .exit)) ⌝ }
+{
+    let end = place_rows(width, rows, n, order, reached);
+    let count = end.count;
+    if count == n {
+        return true;
+    }
+    buffers::count_up(order, n);
+    false
+}
+
+// The call: its question, then the list is arranged.
 pub fn schedule(
     width: Width,
     rows: &[u64],
@@ -54,12 +74,9 @@ pub fn schedule(
     if !order_bounds::admits(width, rows, n, order.len(), reached.len()) {
         return Outcome::Refused;
     }
-    let end = place_rows(width, rows, n, order, reached);
-    let count = end.count;
-    if count == n {
+    if arrange_rows(width, rows, n, order, reached) {
         return Outcome::Placed;
     }
-    buffers::count_up(order, n);
     Outcome::Unplaced
 }
 

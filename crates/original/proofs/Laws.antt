@@ -18,7 +18,6 @@ pub mod OnceLists
 pub mod OnceSets
 pub mod BracketRepeats
 pub mod SameOuter
-pub mod SameParents
 pub mod RustSame
 pub mod Beside
 pub mod RustGather

@@ -4,10 +4,8 @@ pub mod Around
 pub mod Placed
 pub mod EveryInput
 pub mod Settled
-pub mod Takers
 pub mod Events
 pub mod RustWalk
-pub mod BracketRepeats
 pub mod SameOuter
 pub mod Beside
 pub mod Places

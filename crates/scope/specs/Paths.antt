@@ -6,9 +6,8 @@ use mathlib.Core.Option.{Option, none, some}
 use Prim.Native.Nat.{ℕ, _+_}
 use lib.Dec.{eqb, ltb}
 use lib.ListN.{length}
-use Rattle.base.specs.Lists.{filter}
+use Rattle.base.specs.Lists.{filter, find, last}
 use Rattle.sheet.specs.declared.Builtin.{Builtin}
-use Rattle.base.specs.Lists.{find, last}
 use Rattle.sheet.specs.Form.{same}
 use Rattle.sheet.specs.Sheet.{Sheet}
 use Rattle.sheet.specs.Kinds.{isString, isVar, isCall, isRefDot, isRefBrack}

@@ -6,8 +6,7 @@ use scope_state::Scope;
 use scope_state::enclose::enclose;
 ghost use mathlib.Core.Path.{_≡_};
 ghost use mathlib.Core.List.{List};
-ghost use Rattle.scope_gather.specs.Inner.Bodies.{AsksEvery};
-ghost use Rattle.scope_gather.specs.Inner.Bodies.{EveryBody};
+ghost use Rattle.scope_gather.specs.Inner.Bodies.{AsksEvery, EveryBody};
 
 // Key and value are the chains at two rows; `inner` receives the scopes.
 pub fn enclose_every(tables: &[u16], outer: &[u32], key: usize, value: usize, inner: &mut [u32])

@@ -7,9 +7,8 @@ use sheet_rows::first_at;
 use sheet_rows::statement_at;
 ghost use mathlib.Core.Path.{_≡_};
 ghost use mathlib.Core.List.{List};
-ghost use Rattle.scope_gather.specs.Inner.Queries.{AsksLocals};
+ghost use Rattle.scope_gather.specs.Inner.Queries.{AsksLocals, StmtsStep, Gathered};
 ghost use Rattle.scope_gather.specs.Inner.Statements.{AsksStmtWalk};
-ghost use Rattle.scope_gather.specs.Inner.Queries.{StmtsStep, Gathered};
 
 // The statements from a row on.
 fn gather_stmts(tables: &[u16], outer: &[u32], row: usize, scope: Scope, spans: &mut [u32]) -> Scope

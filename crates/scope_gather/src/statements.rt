@@ -16,9 +16,8 @@ use sheet_rows::kinds::SOME_VARS;
 use sheet_rows::row_at;
 ghost use mathlib.Core.Path.{_≡_};
 ghost use mathlib.Core.List.{List};
-ghost use Rattle.scope_gather.specs.Inner.Statements.{AsksStmt};
+ghost use Rattle.scope_gather.specs.Inner.Statements.{AsksStmt, ExprStep, LiteralStep, StmtStep};
 ghost use Rattle.scope_walk.specs.Inner.Asks.{AsksWalk};
-ghost use Rattle.scope_gather.specs.Inner.Statements.{ExprStep, LiteralStep, StmtStep};
 
 // An expression by itself: an assignment binds, and so does an extra argument.
 fn gather_expr(tables: &[u16], outer: &[u32], row: usize, scope: Scope, spans: &mut [u32]) -> Scope

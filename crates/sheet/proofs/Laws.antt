@@ -17,6 +17,5 @@ pub mod TextRowLaws
 pub mod FormLaws
 pub mod Trials
 pub mod Sheet
-pub mod Tables
 pub mod ReadTrials
 pub mod FieldTrials

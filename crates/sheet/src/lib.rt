@@ -78,18 +78,6 @@ pub enum Outcome {
     BadField(usize),
 }
 
-// An expression and its position.
-pub struct Row {
-    pub kind: u16,
-    pub name: u16,
-    pub line: u16,
-    pub col: u16,
-    pub first: u16,
-    pub second: u16,
-    pub third: u16,
-    pub next: u16,
-}
-
 // A built-in's arity and path.
 pub struct Builtin {
     pub arity: u16,
@@ -105,6 +93,18 @@ pub struct Statement {
     pub third: u16,
     pub query: u16,
     pub with: u16,
+    pub next: u16,
+}
+
+// An expression and its position.
+pub struct Row {
+    pub kind: u16,
+    pub name: u16,
+    pub line: u16,
+    pub col: u16,
+    pub first: u16,
+    pub second: u16,
+    pub third: u16,
     pub next: u16,
 }
 

@@ -17,8 +17,7 @@ ghost use lib.ListN.{length};
 ghost use Rattle.base.specs.Limits as limits;
 ghost use Rattle.base.specs.Inner.Sizes as sizes;
 ghost use Rattle.sheet.specs.Inner.Records.{Within};
-ghost use Rattle.sheet.specs.Faults.{exprFault, statementFault, queryFault, builtinFault};
-ghost use Rattle.sheet.specs.Faults.{firstAtFault, firstLine};
+ghost use Rattle.sheet.specs.Faults.{exprFault, statementFault, queryFault, builtinFault, firstAtFault, firstLine};
 ghost use Rattle.sheet_faults.specs.Inner.Known.{Known};
 ghost use Rattle.sheet.specs.Inner.Rows.{inTables};
 

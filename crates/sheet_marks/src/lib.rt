@@ -17,8 +17,7 @@ ghost use lib.ListN.{length};
 ghost use Rattle.base.specs.Inner.Sizes as sizes;
 ghost use Rattle.base.specs.Limits as limits;
 ghost use Rattle.sheet.specs.Inner.Records.{Within};
-ghost use Rattle.sheet.specs.Naming.{exprRow};
-ghost use Rattle.sheet.specs.Naming.{namings};
+ghost use Rattle.sheet.specs.Naming.{exprRow, namings};
 ghost use Rattle.sheet_marks.specs.Inner.Homes.{SettledHomes};
 ghost use Rattle.sheet.specs.Inner.Rows.{inTables};
 

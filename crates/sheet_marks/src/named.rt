@@ -10,8 +10,7 @@ ghost use Prim.Native.Nat.{_≤_, _<_};
 ghost use lib.ListN.{length};
 ghost use Rattle.base.specs.Inner.Sizes as sizes;
 ghost use Rattle.sheet.specs.Inner.Records.{Within};
-ghost use Rattle.sheet.specs.Naming.{rowIn, target};
-ghost use Rattle.sheet.specs.Naming.{upwards};
+ghost use Rattle.sheet.specs.Naming.{rowIn, target, upwards};
 ghost use Rattle.sheet_marks.specs.Inner.Codes.{nextCode};
 ghost use Rattle.sheet_marks.specs.Inner.Marks.{nameWork};
 

@@ -10,8 +10,7 @@ ghost use Rattle.sheet.specs.Text.{lines};
 ghost use Rattle.sheet.specs.Inner.Lines.{isLine, lineAt};
 ghost use Rattle.sheet.specs.Inner.Headings.{hasLine};
 ghost use Rattle.sheet.specs.Inner.LineBytes.{noNewline};
-ghost use Rattle.sheet.specs.Questions.{letter, letterOrDigit, before};
-ghost use Rattle.sheet.specs.Questions.{formFault, namesFault};
+ghost use Rattle.sheet.specs.Questions.{letter, letterOrDigit, before, formFault, namesFault};
 ghost use Rattle.sheet_names.specs.Inner.Names.{NameRead, found, SpecialRead};
 
 // A letter, or `_`.

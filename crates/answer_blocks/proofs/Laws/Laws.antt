@@ -2,20 +2,20 @@
 use mathlib.Core.Path.{_≡_, refl, sym, ap, _∙_, subst}
 use mathlib.Core.Bool.{Bool, true, false}
 use mathlib.Core.List.{List}
-use mathlib.Core.Logic.{_⊎_, inl, inr, ⊎-elim}
+use mathlib.Core.Logic.{_⊎_, inl, inr}
 use Prim.Native.Nat.{ℕ, _+_, _-_, _*_, _/_, _%_, _≤_, _<_}
 use native.Mathlib.Omega.{arith}
 use lib.Dec.{eqb}
 use lib.ListN.{length, getD, set, length-set}
 use lib.Seq.{getD-set-same, getD-set-other}
-use borrow.Author.Tests.{eq-eqb, ne-eqb, eqb-true, eqb-false}
+use borrow.Author.Tests.{eq-eqb, ne-eqb}
 use borrow.Author.Count.{below-none, below-more}
 use Rattle.base.specs.Limits as limits
-use Rattle.base.proofs.Laws.Truth.{bool-cases, eq-cases}
+use Rattle.base.proofs.Laws.Truth.{eq-cases}
 use Rattle.names_width.specs.declared.Width.{Width}
 use Rattle.names_width.specs.declared.Width.the-variants.{Two, Eight}
 use Rattle.names_width.specs.Inner.Widths.{setWords, Put}
-use Rattle.answer_blocks.specs.Inner.Layout.{blockSize, places, answersSize, both, half, spanAt, SpansPut}
+use Rattle.answer_blocks.specs.Inner.Layout.{blockSize, places, answersSize, both, half, SpansPut}
 
 -- A block has room for four words, three sets and half as many words as names; the places are behind them all.
 pub block-is : (v : Width) → blockSize v ≡ 4 + 3 * setWords v + 32 * setWords v

@@ -1,9 +1,7 @@
 -- The words are put one after the other.
-use mathlib.Core.Path.{_≡_, sym, ap, _∙_}
-use Prim.Native.Nat.{ℕ, _+_, _-_, _*_, _≤_}
+use Prim.Native.Nat.{_+_, _-_, _*_, _≤_}
 use native.Mathlib.Omega.{arith}
 use borrow.Author.Needs.{needs}
-use Rattle.names_width.specs.Inner.Widths.{setWords}
 use Rattle.names_width.proofs.Laws.Laws.{at-most}
 use Rattle.answer_blocks.specs.Inner.Layout.{blockSize}
 use Rattle.answer_blocks.proofs.Laws.Laws.{block-is, block-in, places-few, answers-are, PuttingSpans, putting-none, spans-put-next, spans-put-all}

@@ -1,6 +1,6 @@
 -- The place lies within the answers.
-use mathlib.Core.Path.{_≡_, ap}
-use Prim.Native.Nat.{ℕ, _+_, _≤_}
+use mathlib.Core.Path.{ap}
+use Prim.Native.Nat.{ℕ, _+_}
 use native.Mathlib.Omega.{arith}
 use lib.ListN.{getD}
 use borrow.Author.Needs.{needs}

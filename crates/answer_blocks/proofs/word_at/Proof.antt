@@ -1,6 +1,6 @@
 -- The word lies within the block.
-use mathlib.Core.Path.{_≡_, ap}
-use Prim.Native.Nat.{ℕ, _+_, _≤_}
+use mathlib.Core.Path.{ap}
+use Prim.Native.Nat.{ℕ}
 use native.Mathlib.Omega.{arith}
 use lib.ListN.{getD}
 use Rattle.answer_blocks.proofs.Laws.Laws.{block-few, block-in, places-few, answers-are}

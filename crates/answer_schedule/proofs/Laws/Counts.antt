@@ -9,10 +9,10 @@ use Rattle.sheet.specs.declared.Statement.{Statement}
 use Rattle.sheet.specs.Inner.Records.{statementRowAt, firstAt}
 use Rattle.sheet.specs.Inner.Sheet.{sheetOf}
 use Rattle.scope.specs.Statements.{stmtsOf}
-use Rattle.scope_walk.proofs.Laws.RowTrees.{rows-length}
+use Rattle.scope_walk.proofs.Laws.RowTrees.{rows-length, statements-length}
 use Rattle.scope_walk.specs.Inner.Sheets.{countsAt, specialAt, sheetAt, Accepted, queryCount, statementCount}
 use Rattle.scope_gather.proofs.Laws.Queries.{stmts-at-none, stmts-at-row, first-statement-is}
-use Rattle.definition_room.proofs.Laws.Counted.{query-statements-few, statements-counted}
+use Rattle.definition_room.proofs.Laws.Counted.{query-statements-few}
 use Rattle.definition_state.specs.Inner.Table.{countAt}
 use Rattle.answer_schedule.specs.Inner.Counts.{countFrom}
 
@@ -20,7 +20,7 @@ module _ (t : List ℕ) where
   -- As many as the sheet has, at most.
   pub count-low : (q : ℕ) → countAt t q ≤ statementCount t
   unfolding sheetAt
-  count-low q = omega (arith, query-statements-few (sheetAt t) q, statements-counted (countsAt t) (specialAt t) t)
+  count-low q = omega (arith, query-statements-few (sheetAt t) q, statements-length (countsAt t) (specialAt t) t)
 
   none-first : (q : ℕ) → queryCount t ≤ q → getD (sheetAt t .queries) q 0 ≡ 0
   unfolding sheetAt sheetOf

@@ -1,6 +1,6 @@
 -- The schedule of a query enters the table by what the scheduler and the store leave.
 use mathlib.Core.Path.{_≡_, refl, sym, ap, _∙_, subst}
-use mathlib.Core.Bool.{Bool, true, false}
+use mathlib.Core.Bool.{Bool}
 use mathlib.Core.List.{List, _∷_, List·Memᴰ, List·Memᴰ·cases-cons}
 use mathlib.Core.Logic.{_⊎_, inl, inr, ⊎-elim}
 use mathlib.Core.Option.{Option, none, some}
@@ -17,14 +17,12 @@ use Rattle.names_width.specs.Inner.Widths.{setWords, rowWords}
 use Rattle.answer_blocks.specs.Inner.Layout.{answersSize, wordAt}
 use Rattle.order.specs.Turns as turns
 use Rattle.order.specs.Call.{definitions}
-use Rattle.order.specs.Call.{accepts}
-use Rattle.order.specs.declared.Outcome.{Outcome}
-use Rattle.order.specs.Call.{outcome}
-use Rattle.order_schedule.specs.Inner.Call.{Scheduled}
+use Rattle.order_bounds.specs.Inner.Answers as bounds
+use Rattle.order_schedule.specs.Inner.Call.{Arranged}
 use Rattle.sheet.specs.Sheet.{nameBound}
 use Rattle.definition.specs.States.{QuerySchedule, scheduleOf}
 use Rattle.order.specs.Turns.{mark}
-use Rattle.definition_room.proofs.Laws.Lists.{find-some}
+use Rattle.base.proofs.Laws.ListLaws.{find-some}
 use Rattle.definition_room.specs.Inner.Adds.{FitsSchedule}
 use Rattle.scope_state.specs.declared.Scope.{Scope}
 use Rattle.scope_walk.specs.Inner.Sheets.{sheetAt, Accepted, queryCount}
@@ -39,16 +37,24 @@ use Rattle.answer_schedule.proofs.Laws.Bases.{base-apart, Roomy}
 use Rattle.answer_schedule.proofs.Laws.SameOrder.{AllAmong, same-placed}
 use Rattle.answer_schedule.proofs.Laws.RowsOf.{rows-within, within-rows, rows-accepted}
 use Rattle.answer_schedule.proofs.Laws.Places.{place-in}
-use Rattle.answer_schedule.specs.Inner.Concluded.{isPlaced, AnswerWritten, ConcludedAs, Concluded}
+use Rattle.answer_schedule.specs.Inner.Concluded.{AnswerWritten, Ending, Schedulable, Concluded}
 
-is-placed : (p : Bool) → isPlaced (outcome true p) ≡ p
-is-placed true = refl
-is-placed false = refl
+-- A query's rows are a list that the scheduler takes.
+pub schedulable : (v : Width) (t w : List ℕ) (q : ℕ) (k : Scope) (l : List ℕ) (c : ℕ) (a : QuerySchedule) → rowWords v * c ≤ length w → Ending v t w q k l c a
+    → Schedulable v t w q c
+schedulable v t w q k l c a long f =
+    let small : countAt t q ≤ limit.mostStatements = omega (arith, f .whole, f .bounds .few-statements) in
+    rows-accepted v w c long (a .definitions) (held-exact v w c (a .definitions) (f .rows) (f .low .used)) (omega (arith, f .few, f .bounds .few-definitions))
+    (countAt t q) limit.mostStatements limit.mostStatements small small small (λ d m. omega (arith, f .bounds .stated d m, f .whole)) (f .bounds .named)
 
--- The rows that the scheduler was lent, where a row has m words.
-pub scheduled-rows : (v : Width) (w : List ℕ) (m c n : ℕ) (r : Outcome) (order reached : List ℕ) → m ≡ rowWords v
-    → Scheduled (limits v) (take (m * c) w) n limit.mostStatements limit.mostStatements r order reached → Scheduled (limits v) (take (rowWords v * c) w) n limit.mostStatements limit.mostStatements r order reached
-scheduled-rows v w m c n r order reached = subst (λ (y : ℕ). Scheduled (limits v) (take (y * c) w) n limit.mostStatements limit.mostStatements r order reached)
+-- The rows as the scheduler is lent them, where a row has m words, and there are n statements.
+module _ (v : Width) (w : List ℕ) (m c n : ℕ) (is : m ≡ rowWords v) where
+  pub lent-taken : (t : List ℕ) (q : ℕ) → n ≡ countAt t q → Schedulable v t w q c → bounds.AcceptedList (limits v) (take (m * c) w) n limit.mostStatements limit.mostStatements
+  lent-taken t q count a = rw (is, count) a
+
+  pub lent-arranged : (all : Bool) (order reached : List ℕ) → Arranged (limits v) (take (m * c) w) n limit.mostStatements limit.mostStatements all order reached
+      → Arranged (limits v) (take (rowWords v * c) w) n limit.mostStatements limit.mostStatements all order reached
+  lent-arranged all order reached = subst (λ (y : ℕ). Arranged (limits v) (take (y * c) w) n limit.mostStatements limit.mostStatements all order reached) is
 
 module _ (v : Width) (t : List ℕ) (ok : Accepted t) (roomy : Roomy t) (w : List ℕ) (q : ℕ) (low : 1 ≤ q) (high : q ≤ queryCount t) where
   -- The places of the other queries in the table lie elsewhere.
@@ -78,10 +84,10 @@ module _ (v : Width) (t : List ℕ) (ok : Accepted t) (roomy : Roomy t) (w : Lis
           (λ (h : queryCount t + 1 ≤ p). absurd (omega (arith, count, count-past t ok p (omega arith), some-place)))
           (lt-cases p (queryCount t + 1))
 
-  module _ (k : Scope) (l : List ℕ) (c : ℕ) (room : rowWords v * c + answersSize v ≤ length w) (n : ℕ) (count : n ≡ countAt t q) (r : Outcome)
-      (order reached : List ℕ) (s : Scheduled (limits v) (take (rowWords v * c) w) n limit.mostStatements limit.mostStatements r order reached) where
+  module _ (k : Scope) (l : List ℕ) (c : ℕ) (room : rowWords v * c + answersSize v ≤ length w) (n : ℕ) (count : n ≡ countAt t q) (all : Bool)
+      (order reached : List ℕ) (s : Arranged (limits v) (take (rowWords v * c) w) n limit.mostStatements limit.mostStatements all order reached) where
     -- What is stored is of the schedule.
-    gives : (a : QuerySchedule) → ConcludedAs v t w q k l c a → Gives v a k l n (isPlaced r) order reached
+    gives : (a : QuerySchedule) → Ending v t w q k l c a → Gives v a k l n all order reached
     gives a f = record {
       sets = f .scope .sets;
       locals = locals-fit v k (a .scope) (f .scope .sets) (f .low .scope);
@@ -90,14 +96,13 @@ module _ (v : Width) (t : List ℕ) (ok : Accepted t) (roomy : Roomy t) (w : Lis
       spans = λ x p is. span-in (f .scope .placed x p is);
       counted = e;
       all =
-          ap isPlaced (s .came-to) ∙ ap (λ (b : Bool). isPlaced (outcome b (turns.placed (definitions (rowWords v) (take (rowWords v * c) w)) n nameBound))) met
-          ∙ is-placed (turns.placed (definitions (rowWords v) (take (rowWords v * c) w)) n nameBound) ∙ same-placed (definitions (rowWords v) (take (rowWords v * c) w)) (a .definitions) up down n nameBound
+          s .came-to ∙ same-placed (definitions (rowWords v) (take (rowWords v * c) w)) (a .definitions) up down n nameBound
           ∙ ap (λ (m : ℕ). turns.placed (a .definitions) m nameBound) (sym e);
       places = λ j h.
           subst (λ (m : ℕ).
           let i = getD (turns.order (a .definitions) m nameBound) j 0 in
           PlaceIn (placeWord order reached j) i (mark (turns.reached (a .definitions) m nameBound i)))
-          (sym e) (rw (s .ordered, s .marked) (place-in (limits v) (take (rowWords v * c) w) n limit.mostStatements limit.mostStatements met (a .definitions) up down j h));
+          (sym e) (place-in (limits v) (take (rowWords v * c) w) n limit.mostStatements limit.mostStatements all order reached s (omega (arith, e, f .bounds .few-statements)) (a .definitions) up down j h);
     }
       where
         e : a .count ≡ n
@@ -112,36 +117,28 @@ module _ (v : Width) (t : List ℕ) (ok : Accepted t) (roomy : Roomy t) (w : Lis
         down : AllAmong (a .definitions) (definitions (rowWords v) (take (rowWords v * c) w))
         down = within-rows v w c (omega (arith, room)) (a .definitions) exact
 
-        met : accepts (limits v) (take (rowWords v * c) w) n limit.mostStatements limit.mostStatements ≡ true
-        met =
-            let small : n ≤ limit.mostStatements = omega (arith, e, f .bounds .few-statements) in
-            rows-accepted v w c (omega (arith, room)) (a .definitions) exact (omega (arith, f .few, f .bounds .few-definitions)) n limit.mostStatements limit.mostStatements
-            small small small (λ d m. omega (arith, f .bounds .stated d m, e)) (f .bounds .named)
-
-    pub concluded : (placed : Bool) → placed ≡ isPlaced r → (y : List ℕ) → y ≡ answersOf v w → (p : List ℕ)
-        → AnswerWritten v y q k l n placed order reached p → (u : List ℕ) → answersOf v u ≡ p → length u ≡ length w
+    pub concluded : (y : List ℕ) → y ≡ answersOf v w → (p : List ℕ)
+        → AnswerWritten v y q k l n all order reached p → (u : List ℕ) → answersOf v u ≡ p → length u ≡ length w
         → ((j : ℕ) → j < length w - answersSize v → getD u j 0 ≡ getD w j 0) → Concluded v t w q k l c u
-    concluded placed says y lent p stores u is long front = record { front = front; enters = enters }
+    concluded y lent p stores u is long front = record { front = front; enters = enters }
       where
-        written : AnswerWritten v (answersOf v w) q k l n (isPlaced r) order reached p
-        written =
-            subst (λ (b : Bool). AnswerWritten v (answersOf v w) q k l n b order reached p) says
-            (subst (λ (x : List ℕ). AnswerWritten v x q k l n placed order reached p) lent stores)
+        written : AnswerWritten v (answersOf v w) q k l n all order reached p
+        written = subst (λ (x : List ℕ). AnswerWritten v x q k l n all order reached p) lent stores
 
         few : queryCount t ≤ limit.mostQueries
         few = ok .within .few-queries
 
-        enters : (a : QuerySchedule) (schedules : List QuerySchedule) → ConcludedAs v t w q k l c a → Table v t w schedules → Table v t u (a ∷ schedules)
+        enters : (a : QuerySchedule) (schedules : List QuerySchedule) → Ending v t w q k l c a → Table v t w schedules → Table v t u (a ∷ schedules)
         enters a schedules f table = record {
           enough = omega (arith, long, table .enough);
           stored =
               subst (λ (x : List ℕ). Stored v x (a ∷ schedules)) (sym is)
-              (stored-next v (answersOf v w) q k l n (wordAt v (answersOf v w) q 3) (isPlaced r) order reached low (omega (arith, high, few)) within
+              (stored-next v (answersOf v w) q k l n (wordAt v (answersOf v w) q 3) all order reached low (omega (arith, high, few)) within
               (written .between) (written .block) p (written .places) schedules (table .stored)
               (subst (ApartFrom v (answersOf v w) q (wordAt v (answersOf v w) q 3)) (sym count) (apart schedules table)) a (f .query) (gives a f));
           based = λ x from to.
               subst (λ (y : List ℕ). wordAt v y x 3 ≡ baseAt t x) (sym is)
-              (bases-stay v (answersOf v w) q k l n (wordAt v (answersOf v w) q 3) (isPlaced r) order reached low (omega (arith, high, few)) within
+              (bases-stay v (answersOf v w) q k l n (wordAt v (answersOf v w) q 3) all order reached low (omega (arith, high, few)) within
               (written .between) (written .block) p (written .places) refl x from (omega (arith, to, few)) ∙ table .based x from to);
           fits = λ b m.
               ⊎-elim (λ (e : b ≡ a). subst (FitsSchedule (sheetAt t)) (sym e) (f .fits)) (λ (i : List·Memᴰ b schedules). table .fits b i)

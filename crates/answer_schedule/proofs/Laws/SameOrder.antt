@@ -6,11 +6,9 @@ use Prim.Native.Nat.{ℕ, suc}
 use lib.Dec.{eqb}
 use lib.ListN.{length}
 use Rattle.base.proofs.Laws.Truth.{bool-ext}
-use Rattle.base.specs.Lists.{elem, filter}
-use Rattle.base.specs.Lists.{range}
+use Rattle.base.specs.Lists.{elem, filter, range}
 use Rattle.order.specs.Walk.{walk, rounds}
-use Rattle.order.specs.Definitions.{Definition, ofStatement}
-use Rattle.order.specs.Definitions.{some, defines, ready}
+use Rattle.order.specs.Definitions.{Definition, ofStatement, some, defines, ready}
 use Rattle.order.proofs.Laws.Statements.{mem-statement, statement-mem, mem-some, some-mem, by-defines, defines-by}
 use Rattle.order.proofs.Laws.Resolving.{resolves-same}
 use Rattle.order.specs.Turns.{placed, order, reached}

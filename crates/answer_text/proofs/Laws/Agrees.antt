@@ -3,27 +3,25 @@ use mathlib.Core.Path.{_≡_, refl, sym, ap, ap₂, _∙_}
 use mathlib.Core.Bool.{Bool, cond}
 use mathlib.Core.List.{List, [], _∷_, _++_, map, append-nil}
 use mathlib.Core.Option.{Option, none, some}
-use Prim.Native.Nat.{ℕ, _+_, _-_, _*_, _/_, _%_, _<_}
+use Prim.Native.Nat.{ℕ, _-_, _/_, _%_, _<_}
 use native.Mathlib.Omega.{arith}
 use lib.ListN.{getD}
 use Rattle.base.specs.Limits as limits
-use Rattle.base.specs.Lists.{range}
+use Rattle.base.specs.Lists.{range, concatMap, isSome}
 use Rattle.base.specs.Sets.{member}
-use Rattle.answer.specs.Text.{rowLine}
+use Rattle.answer.specs.Text.{rowLine, queryRows, placeRows, localRow, setRows}
 use Rattle.order.specs.Turns as turns
-use Rattle.base.specs.Lists.{concatMap, isSome}
 use Rattle.sheet.specs.Sheet.{nameBound}
-use Rattle.scope.specs.Scopes.{NameSet, contains, elements}
-use Rattle.scope.specs.Scopes.{Span, spanIn}
+use Rattle.scope.specs.Scopes.{NameSet, contains, elements, Span, spanIn}
 use Rattle.definition.specs.States.{QuerySchedule}
-use Rattle.answer.specs.Text.{queryRows, placeRows, localRow, setRows}
 use Rattle.order.specs.Turns.{mark}
 use Rattle.names_width.specs.declared.Width.{Width}
 use Rattle.answer_blocks.specs.Inner.Layout.{wordAt, setAt, spanAt, placeAt}
+use Rattle.base.proofs.Laws.ListLaws.{concatMap-append, concatMap-nested}
 use Rattle.answer_text.specs.Inner.Stored.{SpanIn, HoldsSchedule, StoredAt}
 use Rattle.answer_text.proofs.Laws.Sound.{mark-low}
 use Rattle.answer_text.specs.Inner.Ranges.{texts}
-use Rattle.answer_text.proofs.Laws.Ranges.{texts-same, concat-append, concat-concat, concat-map, concat-filter}
+use Rattle.answer_text.proofs.Laws.Ranges.{texts-same, concat-map, concat-filter}
 use Rattle.answer_text.specs.Inner.Texts.{queryText, placeLine, placesText, localLine, nameLine, setsText}
 use Rattle.answer_text.proofs.Laws.Texts.{query-never, query-text-once, places-never, places-once, sets-never, sets-once}
 
@@ -72,7 +70,7 @@ module _ (v : Width) (w : List ℕ) (q : ℕ) where
 
     locals-analysed : concatMap rowLine (concatMap (λ x. localRow q x (spanIn (a .scope .locals) x)) (range 0 nameBound)) ≡ texts (localLine v w q) 0 limits.perName
     unfolding texts
-    locals-analysed = concat-concat rowLine _ (range 0 nameBound) ∙ texts-same _ (localLine v w q) 0 limits.perName (λ x l u. local-same x)
+    locals-analysed = concatMap-nested rowLine _ (range 0 nameBound) ∙ texts-same _ (localLine v w q) 0 limits.perName (λ x l u. local-same x)
 
     names-analysed : (set : ℕ) (names : NameSet) → ((x : ℕ) → contains names x ≡ member (setAt v w q (set - 1)) x)
         → concatMap rowLine (map (λ x. q ∷ set ∷ x ∷ 0 ∷ 0 ∷ []) (elements names)) ≡ texts (nameLine v w q set) 0 limits.perName
@@ -86,8 +84,8 @@ module _ (v : Width) (w : List ℕ) (q : ℕ) where
         let k = concatMap (λ x. localRow q x (spanIn (a .scope .locals) x)) (range 0 nameBound) in
         let l = map (λ x. q ∷ 2 ∷ x ∷ 0 ∷ 0 ∷ []) (elements (a .scope .unscoped)) in
         let m = map (λ x. q ∷ 3 ∷ x ∷ 0 ∷ 0 ∷ []) (elements (a .scope .inputs)) in
-        concat-append rowLine k (l ++ m)
-        ∙ ap₂ (λ (x y : List ℕ). x ++ y) locals-analysed (concat-append rowLine l m ∙ ap₂ (λ (x y : List ℕ). x ++ y)
+        concatMap-append rowLine k (l ++ m)
+        ∙ ap₂ (λ (x y : List ℕ). x ++ y) locals-analysed (concatMap-append rowLine l m ∙ ap₂ (λ (x y : List ℕ). x ++ y)
         (names-analysed 2 (a .scope .unscoped) (s .unscoped)) (names-analysed 3 (a .scope .inputs) (s .inputs)))
         ∙ sym (sets-once v w q once)
 

@@ -7,12 +7,11 @@ use Prim.Native.Nat.{ℕ, _+_, _-_, _*_, _/_, _%_, _≤_, _<_}
 use native.Mathlib.Omega.{arith}
 use Rattle.base.specs.Limits as limits
 use Rattle.base.proofs.Laws.Truth.{lt-cases, not-both}
-use Rattle.base.specs.Sets.{member}
+use Rattle.base.specs.Sets.{member, wordsAt}
 use Rattle.names.specs.Inner.Sets.{Next}
 use Rattle.names.proofs.Laws.Laws.{member-out}
 use Rattle.names_width.specs.declared.Width.{Width}
 use Rattle.names_width.specs.Inner.Widths.{setWords, Same}
-use Rattle.base.specs.Sets.{wordsAt}
 use Rattle.names_width.proofs.Laws.Laws.{words-length}
 use Rattle.answer_blocks.specs.Inner.Layout.{setAt, spanAt}
 use Rattle.answer_write.specs.Inner.Writes.{Puts}

@@ -1,26 +1,17 @@
 -- Laws of `Ranges`.
-use mathlib.Core.Path.{_≡_, refl, sym, ap, ap₂, _∙_}
+use mathlib.Core.Path.{_≡_, refl, ap, ap₂, _∙_}
 use mathlib.Core.Bool.{Bool, true, false, cond}
-use mathlib.Core.List.{List, [], _∷_, _++_, map, append-assoc, append-nil}
+use mathlib.Core.List.{List, [], _∷_, _++_, map, append-nil}
 use Prim.Native.Nat.{ℕ, zero, suc, _+_, _-_, _≤_, _<_}
 use native.Mathlib.Omega.{arith}
-use Rattle.base.specs.Lists.{filter}
-use Rattle.base.specs.Lists.{counted, range}
-use Rattle.base.proofs.Laws.Ranges.{range-nil}
-use Rattle.base.specs.Lists.{concatMap}
+use Rattle.base.specs.Lists.{filter, counted, range, concatMap}
+use Rattle.base.proofs.Laws.Ranges.{range-nil, counted-snoc}
+use Rattle.base.proofs.Laws.ListLaws.{concatMap-append}
 use Rattle.answer_text.specs.Inner.Ranges.{texts}
 
 -- ---- lists
 
 module _ {A B : Type 0} (f : A → List B) where
-  pub concat-append : (k l : List A) → concatMap f (k ++ l) ≡ concatMap f k ++ concatMap f l
-  concat-append [] l = refl
-  concat-append (x ∷ k) l = ap (λ (m : List B). f x ++ m) (concat-append k l) ∙ sym (append-assoc (f x) (concatMap f k) (concatMap f l))
-
-  pub concat-concat : {C : Type 0} (g : C → List A) (l : List C) → concatMap f (concatMap g l) ≡ concatMap (λ x. concatMap f (g x)) l
-  concat-concat g [] = refl
-  concat-concat g (x ∷ l) = concat-append (g x) (concatMap g l) ∙ ap (λ (m : List B). concatMap f (g x) ++ m) (concat-concat g l)
-
   pub concat-map : {C : Type 0} (g : C → A) (l : List C) → concatMap f (map g l) ≡ concatMap (λ x. f (g x)) l
   concat-map g [] = refl
   concat-map g (x ∷ l) = ap (λ (m : List B). f (g x) ++ m) (concat-map g l)
@@ -36,18 +27,12 @@ module _ {A B : Type 0} (f : A → List B) where
 
 -- ---- ranges
 
-counted-last : (c a : ℕ) → counted a (suc c) ≡ counted a c ++ ((a + c) ∷ [])
-counted-last zero a = let e : a ≡ a + 0 = omega arith in ap (λ (n : ℕ). n ∷ []) e
-counted-last (suc c) a =
-    let e : suc a + c ≡ a + suc c = omega arith in
-    ap (λ (m : List ℕ). a ∷ m) (counted-last c (suc a) ∙ ap (λ (n : ℕ). counted (suc a) c ++ (n ∷ [])) e)
-
 range-last : (a e : ℕ) → a ≤ e → range a (e + 1) ≡ range a e ++ (e ∷ [])
 unfolding range
 range-last a e h =
     let m : (e + 1) - a ≡ suc (e - a) = omega arith in
     let n : a + (e - a) ≡ e = omega arith in
-    ap (counted a) m ∙ counted-last (e - a) a ∙ ap (λ (k : ℕ). counted a (e - a) ++ (k ∷ [])) n
+    ap (counted a) m ∙ counted-snoc a (e - a) ∙ ap (λ (k : ℕ). counted a (e - a) ++ (k ∷ [])) n
 
 module _ (f : ℕ → List ℕ) where
   pub texts-none : (a : ℕ) → texts f a a ≡ []
@@ -57,7 +42,7 @@ module _ (f : ℕ → List ℕ) where
   pub texts-last : (a e : ℕ) → a ≤ e → texts f a (e + 1) ≡ texts f a e ++ f e
   unfolding texts
   texts-last a e h =
-      ap (concatMap f) (range-last a e h) ∙ concat-append f (range a e) (e ∷ []) ∙ ap (λ (m : List ℕ). concatMap f (range a e) ++ m) (append-nil (f e))
+      ap (concatMap f) (range-last a e h) ∙ concatMap-append f (range a e) (e ∷ []) ∙ ap (λ (m : List ℕ). concatMap f (range a e) ++ m) (append-nil (f e))
 
   -- Numbers at which nothing is given.
   pub texts-skip : (a b e : ℕ) → a ≤ b → b ≤ e → ((n : ℕ) → b ≤ n → n < e → f n ≡ []) → texts f a e ≡ texts f a b

@@ -7,19 +7,17 @@ use Prim.Native.String.{String}
 use native.Mathlib.Omega.{arith}
 use native.Mathlib.Numerals.{add-one}
 use Rattle.base.specs.Limits as limits
-use Rattle.base.specs.Lists.{range}
+use Rattle.base.specs.Lists.{range, concatMap}
 use Rattle.sheet.specs.Text.{newline, bytes}
 use Rattle.answer_write.specs.Inner.Writes.{Puts}
 use Rattle.answer_write.proofs.Laws.Writes.{puts-then}
-use Rattle.answer.specs.Text.{rowLine}
-use Rattle.base.specs.Lists.{concatMap}
+use Rattle.answer.specs.Text.{rowLine, queryRows, placeRows, setRows, allRows, section, answerText}
 use Rattle.definition.specs.States.{QuerySchedule, scheduleOf}
-use Rattle.answer.specs.Text.{queryRows, placeRows, setRows, allRows}
-use Rattle.answer.specs.Text.{section, answerText}
 use Rattle.names_width.specs.declared.Width.{Width}
+use Rattle.base.proofs.Laws.ListLaws.{concatMap-nested}
 use Rattle.answer_text.specs.Inner.Stored.{StoredAt}
 use Rattle.answer_text.specs.Inner.Ranges.{texts}
-use Rattle.answer_text.proofs.Laws.Ranges.{texts-same, concat-concat}
+use Rattle.answer_text.proofs.Laws.Ranges.{texts-same}
 use Rattle.answer_text.proofs.Laws.Lines.{puts-as}
 use Rattle.answer_text.specs.Inner.Sections.{PutsSection, PutsAnswer}
 
@@ -32,7 +30,7 @@ module _ (rows : ℕ → Option QuerySchedule → List (List ℕ)) (f : ℕ → 
   section-same same =
       append-assoc (bytes heading) (newline ∷ []) (texts f 1 (n + 1) ++ (newline ∷ []))
       ∙ ap (λ (l : List ℕ). bytes heading ++ (newline ∷ (l ++ (newline ∷ []))))
-      (sym (concat-concat rowLine _ (range 1 (suc n)) ∙ ap (texts _ 1) (sym (add-one n)) ∙ texts-same _ f 1 (n + 1) (λ q l u. same q l (omega arith))))
+      (sym (concatMap-nested rowLine _ (range 1 (suc n)) ∙ ap (texts _ 1) (sym (add-one n)) ∙ texts-same _ f 1 (n + 1) (λ q l u. same q l (omega arith))))
 
 module _ (v : Width) (w : List ℕ) (n : ℕ) (few : n ≤ limits.mostQueries) (b : List ℕ) (at : ℕ) (c : List ℕ) (r : ℕ) where
   -- The heading, the lines of the queries, and an empty line.

@@ -5,8 +5,7 @@ use Prim.Native.Nat.{ℕ}
 use Prim.Native.String.{String}
 use Rattle.answer_write.specs.Inner.Writes.{Puts}
 use Rattle.definition.specs.States.{QuerySchedule}
-use Rattle.answer.specs.Text.{allRows}
-use Rattle.answer.specs.Text.{section, answerText}
+use Rattle.answer.specs.Text.{allRows, section, answerText}
 use Rattle.names_width.specs.declared.Width.{Width}
 use Rattle.answer_text.specs.Inner.Stored.{Stored}
 

@@ -10,8 +10,7 @@ use Rattle.names_width.specs.declared.Width.{Width}
 use Rattle.answer_blocks.specs.Inner.Layout.{wordAt, setAt, spanAt, placeAt}
 use Rattle.order.specs.Turns as turns
 use Rattle.sheet.specs.Sheet.{nameBound}
-use Rattle.scope.specs.Scopes.{contains}
-use Rattle.scope.specs.Scopes.{Span, spanIn, isLocal}
+use Rattle.scope.specs.Scopes.{contains, Span, spanIn, isLocal}
 use Rattle.definition.specs.States.{QuerySchedule, scheduleOf}
 use Rattle.order.specs.Turns.{mark}
 

@@ -1,5 +1,4 @@
 -- The loop's invariant: the bytes below i are written.
-use mathlib.Core.Path.{_∙_}
 use Prim.Native.Nat.{_≤_, _-_}
 use native.Mathlib.Omega.{arith}
 use lib.ListN.{length, take}

@@ -1,7 +1,7 @@
 -- Laws of `Lists`.
 use mathlib.Core.Path.{_≡_, refl, sym, ap, _∙_}
-use mathlib.Core.Bool.{Bool, true, false, _&&_, and-false}
-use mathlib.Core.List.{List, [], _∷_}
+use mathlib.Core.Bool.{Bool, true, false, cond, _&&_, and-false}
+use mathlib.Core.List.{List, [], _∷_, _++_}
 use mathlib.Core.Logic.{_⊎_, inl, inr, ⊎-elim}
 use Prim.Native.Nat.{ℕ}
 use lib.Dec.{ltb, eqb}
@@ -40,15 +40,17 @@ elem-filter f n (x ∷ l) = go (bool-cases (f x)) (bool-cases (eqb n x)) (elem-f
     go (inr p) (inl q) ih = rw (p, q, ih, ap f (eqb-true n x q) ∙ p)
     go (inr p) (inr q) ih = rw (p, q) ih
 
-pub filter-ascending : (f : ℕ → Bool) (l : List ℕ) → ascending l ≡ true → ascending (filter f l) ≡ true
-filter-ascending f [] h = refl
-filter-ascending f (x ∷ l) h = go (bool-cases (f x)) (filter-ascending f l (and-right (all (ltb x) l) _ h))
-  where
-    kept : all (ltb x) (filter f l) ≡ true
-    kept =
-        elem-all (ltb x) (filter f l)
-        (λ n m. all-elem (ltb x) l (and-left _ _ h) n (and-right (f n) _ (sym (elem-filter f n l) ∙ m)))
+module _ {A : Type 0} where
+  pub filter-append : (f : A → Bool) (k l : List A) → filter f (k ++ l) ≡ filter f k ++ filter f l
+  filter-append f [] l = refl
+  filter-append f (x ∷ k) l = go (f x) (filter-append f k l)
+    where
+      go : (b : Bool) → filter f (k ++ l) ≡ filter f k ++ filter f l
+          → cond b (x ∷ filter f (k ++ l)) (filter f (k ++ l)) ≡ cond b (x ∷ filter f k) (filter f k) ++ filter f l
+      go true ih = ap (λ (m : List A). x ∷ m) ih
+      go false ih = ih
 
-    go : (f x ≡ true) ⊎ (f x ≡ false) → ascending (filter f l) ≡ true → ascending (filter f (x ∷ l)) ≡ true
-    go (inl p) ih = rw p (and-intro _ _ kept ih)
-    go (inr p) ih = rw p ih
+  -- By tests that answer the same.
+  pub filter-same : (f g : A → Bool) → ((x : A) → f x ≡ g x) → (l : List A) → filter f l ≡ filter g l
+  filter-same f g h [] = refl
+  filter-same f g h (x ∷ l) = rw (h x, filter-same f g h l)

@@ -65,6 +65,11 @@ module _ {A : Type 0} where
 
   -- ---- the elements and their places
 
+  pub all-getD : (f : A → Bool) (l : List A) (d : A) → all f l ≡ true → f d ≡ true → (k : ℕ) → f (getD l k d) ≡ true
+  all-getD f [] d h p k = p
+  all-getD f (x ∷ l) d h p zero = and-left (f x) (all f l) h
+  all-getD f (x ∷ l) d h p (suc k) = all-getD f l d (and-right (f x) (all f l) h) p k
+
   pub getD-mem : (l : List A) (j : ℕ) (d : A) → j < length l → List·Memᴰ (getD l j d) l
   getD-mem [] j d h = absurd (omega arith)
   getD-mem (a ∷ l) zero d h = List·Memᴰ·head refl

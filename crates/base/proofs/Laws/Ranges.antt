@@ -1,17 +1,33 @@
 -- Laws of `Ranges`.
 use mathlib.Core.Path.{_≡_, refl, sym, ap, _∙_}
 use mathlib.Core.Bool.{Bool, true, false}
-use mathlib.Core.List.{[], _∷_}
+use mathlib.Core.List.{List, [], _∷_, _++_, map}
 use mathlib.Core.Logic.{⊎-elim}
 use Prim.Native.Nat.{ℕ, zero, suc, _+_, _-_, _≤_, _<_}
 use native.Mathlib.Numerals.{add-one}
 use native.Mathlib.Omega.{arith}
 use lib.Dec.{ltb, eqb}
+use lib.ListN.{length, getD}
 use borrow.Author.Tests.{eqb-false, lt-ltb}
 use Rattle.base.proofs.Laws.Truth.{bool-cases, and-intro, or-left, or-right}
-use Rattle.base.specs.Lists.{all, filter, elem}
+use Rattle.base.specs.Lists.{all, filter, elem, counted, range}
 use Rattle.base.proofs.Laws.Lists.{ascending}
-use Rattle.base.specs.Lists.{counted, range}
+
+pub length-counted : (a c : ℕ) → length (counted a c) ≡ c
+length-counted a zero = refl
+length-counted a (suc c) = ap suc (length-counted (suc a) c)
+
+pub counted-snoc : (a c : ℕ) → counted a (suc c) ≡ counted a c ++ ((a + c) ∷ [])
+counted-snoc a zero = let e : a ≡ a + 0 = omega arith in ap (λ (x : ℕ). x ∷ []) e
+counted-snoc a (suc c) =
+    let e : suc a + c ≡ a + suc c = omega arith in
+    ap (λ (t : List ℕ). a ∷ t) (counted-snoc (suc a) c ∙ ap (λ (x : ℕ). counted (suc a) c ++ (x ∷ [])) e)
+
+-- What a function gives at them.
+pub counted-at : {A : Type 0} (f : ℕ → A) (c a i : ℕ) (d : A) → i < c → getD (map f (counted a c)) i d ≡ f (a + i)
+counted-at f zero a i d h = absurd (omega arith)
+counted-at f (suc c) a zero d h = ap f (omega arith)
+counted-at f (suc c) a (suc i) d h = counted-at f c (suc a) i d (omega arith) ∙ ap f (omega arith)
 
 pub range-nil : (a e : ℕ) → e ≤ a → range a e ≡ []
 unfolding range

@@ -1,10 +1,10 @@
 -- Bool: the cases of a test, and the laws of `&&` and `||`.
 use mathlib.Core.Path.{_≡_, refl, sym, _∙_}
-use mathlib.Core.Bool.{Bool, true, false, _&&_, _||_, or-true, true≢false, false≢true}
+use mathlib.Core.Bool.{Bool, true, false, not, _&&_, _||_, or-true, true≢false, false≢true}
 use mathlib.Core.Logic.{_⊎_, inl, inr, ⊎-elim}
 use Prim.Native.Nat.{ℕ, _≤_, _<_}
 use lib.Dec.{ltb, eqb}
-use borrow.Author.Tests.{ltb-true, ltb-false, eqb-true, eqb-false}
+use borrow.Author.Tests.{ltb-true, ltb-false, eqb-true, eqb-false, eq-eqb}
 
 -- ---- cases
 
@@ -29,6 +29,9 @@ bool-ext true b to back = sym (to refl)
 bool-ext false true to back = back refl
 bool-ext false false to back = refl
 
+pub eqb-sym : (a b : ℕ) → eqb a b ≡ eqb b a
+eqb-sym a b = bool-ext _ _ (λ p. eq-eqb b a (sym (eqb-true a b p))) (λ p. eq-eqb a b (sym (eqb-true b a p)))
+
 -- ---- and, or
 
 pub and-intro : (a b : Bool) → a ≡ true → b ≡ true → (a && b) ≡ true
@@ -52,6 +55,24 @@ or-right false b p = p
 pub or-cases : (a b : Bool) → (a || b) ≡ true → (a ≡ true) ⊎ (b ≡ true)
 or-cases true b h = inl refl
 or-cases false b h = inr h
+
+-- Of two tests neither holds.
+pub neither-left : (a b : Bool) → (a || b) ≡ false → a ≡ false
+neither-left true b h = h
+neither-left false b h = refl
+
+pub neither-right : (a b : Bool) → (a || b) ≡ false → b ≡ false
+neither-right true b h = absurd (true≢false h)
+neither-right false b h = h
+
+-- What is asked only where g holds.
+pub and-on : (g a b : Bool) → (g ≡ true → a ≡ b) → (g && a) ≡ (g && b)
+and-on true a b h = h refl
+and-on false a b h = refl
+
+pub or-on : (g a b : Bool) → (g ≡ true → a ≡ b) → (not g || a) ≡ (not g || b)
+or-on true a b h = h refl
+or-on false a b h = refl
 
 pub or-left-comm : (a b c : Bool) → (a || (b || c)) ≡ (b || (a || c))
 or-left-comm true b c = sym (or-true b)

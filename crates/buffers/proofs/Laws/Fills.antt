@@ -1,13 +1,14 @@
 -- A buffer whose front holds zeros, or the numbers from 0 up: one more at a time.
-use mathlib.Core.Path.{_≡_, refl, sym, ap, _∙_}
+use mathlib.Core.Path.{_≡_, sym, ap, _∙_}
 use mathlib.Core.List.{List, [], _∷_, _++_, append-assoc, append-nil}
-use Prim.Native.Nat.{ℕ, zero, suc, _+_, _-_, _≤_, _<_}
+use Prim.Native.Nat.{ℕ, suc, _+_, _-_, _<_}
 use native.Mathlib.Numerals.{add-one}
 use native.Mathlib.Omega.{arith}
 use lib.ListN.{length, getD, drop, replicate, set}
 use lib.Seq.{drop-cons, drop-length, set-at}
 use borrow.Author.Fill.{fill-more}
 use Rattle.base.specs.Lists.{counted, range}
+use Rattle.base.proofs.Laws.Ranges.{length-counted, counted-snoc}
 
 -- ---- zeros
 
@@ -24,16 +25,6 @@ clear-all d b i e is =
     ∙ append-nil (replicate (length d) 0)
 
 -- ---- numbers
-
-length-counted : (a c : ℕ) → length (counted a c) ≡ c
-length-counted a zero = refl
-length-counted a (suc c) = ap suc (length-counted (suc a) c)
-
-counted-snoc : (a c : ℕ) → counted a (suc c) ≡ counted a c ++ ((a + c) ∷ [])
-counted-snoc a zero = let e : a ≡ a + 0 = omega arith in ap (λ (x : ℕ). x ∷ []) e
-counted-snoc a (suc c) =
-    let e : suc a + c ≡ a + suc c = omega arith in
-    ap (λ (t : List ℕ). a ∷ t) (counted-snoc (suc a) c ∙ ap (λ (x : ℕ). counted (suc a) c ++ (x ∷ [])) e)
 
 pub length-range : (n : ℕ) → length (range 0 n) ≡ n
 unfolding range

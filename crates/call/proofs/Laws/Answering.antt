@@ -1,5 +1,5 @@
 -- Questions 7 and 8 as the code puts them: each way out, by what the analysis and the writer say.
-use mathlib.Core.Path.{_≡_, refl, sym, ap, subst, _∙_}
+use mathlib.Core.Path.{_≡_, sym, ap, subst, _∙_}
 use mathlib.Core.Bool.{true, false}
 use mathlib.Core.List.{List, [], _++_}
 use Prim.Native.Nat.{ℕ, _-_, _≤_, _<_}
@@ -7,7 +7,6 @@ use native.Mathlib.Omega.{arith}
 use lib.ListN.{length, take, drop, replicate, length-drop}
 use lib.Seq.{take-length}
 use Rattle.base.specs.Refusals as refusals
-use Rattle.base.proofs.Laws.Truth.{not-both}
 use Rattle.names_width.specs.declared.Width.{Width}
 use Rattle.names_width.specs.declared.Width.the-variants.{Two, Eight}
 use Rattle.names_width.specs.Inner.Widths.{work}
@@ -30,8 +29,9 @@ use Rattle.answer_text.specs.Inner.Sections.{PutsAnswer}
 use Rattle.scope_walk.specs.Inner.Sheets.{sheetAt, queryCount}
 use Rattle.definition_state.specs.declared.Fault.{Fault}
 use Rattle.definition_state.specs.declared.Fault.the-variants as code
-use Rattle.definition_state.specs.Inner.Faults.{isSound, meaning}
+use Rattle.definition_state.specs.Inner.Faults.{isSound}
 use Rattle.definition_state.specs.Inner.Table.{answersOf}
+use Rattle.definition_state.proofs.Laws.Steps.{sound-is}
 use Rattle.call.specs.declared.replies.Reply.{Reply}
 use Rattle.definition_cycle.specs.Inner.Analysed.{Analysed}
 use Rattle.call.specs.Inner.Replies.{faultReply, Replies}
@@ -81,13 +81,6 @@ module _ (v : Width) (k : ℕ) (is : k ≡ answersSize v) (w : List ℕ) (n : �
 
 -- ---- question 7
 
-meaning-sound : (f : Fault) → isSound f ≡ true → meaning f ≡ sound
-meaning-sound code.Sound h = refl
-meaning-sound (code.Undefined l c) h = absurd (not-both h refl)
-meaning-sound (code.UsedBefore l c) h = absurd (not-both h refl)
-meaning-sound (code.Lengths l c) h = absurd (not-both h refl)
-meaning-sound code.IndexVariable h = absurd (not-both h refl)
-
 module _ (v : Width) (t w : List ℕ) (f : Fault) (a : Analysed v t w f) where
   abbrev run : Run
   run = analyzeQuerySnippetOnce (sheetAt t)
@@ -103,7 +96,7 @@ module _ (v : Width) (t w : List ℕ) (f : Fault) (a : Analysed v t w f) where
 
   module _ (h : isSound f ≡ true) where
     ends : run .fault ≡ sound
-    ends = sym (a .fault) ∙ meaning-sound f h
+    ends = sym (a .fault) ∙ sound-is f h
 
     pub answers-sound : SoundBlocks v (answersOf v w)
     answers-sound = stored-sound v (answersOf v w) (run .schedules) (a .stored ends)

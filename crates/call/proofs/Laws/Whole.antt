@@ -16,8 +16,7 @@ use Rattle.sheet.specs.Verdict as questions
 use Rattle.sheet.specs.Verdict.{readTables, leftTables, verdict}
 use Rattle.sheet_read.specs.Inner.Asked.{isRead, SheetTaken}
 use Rattle.sheet_read.proofs.Laws.LineBounds.{line-fits}
-use Rattle.sheet.specs.Sheet.{Sheet}
-use Rattle.sheet.specs.Sheet.{sheetIn}
+use Rattle.sheet.specs.Sheet.{Sheet, sheetIn}
 use Rattle.original.specs.Inner.AnalysedOnce.{analysedOnce}
 use Rattle.original.proofs.Laws.AnalysedOnce.{analysed-once}
 use Rattle.answer.specs.Call.{analysed, afterReading, result, leftBy, left}

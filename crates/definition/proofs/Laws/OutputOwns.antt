@@ -8,8 +8,7 @@ use lib.Dec.{eqb}
 use borrow.Author.Tests.{eq-eqb}
 use Rattle.base.proofs.Laws.Truth.{bool-cases, not-both, or-left}
 use Rattle.base.specs.Lists.{isSome}
-use Rattle.scope.specs.Scopes.{contains}
-use Rattle.scope.specs.Scopes.{Span, Scope, spanIn, isLocal, owns, addUnscoped}
+use Rattle.scope.specs.Scopes.{contains, Span, Scope, spanIn, isLocal, owns, addUnscoped}
 use Rattle.scope.proofs.Laws.Below.{unscoped-owns}
 use Rattle.definition.specs.Queries.{outputScope}
 

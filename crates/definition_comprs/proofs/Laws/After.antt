@@ -9,8 +9,7 @@ use Rattle.sheet.specs.declared.Row.{Row}
 use Rattle.sheet.specs.Sheet.{Sheet}
 use Rattle.sheet.specs.Kinds.{isCompr}
 use Rattle.scope.specs.Trees.{Tree}
-use Rattle.definition.specs.States.{State, ifSound}
-use Rattle.definition.specs.States.{Way}
+use Rattle.definition.specs.States.{State, ifSound, Way}
 use Rattle.definition.specs.Comprs.{propagate, useCompr}
 use Rattle.definition_once.specs.Inner.OnceWay.{onceWay}
 use Rattle.definition_state.specs.declared.Fault.{Fault}

@@ -7,15 +7,13 @@ use Prim.Native.Nat.{ℕ, _<_}
 use native.Mathlib.Omega.{arith}
 use Rattle.base.specs.Limits as limits
 use Rattle.base.proofs.Laws.Truth.{bool-cases, bool-ext, and-intro, and-left}
-use Rattle.base.specs.Lists.{filter, elem}
+use Rattle.base.specs.Lists.{filter, elem, range}
 use Rattle.base.proofs.Laws.Lists.{elem-filter}
-use Rattle.base.specs.Lists.{range}
 use Rattle.base.proofs.Laws.Ranges.{elem-range}
 use Rattle.base.specs.Sets.{member}
 use Rattle.names.specs.Inner.Sets.{Difference}
 use Rattle.names.specs.declared.Names.{Names}
-use Rattle.scope.specs.Scopes.{NameSet, contains, elements}
-use Rattle.scope.specs.Scopes.{owns}
+use Rattle.scope.specs.Scopes.{NameSet, contains, elements, owns}
 use Rattle.scope_state.specs.declared.Scope.{Scope}
 use Rattle.definition_comprs.specs.Inner.OwnInputs.{OwnInputs}
 

@@ -4,14 +4,12 @@ use mathlib.Core.Bool.{Bool, true, false, _||_}
 use mathlib.Core.List.{List, [], _∷_, foldl}
 use Prim.Native.Nat.{ℕ}
 use lib.Dec.{eqb}
-use Rattle.base.specs.Lists.{elem}
+use Rattle.base.specs.Lists.{elem, isSome}
 use Rattle.base.specs.Sets.{member}
 use Rattle.names.specs.Inner.Sets.{Union}
 use Rattle.names.specs.declared.Names.{Names}
-use Rattle.base.specs.Lists.{isSome}
-use Rattle.scope.specs.Scopes.{NameSet, contains, insert}
+use Rattle.scope.specs.Scopes.{NameSet, contains, insert, Span, spanIn, owns, addInput, useInput}
 use Rattle.scope.specs.Scopes as spec
-use Rattle.scope.specs.Scopes.{Span, spanIn, owns, addInput, useInput}
 use Rattle.scope_state.specs.declared.Scope.{Scope}
 use Rattle.scope_state.specs.Inner.Agrees.{WithFlag}
 use Rattle.definition_comprs.specs.Inner.Propagated.{Propagated}

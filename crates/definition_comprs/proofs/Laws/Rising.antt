@@ -4,21 +4,17 @@ use mathlib.Core.Bool.{Bool, true, false, not, _&&_}
 use mathlib.Core.List.{List, [], _∷_, foldl}
 use Prim.Native.Nat.{ℕ}
 use Rattle.base.specs.Limits as limits
-use Rattle.base.proofs.Laws.Truth.{not-both}
-use Rattle.base.specs.Lists.{filter}
+use Rattle.base.specs.Lists.{filter, range}
 use Rattle.base.proofs.Laws.Lists.{elem-filter}
-use Rattle.base.specs.Lists.{range}
 use Rattle.base.specs.Sets.{member}
 use Rattle.names.specs.Inner.Sets.{Difference}
 use Rattle.names.specs.declared.Names.{Names}
 use Rattle.sheet.specs.declared.Row.{Row}
 use Rattle.sheet.specs.Sheet.{Sheet}
 use Rattle.scope.specs.Trees.{Tree, rowOf}
-use Rattle.scope.specs.Scopes.{contains, elements}
+use Rattle.scope.specs.Scopes.{contains, elements, Span, owns, addInput, useInput}
 use Rattle.scope.specs.Scopes as spec
-use Rattle.scope.specs.Scopes.{Span, owns, addInput, useInput}
-use Rattle.definition.specs.States.{sound, State, setScope, addFirstUses}
-use Rattle.definition.specs.States.{Way}
+use Rattle.definition.specs.States.{sound, State, setScope, addFirstUses, Way}
 use Rattle.definition.specs.Comprs.{propagate, comprsUse, useCompr}
 use Rattle.definition_once.specs.Inner.OnceWay.{Nested, comprScope, onceWay}
 use Rattle.definition_once.proofs.Laws.OnceWay.{comprInputs}
@@ -26,11 +22,9 @@ use Rattle.scope_state.specs.declared.Scope.{Scope}
 use Rattle.scope_state.specs.Inner.Agrees.{Sets}
 use Rattle.definition_walk.specs.Inner.Own.{Holds}
 use Rattle.definition_walk.proofs.Laws.Collects.{append-nil}
-use Rattle.definition_state.specs.declared.Fault.{Fault}
-use Rattle.definition_state.specs.declared.Fault.the-variants.{Sound, Undefined, UsedBefore, Lengths, IndexVariable}
 use Rattle.definition_state.specs.declared.Progress.{Progress}
-use Rattle.definition_state.specs.Inner.Faults.{isSound, meaning}
 use Rattle.definition_state.specs.Inner.Frames.{scoped, WholeState, Agree}
+use Rattle.definition_state.proofs.Laws.Steps.{sound-is}
 use Rattle.definition_comprs.specs.declared.taken.Taken.{Taken}
 use Rattle.definition_comprs.specs.Inner.Takes.{Takes, TakenBy}
 use Rattle.definition_comprs.specs.Inner.OwnInputs.{OwnInputs}
@@ -41,13 +35,6 @@ use Rattle.definition_comprs.specs.Inner.Uses.{UsesNames}
 use Rattle.definition_comprs.specs.Inner.Rising.{rising, way, Risen}
 
 -- ---- the steps
-
-is-sound : (f : Fault) → isSound f ≡ true → meaning f ≡ sound
-is-sound Sound h = refl
-is-sound (Undefined l c) h = absurd (not-both h refl)
-is-sound (UsedBefore l c) h = absurd (not-both h refl)
-is-sound (Lengths l c) h = absurd (not-both h refl)
-is-sound IndexVariable h = absurd (not-both h refl)
 
 sound-rises : (sheet : Sheet) (way : Way) (s : State) → s .run .fault ≡ sound → (e : Tree)
     → rising sheet way e s ≡ useCompr sheet way e (propagate sheet way (s .scope) e s)
@@ -131,7 +118,7 @@ module _ (w : Row) (work : List ℕ) (p : Progress) (ws : List ℕ) (tk : Taken)
     wide = ap (λ (q : Progress). q .width) is;
     rises = λ sounds sheet nested parents t spans s e at h.
         let way = onceWay sheet nested parents in
-        let clear : s .run .fault ≡ sound = sym (h .fault) ∙ is-sound (p .fault) sounds in
+        let clear : s .run .fault ≡ sound = sym (h .fault) ∙ sound-is (p .fault) sounds in
         let now : Agree t spans (scoped p k) rs work (useCompr sheet way e (propagate sheet way (s .scope) e s)) = record {
           fault = h .fault;
           count = h .count;

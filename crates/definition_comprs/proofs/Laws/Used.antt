@@ -4,7 +4,7 @@ use mathlib.Core.Bool.{Bool, true, false, cond, _&&_, _||_}
 use mathlib.Core.List.{List, [], _∷_, _++_}
 use Prim.Native.Nat.{ℕ, _≤_}
 use lib.ListN.{getD}
-use Rattle.base.specs.Lists.{elem}
+use Rattle.base.specs.Lists.{elem, concatMap}
 use Rattle.base.proofs.Laws.Lists.{elem-filter}
 use Rattle.base.specs.Sets.{member}
 use Rattle.names.specs.Inner.Sets.{Union}
@@ -14,14 +14,11 @@ use Rattle.sheet.specs.declared.Row.{Row}
 use Rattle.sheet.specs.Sheet.{Sheet}
 use Rattle.sheet.specs.Inner.Sheet.{rowAt}
 use Rattle.sheet.specs.Kinds.{isCompr}
-use Rattle.base.specs.Lists.{concatMap}
 use Rattle.scope.specs.Trees.{Tree, rowOf}
 use Rattle.scope.specs.Traverse.{traverse, comprs}
-use Rattle.scope.specs.Scopes.{elements}
+use Rattle.scope.specs.Scopes.{elements, owns}
 use Rattle.scope.specs.Scopes as spec
-use Rattle.scope.specs.Scopes.{owns}
-use Rattle.definition.specs.States.{State, scheduleOf, scopeIn}
-use Rattle.definition.specs.States.{Way}
+use Rattle.definition.specs.States.{State, scheduleOf, scopeIn, Way}
 use Rattle.definition.specs.Comprs.{comprsUse}
 use Rattle.definition_once.specs.Inner.OnceWay.{Nested, onceWay}
 use Rattle.scope_walk.specs.declared.Kids.{Kids}

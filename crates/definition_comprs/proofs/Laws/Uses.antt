@@ -4,8 +4,7 @@ use mathlib.Core.List.{List}
 use Prim.Native.Nat.{ℕ, _+_, _≤_, _<_}
 use lib.ListN.{length}
 use Rattle.base.specs.Limits as limits
-use Rattle.base.specs.Lists.{filter}
-use Rattle.base.specs.Lists.{range}
+use Rattle.base.specs.Lists.{filter, range}
 use Rattle.base.specs.Sets.{member, members}
 use Rattle.names.specs.Inner.Sets.{Next}
 use Rattle.names.proofs.Laws.Listing.{Listing, listing-first, listing-next, listing-end}

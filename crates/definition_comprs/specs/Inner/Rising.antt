@@ -9,8 +9,7 @@ use Rattle.sheet.specs.declared.Row.{Row}
 use Rattle.sheet.specs.Sheet.{Sheet}
 use Rattle.scope.specs.Trees.{Tree, rowOf}
 use Rattle.scope.specs.Scopes as spec
-use Rattle.definition.specs.States.{State, inTurn}
-use Rattle.definition.specs.States.{Way}
+use Rattle.definition.specs.States.{State, inTurn, Way}
 use Rattle.definition.specs.Comprs.{propagate, useCompr}
 use Rattle.definition_once.specs.Inner.OnceWay.{Nested, onceWay}
 use Rattle.scope_state.specs.declared.Scope.{Scope}

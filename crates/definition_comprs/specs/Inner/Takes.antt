@@ -6,8 +6,7 @@ use Prim.Native.Nat.{ℕ, _<_}
 use Rattle.base.specs.Limits as limits
 use Rattle.base.specs.Sets.{member}
 use Rattle.names_width.specs.declared.Width.{Width}
-use Rattle.scope.specs.Scopes.{contains}
-use Rattle.scope.specs.Scopes.{Scope}
+use Rattle.scope.specs.Scopes.{contains, Scope}
 use Rattle.definition.specs.States.{QuerySchedule, scheduleOf, scopeIn}
 use Rattle.answer_text.specs.Inner.Stored.{Stored}
 use Rattle.definition_state.specs.Inner.Table.{answersOf}

@@ -9,9 +9,8 @@ use Rattle.sheet.specs.declared.Row.{Row}
 use Rattle.sheet.specs.Sheet.{Sheet}
 use Rattle.sheet.specs.Kinds.{isCompr}
 use Rattle.scope.specs.Traverse.{comprs}
-use Rattle.scope.specs.Scopes.{elements}
+use Rattle.scope.specs.Scopes.{elements, owns}
 use Rattle.scope.specs.Scopes as spec
-use Rattle.scope.specs.Scopes.{owns}
 use Rattle.definition.specs.States.{State, scheduleOf, scopeIn}
 use Rattle.definition.specs.Comprs.{comprsUse}
 use Rattle.definition_once.specs.Inner.OnceWay.{Nested, onceWay}

@@ -2,8 +2,7 @@
 use mathlib.Core.List.{List, foldl, map}
 use Prim.Native.Nat.{ℕ}
 use Rattle.base.specs.Limits as limits
-use Rattle.base.specs.Lists.{filter}
-use Rattle.base.specs.Lists.{range}
+use Rattle.base.specs.Lists.{filter, range}
 use Rattle.base.specs.Sets.{member}
 use Rattle.names.specs.declared.Names.{Names}
 use Rattle.sheet.specs.declared.Row.{Row}

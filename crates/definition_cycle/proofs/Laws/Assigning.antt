@@ -16,14 +16,12 @@ use Rattle.scope.specs.Trees.{Tree}
 use Rattle.scope.specs.Traverse.{leaves, vars}
 use Rattle.scope.specs.Scopes as spec
 use Rattle.scope.specs.Scopes.{Span, spanIn, isLocal}
-use Rattle.definition.specs.Uses.{assignedVars}
-use Rattle.definition.specs.Uses.{isBefore}
+use Rattle.definition.specs.Uses.{assignedVars, isBefore}
 use Rattle.definition.specs.States.{Fault, sound, undefined, usedBefore, lengths, indexVariable, State, ifSound, fail, setRun, failOr}
 use Rattle.definition.specs.Using.{usedBeforeAt, checkFirstUse, checkAssigned, recordEach}
 use Rattle.definition_room.specs.Inner.Leaves.{patternVars}
 use Rattle.definition_room.proofs.Laws.Adds.{adds-length, step-if}
 use Rattle.definition_room.proofs.Laws.Using.{assigned-few, adds-check-assigned}
-use Rattle.scope_state.specs.declared.Scope.{Scope}
 use Rattle.scope_walk.specs.Inner.Sheets.{sheetAt}
 use Rattle.scope_state.specs.Inner.Agrees.{Sets}
 use Rattle.scope_walk.specs.Inner.Exprs.{exprBy}

@@ -21,9 +21,8 @@ use Rattle.scope.specs.Trees.{Tree}
 use Rattle.scope.specs.Traverse.{vars}
 use Rattle.scope.specs.Statements.{every, literalOf}
 use Rattle.scope.specs.Scopes.{Scope, noScope, addLocal}
-use Rattle.definition.specs.States.{sound, State, setRun}
+use Rattle.definition.specs.States.{sound, State, setRun, Way}
 use Rattle.definition.specs.Using.{recordOne}
-use Rattle.definition.specs.States.{Way}
 use Rattle.definition.specs.Comprs.{Mods, allUsed, useExpr}
 use Rattle.definition.specs.Exprs.{processPlainExpr}
 use Rattle.definition.specs.Queries.{processEvery}

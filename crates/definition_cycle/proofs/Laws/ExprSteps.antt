@@ -19,9 +19,8 @@ use Rattle.sheet.specs.Kinds.{isCall, isAssign, isColEq}
 use Rattle.scope.specs.Trees.{Tree, rowOf}
 use Rattle.scope.specs.Paths.{getExtraArg}
 use Rattle.scope.specs.Scopes.{Scope, addUnscoped}
-use Rattle.definition.specs.States.{sound, Run, State, setScope, inTurn}
+use Rattle.definition.specs.States.{sound, Run, State, setScope, inTurn, Way}
 use Rattle.definition.specs.Using.{recordEach}
-use Rattle.definition.specs.States.{Way}
 use Rattle.definition.specs.Comprs.{Mods, allUsed, useExpr}
 use Rattle.definition.specs.Exprs.{assignPairing, processAssignExpr, processPlainExpr, processExpr, processExtraArg, processCall}
 use Rattle.definition_once.specs.Inner.OnceWay.{Nested}

@@ -20,19 +20,7 @@ module _ (t w : List ℕ) (q : ℕ) (k : Scope) (p : Progress) (l : List ℕ) (r
   pub query-finished : (whole : Scope) → whole ≡ withInputsOf k (p .scope) → (u : List ℕ) → Concluded (p .width) t w q whole l (p .count) u → Finished t w q k p l r u
   query-finished whole is u done = record {
     fault = same;
-    enters = λ fine a schedules h table.
-        done .enters a schedules
-        (rw is (record {
-          query = h .query;
-          whole = h .count;
-          scope = h .scope;
-          rows = h .rows;
-          few = h .few;
-          bounds = h .in-bounds;
-          fits = h .fits;
-          low = h .low;
-        }))
-        table;
+    enters = λ fine a schedules h table. done .enters a schedules (rw is h) table;
   }
 
   -- It is not, at a fault.

@@ -20,9 +20,8 @@ use Rattle.scope.specs.Traverse.{vars}
 use Rattle.scope.specs.Statements.{Literal, someVars, someIn, expr, notExpr, every, literalOf}
 use Rattle.scope.specs.Scopes.{Scope, noScope, addLocal, spanOf, spanIn}
 use Rattle.definition.specs.Uses.{define}
-use Rattle.definition.specs.States.{sound, State, addFirstUses, addDefinitions, failOr}
+use Rattle.definition.specs.States.{sound, State, addFirstUses, addDefinitions, failOr, Way}
 use Rattle.definition.specs.Using.{usedBeforeAt, checkFirstUse, recordOne}
-use Rattle.definition.specs.States.{Way}
 use Rattle.definition.specs.Comprs.{Mods, allUsed, useExpr}
 use Rattle.definition.specs.Exprs.{processPlainExpr}
 use Rattle.definition.specs.SomeIn.{someVarsIn, nonVars, processNonVar, processSomeIn}

@@ -3,7 +3,7 @@ use mathlib.Core.Path.{_≡_, refl, sym, ap, _∙_, subst}
 use mathlib.Core.Bool.{true, false≢true}
 use mathlib.Core.List.{List, [], _∷_, _++_, foldl-append}
 use mathlib.Core.Logic.{_⊎_, inl, inr}
-use Prim.Native.Nat.{ℕ, zero, suc, _+_, _-_, _*_, _≤_, _<_}
+use Prim.Native.Nat.{ℕ, suc, _+_, _-_, _*_, _≤_, _<_}
 use native.Mathlib.Omega.{arith}
 use lib.Dec.{ltb}
 use lib.ListN.{length, getD}
@@ -16,29 +16,27 @@ use Rattle.base.specs.Lists.{isSome, concatMap}
 use Rattle.scope.specs.Trees.{Tree}
 use Rattle.scope.specs.Traverse.{comprs}
 use Rattle.scope.specs.Statements.{Stmt, stmtsOf}
-use Rattle.scope.specs.Scopes.{NameSet, contains}
+use Rattle.scope.specs.Scopes.{NameSet, contains, Span, spanIn}
 use Rattle.scope.specs.Scopes as spec
-use Rattle.scope.specs.Scopes.{Span, spanIn}
 use Rattle.definition.specs.States.{sound, QuerySchedule, Run, State, setScope}
 use Rattle.definition.specs.Comprs.{processCompr, processComprs}
-use Rattle.definition.specs.Queries.{processStmts}
-use Rattle.definition.specs.Queries.{outputScope}
+use Rattle.definition.specs.Queries.{processStmts, outputScope}
 use Rattle.definition_once.specs.Inner.OnceWay.{analyzeOnce}
 use Rattle.definition_room.specs.Inner.Sizes.{total, weight}
 use Rattle.definition_room.specs.Inner.Adds.{FitsSchedule}
 use Rattle.definition_room.proofs.Laws.Adds.{adds-length}
 use Rattle.definition_room.proofs.Laws.Statements.{adds-process-stmts}
-use Rattle.definition_room.specs.Inner.Queries.{start}
+use Rattle.definition_room.proofs.Laws.Queries.{start}
 use Rattle.definition_room.specs.Inner.Lying.{StatementLies}
 use Rattle.definition_room.proofs.Laws.StatementHomes.{first-lies}
-use Rattle.scope_walk.specs.Inner.Onwards.{rowsLeft}
+use Rattle.scope_walk.proofs.Laws.Onwards.{left-most}
 use Rattle.scope_state.specs.declared.Scope.{Scope}
 use Rattle.scope_walk.specs.Inner.Sheets.{countsAt, specialAt, sheetAt, Accepted}
 use Rattle.scope_state.specs.Inner.Chains.{chainAt}
 use Rattle.scope_state.specs.Inner.Outers.{Outer}
 use Rattle.scope_walk.specs.Inner.Walking.{remains}
 use Rattle.scope_walk.proofs.Laws.Walking.{few-remain}
-use Rattle.scope_gather.specs.Inner.Queries.{stmtsLeft, Gathered}
+use Rattle.scope_gather.specs.Inner.Queries.{stmtsLeft, Gathered, stmtsAtRow}
 use Rattle.scope_gather.proofs.Laws.Queries.{first-statement-is, first-statement-low}
 use Rattle.scope_state.specs.Inner.Spans.{Agrees}
 use Rattle.scope_state.proofs.Laws.Spans.{agrees-opened}
@@ -55,6 +53,8 @@ use Rattle.definition_state.proofs.Laws.Held.{held-none}
 use Rattle.definition_state.specs.Inner.Table.{answersOf, Based, Low, Table}
 use Rattle.definition_state.specs.Inner.Frames.{Agree}
 use Rattle.definition_state.proofs.Laws.Steps.{sound-is}
+use Rattle.answer_schedule.specs.Inner.Concluded.{Ending, Schedulable}
+use Rattle.answer_schedule.proofs.Laws.Entering.{schedulable}
 use Rattle.definition_steps.proofs.Laws.Guards.{fault-cases, outputs-sound}
 use Rattle.definition_steps.proofs.Laws.Same.{same-local}
 use Rattle.definition_steps.proofs.Laws.KeepsNested.{keeps-outputs}
@@ -69,15 +69,9 @@ use Rattle.definition_cycle.specs.Inner.Sites.{nestedBy, wayBy, Surround
 use Rattle.definition_cycle.proofs.Laws.Moves.{room-same, inside-next, around-next, at-rows}
 use Rattle.definition_cycle.proofs.Laws.Steadies.{steady-fits, steady-comprs}
 use Rattle.definition_cycle.specs.Inner.Asks.{treeOf, AsksComprs, AsksStmts, Begun, AsksQuery}
-use Rattle.scope_gather.specs.Inner.Queries.{stmtsAtRow}
 use Rattle.definition_cycle.specs.Inner.Does.{DoesComprs, DoesStmts}
 use Rattle.definition_cycle.specs.Inner.Queries.{DoesQuery}
-use Rattle.definition_cycle.specs.Inner.Ends.{begin, OpenedFrom, Ending, Finished}
-
-left-most : (n v : ℕ) → rowsLeft n v ≤ suc n
-unfolding rowsLeft
-left-most n zero = omega arith
-left-most n (suc v) = omega arith
+use Rattle.definition_cycle.specs.Inner.Ends.{begin, OpenedFrom, Finished}
 
 few-stmts : (t : List ℕ) → Accepted t → (row : ℕ) → stmtsLeft t row ≤ 129
 few-stmts t ok row = omega (arith, left-most (getD t 3 0) row, ok .within .few-statements)
@@ -383,11 +377,11 @@ module _ (t : List ℕ) (z : Width) (outer work : List ℕ) (query key value : �
           unfolding sheetAt
           ending = record {
             query = refl;
-            count = refl;
+            whole = refl;
             scope = scope-agrees;
             rows = subst (Held (v .width) w₂ (v .count)) (beside .definitions) (last-agrees .whole well-last .rows);
             few = omega (arith, last-agrees .count, ap length (beside .definitions));
-            in-bounds = rw last-width (in-bounds (countsAt t) (specialAt t) t (ok .within) (ok .fine) z this this-fits this-low);
+            bounds = rw last-width (in-bounds (countsAt t) (specialAt t) t (ok .within) (ok .fine) z this this-fits this-low);
             fits = this-fits;
             low = rw last-width this-low;
           }
@@ -412,6 +406,14 @@ module _ (t : List ℕ) (z : Width) (outer work : List ℕ) (query key value : �
                   subst Ends (sym (analyze-sound n (sheetAt t) parents query outs run well)) (same-fault ∙ well, λ e. rw last-width at there)
               go (inr faulty) =
                   subst Ends (sym (analyze-faulty n (sheetAt t) parents query outs run faulty)) (same-fault, λ e. absurd (faulty e))
+
+      -- Without a fault, its rows are a list that the scheduler takes.
+      pub takes-last : isSound (v .fault) ≡ true → Schedulable (v .width) t w₂ query (v .count)
+      takes-last fine =
+          let run = runWith (b .schedules) in
+          let well = sym (ap (λ (r : Run). r .fault) (beside (b .parents) run (b .beneath) refl (b .table) .run))
+          ∙ sym (last-agrees (b .parents) run (b .beneath) refl (b .table) .fault) ∙ sound-is (v .fault) fine in
+          schedulable (v .width) t w₂ query _ spans (v .count) _ (omega (arith, room-last)) (ending (b .parents) run (b .beneath) refl (b .table) well)
 
       pub does-query : (levels : ℕ) → levels ≡ suc n → (r : Fault) (w₃ : List ℕ) → Finished t w₂ query (s .scope) v spans r w₃
           → DoesQuery t z outer query key value levels work r w₃

@@ -12,11 +12,11 @@ use Rattle.sheet.specs.Inner.Sheet.{rowAt}
 use Rattle.sheet.specs.Kinds.{isPattern}
 use Rattle.scope.specs.Trees.{Tree, treeAt}
 use Rattle.scope.specs.Traverse.{comprs}
+use Rattle.base.proofs.Laws.ListLaws.{concatMap-append}
 use Rattle.definition.specs.Uses.{usedVars}
 use Rattle.definition.specs.Comprs.{comprsUse, allUsed}
 use Rattle.definition.specs.SomeIn.{nonVars}
 use Rattle.definition_once.specs.Inner.OnceWay.{onceWay}
-use Rattle.base.proofs.Laws.ListLaws.{concatMap-append}
 use Rattle.scope_state.specs.declared.Scope.{Scope}
 use Rattle.scope_walk.specs.Inner.Sheets.{sheetAt, Accepted}
 use Rattle.scope_walk.specs.Inner.Exprs.{exprBy}

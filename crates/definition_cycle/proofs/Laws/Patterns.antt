@@ -3,10 +3,10 @@ use mathlib.Core.Path.{_≡_, refl, sym, ap, _∙_}
 use mathlib.Core.Bool.{Bool, true, false, cond, _&&_, _||_}
 use mathlib.Core.List.{List, [], _∷_, _++_, append-assoc, append-nil}
 use mathlib.Core.Logic.{_⊎_, inl, inr}
-use Prim.Native.Nat.{ℕ, zero, suc, _+_, _≤_}
+use Prim.Native.Nat.{ℕ, zero, suc, _≤_}
 use native.Mathlib.Omega.{arith}
 use lib.ListN.{getD}
-use Rattle.base.specs.Lists.{filter}
+use Rattle.base.proofs.Laws.Lists.{filter-append}
 use Rattle.sheet.specs.declared.Row.{Row}
 use Rattle.sheet.specs.Inner.Sheet.{rowAt}
 use Rattle.sheet.specs.Sheet.{isInput}
@@ -23,15 +23,6 @@ use Rattle.definition_literal.specs.Inner.SomeIn.{NonVar}
 use Rattle.definition_cycle.specs.Inner.Asks.{otherAt}
 use Rattle.definition_steps.specs.Inner.Pairs.{leavesAt}
 use Rattle.definition_cycle.proofs.Laws.Witnesses.{keptScope, sets-of}
-
-pub filter-append : {A : Type 0} (f : A → Bool) (k l : List A) → filter f (k ++ l) ≡ filter f k ++ filter f l
-filter-append f [] l = refl
-filter-append f (x ∷ k) l = go (f x) (filter-append f k l)
-  where
-    go : (b : Bool) → filter f (k ++ l) ≡ filter f k ++ filter f l
-        → cond b (x ∷ filter f (k ++ l)) (filter f (k ++ l)) ≡ cond b (x ∷ filter f k) (filter f k) ++ filter f l
-    go true ih = ap (λ m. x ∷ m) ih
-    go false ih = ih
 
 module _ (t : List ℕ) where
   pub other-is : (row : ℕ) → (row ≡ 0 → ⊥) → otherAt t row ≡ exprBy t false row ∷ []

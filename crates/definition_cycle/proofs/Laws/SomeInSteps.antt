@@ -6,6 +6,7 @@ use mathlib.Core.Logic.{_⊎_, inl, inr}
 use Prim.Native.Nat.{ℕ, suc, _+_, _≤_, max}
 use native.Mathlib.Omega.{arith}
 use lib.ListN.{length, length-map}
+use Rattle.base.proofs.Laws.Lists.{filter-append}
 use Rattle.base.specs.Sets.{members}
 use Rattle.names.specs.Inner.Sets.{Empty}
 use Rattle.names.specs.declared.Names.{Names}
@@ -15,15 +16,14 @@ use Rattle.sheet.specs.declared.Row.{Row}
 use Rattle.scope.specs.Trees.{Tree, treeAt}
 use Rattle.scope.specs.Traverse.{vars}
 use Rattle.scope.specs.Statements.{literalOf}
+use Rattle.base.proofs.Laws.ListLaws.{concatMap-append}
 use Rattle.scope.specs.Scopes.{Scope, spanOf}
-use Rattle.definition.specs.Uses.{nameOf, define}
-use Rattle.definition.specs.Uses.{addFirstUse}
+use Rattle.definition.specs.Uses.{nameOf, define, addFirstUse}
 use Rattle.definition.specs.States.{sound, State, addFirstUses, addDefinitions}
 use Rattle.definition.specs.Using.{recordOne}
 use Rattle.definition.specs.Comprs.{Mods, allUsed, useExpr}
 use Rattle.definition.specs.SomeIn.{someVarsIn, nonVars, processSomeIn}
 use Rattle.definition_room.specs.Inner.Sizes.{total, literalSize}
-use Rattle.base.proofs.Laws.ListLaws.{concatMap-append}
 use Rattle.definition_room.proofs.Laws.Lists.{length-filter}
 use Rattle.definition_room.specs.Inner.Leaves.{patternVars, bracketVars}
 use Rattle.definition_room.proofs.Laws.Leaves.{vars-append, brackets-fit, leaves-fit}
@@ -66,7 +66,7 @@ use Rattle.definition_cycle.proofs.Laws.Moves.{Steady, Enclosing, at-re
 use Rattle.definition_cycle.proofs.Laws.Steadies.{steady-fits, steady-then, steady-use, steady-others}
 use Rattle.definition_cycle.specs.Inner.AllUsed.{partsUse, othersUse, OthersUsed}
 use Rattle.definition_cycle.proofs.Laws.Witnesses.{is-sound, members-held, someMods, some-stand, keptScope, sets-of}
-use Rattle.definition_cycle.proofs.Laws.Patterns.{filter-append, non-vars-append}
+use Rattle.definition_cycle.proofs.Laws.Patterns.{non-vars-append}
 use Rattle.definition_cycle.proofs.Laws.PatternSteps.{processParts, processOthers, steady-non-vars, others-append}
 
 -- ---- laws

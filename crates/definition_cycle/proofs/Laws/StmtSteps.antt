@@ -8,7 +8,7 @@ use native.Mathlib.Omega.{arith}
 use lib.ListN.{getD}
 use borrow.Author.Tests.{lt-ltb, ltb-true}
 use Rattle.base.proofs.Laws.Truth.{bool-cases}
-use Rattle.base.specs.Lists.{all}
+use Rattle.base.specs.Lists.{all, concatMap}
 use Rattle.base.proofs.Laws.Members.{all-mem}
 use Rattle.base.specs.Sets.{members}
 use Rattle.names.specs.Inner.Sets.{Empty}
@@ -22,7 +22,6 @@ use Rattle.sheet.specs.Inner.Records.{statementRowAt}
 use Rattle.order.specs.Definitions.{Definition}
 use Rattle.order.specs.Call.{definitionAt}
 use Rattle.order_rows.specs.Inner.Rows.{heldRow}
-use Rattle.base.specs.Lists.{concatMap}
 use Rattle.base.proofs.Laws.ListLaws.{all-append, all-weaken}
 use Rattle.scope.specs.Trees.{Tree, treeAt}
 use Rattle.scope.specs.Traverse.{comprs}
@@ -46,7 +45,7 @@ use Rattle.definition_room.proofs.Laws.StatementHomes.{StatementInside, stateme
 use Rattle.scope_walk.specs.Inner.Sheets.{countsAt, sheetAt, Accepted}
 use Rattle.scope_state.specs.Inner.Chains.{chainAt}
 use Rattle.scope_state.specs.Inner.Outers.{Outer}
-use Rattle.scope_gather.specs.Inner.Queries.{stmtsLeft}
+use Rattle.scope_gather.specs.Inner.Queries.{stmtsLeft, stmtsAtRow}
 use Rattle.scope_gather.proofs.Laws.Queries.{stmts-at-none, stmts-at-row, next-stmt}
 use Rattle.definition_walk.specs.Inner.Own.{Holds}
 use Rattle.definition_walk.proofs.Laws.Adds.{adds-holds}
@@ -71,7 +70,6 @@ use Rattle.definition_cycle.specs.Inner.Sites.{nestedBy, wayBy, Under, R
 use Rattle.definition_cycle.proofs.Laws.Moves.{at-less, at-ready, under-next, runs-under, runs-under-then, runs-under-as}
 use Rattle.definition_cycle.proofs.Laws.Steadies.{steady-fits}
 use Rattle.definition_cycle.specs.Inner.Asks.{AsksLiteral, AsksStmts}
-use Rattle.scope_gather.specs.Inner.Queries.{stmtsAtRow}
 use Rattle.definition_cycle.specs.Inner.Does.{DoesStep, literalStep, DoesStmts}
 use Rattle.definition_cycle.proofs.Laws.ComprRows.{at-low, at-lies}
 

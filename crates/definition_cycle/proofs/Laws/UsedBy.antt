@@ -11,12 +11,11 @@ use Rattle.names_width.specs.declared.Width.{Width}
 use Rattle.sheet.specs.Sheet.{Sheet}
 use Rattle.scope.specs.Trees.{Tree}
 use Rattle.scope.specs.Traverse.{comprs}
+use Rattle.base.proofs.Laws.ListLaws.{concatMap-append}
 use Rattle.definition.specs.Uses.{usedVars}
-use Rattle.definition.specs.States.{State}
-use Rattle.definition.specs.States.{Way}
+use Rattle.definition.specs.States.{State, Way}
 use Rattle.definition.specs.Comprs.{comprsUse, allUsed}
 use Rattle.definition_once.specs.Inner.OnceWay.{onceWay}
-use Rattle.base.proofs.Laws.ListLaws.{concatMap-append}
 use Rattle.scope_state.specs.declared.Scope.{Scope}
 use Rattle.scope_walk.specs.Inner.Sheets.{sheetAt}
 use Rattle.scope_walk.specs.Inner.Exprs.{exprBy}

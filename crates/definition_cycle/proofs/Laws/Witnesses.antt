@@ -1,22 +1,19 @@
 -- Lists, scopes and modifiers that the code's sets stand for: where a function asks for some, these are there.
-use mathlib.Core.Path.{_≡_, refl, sym, _∙_}
+use mathlib.Core.Path.{_≡_, refl, _∙_}
 use mathlib.Core.Bool.{Bool, true, false, cond, _||_}
 use mathlib.Core.List.{List, [], _∷_, map}
 use mathlib.Core.Logic.{_⊎_, inl, inr}
 use mathlib.Core.Option.{some}
 use Prim.Native.Nat.{ℕ}
 use lib.Dec.{eqb}
-use borrow.Author.Tests.{eqb-true, eq-eqb}
-use Rattle.base.specs.Lists.{elem}
-use Rattle.base.proofs.Laws.Truth.{bool-cases, bool-ext}
+use Rattle.base.specs.Lists.{elem, isSome}
+use Rattle.base.proofs.Laws.Truth.{bool-cases, eqb-sym}
 use Rattle.base.specs.Sets.{member, members}
 use Rattle.names.proofs.Laws.Laws.{elem-members}
 use Rattle.names.specs.declared.Names.{Names}
-use Rattle.base.specs.Lists.{isSome}
 use Rattle.scope.specs.Trees.{treeAt}
 use Rattle.scope.specs.Traverse.{comprs}
-use Rattle.scope.specs.Scopes.{contains}
-use Rattle.scope.specs.Scopes.{Span, Scope, spanIn}
+use Rattle.scope.specs.Scopes.{contains, Span, Scope, spanIn}
 use Rattle.definition.specs.States.{sound}
 use Rattle.definition.specs.Comprs.{Mods}
 use Rattle.scope_state.specs.declared.Scope.{Scope as Kept}
@@ -44,9 +41,6 @@ some-stand t x = record { comprs = refl; names = members-held (x .names) }
 
 abbrev spanAt : ℕ → Span
 spanAt x = record { name = x; line = 0; col = 0 }
-
-eqb-sym : (a b : ℕ) → eqb a b ≡ eqb b a
-eqb-sym a b = bool-ext _ _ (λ p. eq-eqb b a (sym (eqb-true a b p))) (λ p. eq-eqb a b (sym (eqb-true b a p)))
 
 local-listed : (x : ℕ) (l : List ℕ) → isSome (spanIn (map spanAt l) x) ≡ elem x l
 local-listed x [] = refl

@@ -10,8 +10,7 @@ use Rattle.scope.specs.Trees.{Tree, treeAt}
 use Rattle.scope.specs.Traverse.{leaves, comprs}
 use Rattle.scope.specs.Scopes as spec
 use Rattle.definition.specs.Uses.{usedVars}
-use Rattle.definition.specs.States.{State}
-use Rattle.definition.specs.States.{Way}
+use Rattle.definition.specs.States.{State, Way}
 use Rattle.definition.specs.Comprs.{Mods, allUsed}
 use Rattle.definition.specs.SomeIn.{nonVars}
 use Rattle.definition_once.specs.Inner.OnceWay.{Nested, onceWay}

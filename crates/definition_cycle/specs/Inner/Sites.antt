@@ -4,8 +4,7 @@ use mathlib.Core.List.{List, _∷_}
 use Prim.Native.Nat.{ℕ, _+_, _≤_}
 use lib.ListN.{length, getD}
 use Rattle.scope.specs.Scopes.{Scope}
-use Rattle.definition.specs.States.{sound, State}
-use Rattle.definition.specs.States.{Way}
+use Rattle.definition.specs.States.{sound, State, Way}
 use Rattle.definition_once.specs.Inner.OnceWay.{Nested, onceWay, analyzeOnce}
 use Rattle.definition_room.specs.Inner.Lying.{Lies}
 use Rattle.scope_walk.specs.Inner.Sheets.{countsAt, sheetAt}

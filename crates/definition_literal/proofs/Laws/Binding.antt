@@ -5,15 +5,14 @@ use mathlib.Core.List.{List, [], _∷_, foldl}
 use Prim.Native.Nat.{ℕ}
 use lib.Dec.{eqb}
 use Rattle.base.proofs.Laws.Truth.{not-both, or-left-comm}
-use Rattle.base.specs.Lists.{elem}
+use Rattle.base.specs.Lists.{elem, isSome}
 use Rattle.base.specs.Sets.{member}
 use Rattle.names.specs.Inner.Sets.{Union}
 use Rattle.names.specs.declared.Names.{Names}
-use Rattle.base.specs.Lists.{isSome}
-use Rattle.scope.specs.Scopes.{NameSet, contains, insert}
+use Rattle.scope.specs.Scopes.{NameSet, contains, insert, Span, spanIn, addUnscoped}
 use Rattle.scope.specs.Scopes as spec
-use Rattle.scope.specs.Scopes.{Span, spanIn, addUnscoped}
 use Rattle.scope_state.specs.declared.Scope.{Scope}
+use Rattle.scope_state.proofs.Laws.Agrees.{opened-rest}
 use Rattle.scope_state.specs.Inner.Spans.{Agrees}
 use Rattle.definition_walk.specs.Inner.Own.{Holds}
 use Rattle.definition_state.specs.declared.Progress.{Progress}
@@ -29,31 +28,16 @@ fold-unscoped (y ∷ l) s x =
     fold-unscoped l (addUnscoped s y) x ∙ or-left-comm (elem x l) (eqb x y) (s .unscoped x)
     ∙ sym (or-assoc (eqb x y) (elem x l) (s .unscoped x))
 
-fold-locals : (l : List ℕ) (s : spec.Scope) → foldl addUnscoped s l .locals ≡ s .locals
-unfolding addUnscoped
-fold-locals [] s = refl
-fold-locals (y ∷ l) s = fold-locals l (addUnscoped s y)
-
-fold-inputs : (l : List ℕ) (s : spec.Scope) → foldl addUnscoped s l .inputs ≡ s .inputs
-unfolding addUnscoped
-fold-inputs [] s = refl
-fold-inputs (y ∷ l) s = fold-inputs l (addUnscoped s y)
-
-fold-flag : (l : List ℕ) (s : spec.Scope) → foldl addUnscoped s l .usesInput ≡ s .usesInput
-unfolding addUnscoped
-fold-flag [] s = refl
-fold-flag (y ∷ l) s = fold-flag l (addUnscoped s y)
-
 module _ (k : Scope) (extras : Names) where
   pub joined : (ws : List ℕ) → Union (k .unscoped .words) (extras .words) ws
       → Joined k extras (record { locals = k .locals; unscoped = record { words = ws }; inputs = k .inputs; uses = k .uses })
   joined ws u s l a h = record {
-    locals = λ x. ap (λ (spans : List Span). isSome (spanIn spans x)) (fold-locals l s) ∙ a .locals x;
+    locals = λ x. ap (λ (spans : List Span). isSome (spanIn spans x)) (opened-rest l s .locals) ∙ a .locals x;
     unscoped = λ x.
         fold-unscoped l s x ∙ ap₂ _||_ (h .has x) (a .unscoped x) ∙ or-comm (member (extras .words) x) (member (k .unscoped .words) x)
         ∙ sym (u .has x);
-    inputs = λ x. ap (λ (f : NameSet). contains f x) (fold-inputs l s) ∙ a .inputs x;
-    flag = fold-flag l s ∙ a .flag;
+    inputs = λ x. ap (λ (f : NameSet). contains f x) (opened-rest l s .inputs) ∙ a .inputs x;
+    flag = opened-rest l s .flag ∙ a .flag;
   }
 
   -- The locals stand where they stood.
@@ -61,7 +45,7 @@ module _ (k : Scope) (extras : Names) where
       → Agrees r spans (foldl addUnscoped s l)
   joined-agrees r j spans s l a h = record {
     sets = j s l (a .sets) h;
-    placed = λ x p is. a .placed x p (sym (ap (λ (found : List Span). spanIn found x) (fold-locals l s)) ∙ is);
+    placed = λ x p is. a .placed x p (sym (ap (λ (found : List Span). spanIn found x) (opened-rest l s .locals)) ∙ is);
   }
 
 module _ (p : Progress) (extras : Names) where

@@ -9,20 +9,17 @@ use native.Mathlib.Omega.{arith}
 use lib.Dec.{eqb, ltb}
 use borrow.Author.Tests.{ltb-true, eqb-true}
 use Rattle.base.proofs.Laws.Truth.{bool-cases, not-both, or-cases}
-use Rattle.base.specs.Lists.{elem}
+use Rattle.base.specs.Lists.{elem, range, isSome}
 use Rattle.base.proofs.Laws.Lists.{elem-filter}
-use Rattle.base.specs.Lists.{range}
 use Rattle.base.proofs.Laws.Ranges.{elem-range}
 use Rattle.names.specs.Inner.Sets.{Empty}
 use Rattle.names.specs.declared.Names.{Names}
 use Rattle.sheet.specs.Sheet.{nameBound}
-use Rattle.base.specs.Lists.{isSome}
 use Rattle.scope.specs.Trees.{Tree, nil, node, treeAt}
 use Rattle.scope.proofs.Laws.TreeRows as rows
 use Rattle.scope.proofs.Laws.TreeRows.{rowsPass}
-use Rattle.scope.specs.Scopes.{empty, contains, insert, elements}
+use Rattle.scope.specs.Scopes.{empty, contains, insert, elements, Span, noScope, addLocal, addUnscoped, addInput, useInput}
 use Rattle.scope.specs.Scopes as spec
-use Rattle.scope.specs.Scopes.{Span, noScope, addLocal, addUnscoped, addInput, useInput}
 use Rattle.scope.specs.Gather.{gatherAssignedVars}
 use Rattle.scope.proofs.Laws.GatherLaws.{KeptByGathering, assigned-kept}
 use Rattle.scope.specs.Inner.Below.{nameBelow}

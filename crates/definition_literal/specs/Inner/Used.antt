@@ -8,8 +8,8 @@ use Rattle.definition.specs.Uses.{usedVars}
 use Rattle.scope_state.specs.declared.Scope.{Scope}
 use Rattle.scope_walk.specs.Inner.Sheets.{sheetAt}
 use Rattle.scope_state.specs.Inner.Agrees.{Sets}
-use Rattle.definition_walk.specs.Inner.Own.{Holds}
 use Rattle.scope_walk.specs.Inner.Exprs.{exprBy}
+use Rattle.definition_walk.specs.Inner.Own.{Holds}
 use Rattle.definition_walk.specs.Inner.Adds.{Adds}
 
 module _ (t : List ℕ) (k : Scope) (extras : Names) where

@@ -10,8 +10,7 @@ use lib.Dec.{eqb}
 use lib.ListN.{length}
 use borrow.Author.Tests.{eqb-true}
 use Rattle.base.proofs.Laws.Truth.{not-both, or-cases, and-intro, and-left, and-right}
-use Rattle.base.specs.Lists.{all, filter}
-use Rattle.base.specs.Lists.{range}
+use Rattle.base.specs.Lists.{all, filter, range}
 use Rattle.order.specs.Definitions.{Definition}
 use Rattle.base.proofs.Laws.ListLaws.{all-append, all-weaken, all-kept, all-filter}
 use Rattle.base.proofs.Laws.Mapping.{toList}
@@ -21,15 +20,13 @@ use Rattle.sheet.specs.Kinds.{isArray, isAssign, isColEq}
 use Rattle.scope.specs.Trees.{Tree, nil, node, rowOf, firstOf, secondOf, chain, outputsOf}
 use Rattle.scope.specs.Traverse.{comprs}
 use Rattle.scope.proofs.Laws.TreeRows.{rowsPass, rows-of-parts, alone-rows, comprs-rows, outputs-rows, first-rows, second-rows}
-use Rattle.scope.specs.Scopes.{empty, contains, insert, elements}
-use Rattle.scope.specs.Scopes.{Scope, noScope, owns, addLocal, addUnscoped, addInput, useInput}
+use Rattle.scope.specs.Scopes.{empty, contains, insert, elements, Scope, noScope, owns, addLocal, addUnscoped, addInput, useInput}
 use Rattle.scope.specs.Gather.{gatherAssignedVars}
 use Rattle.scope.proofs.Laws.GatherLaws as gather
 use Rattle.scope.proofs.Laws.GatherLaws.{assigned-kept}
 use Rattle.definition.specs.Uses.{assignedVars}
-use Rattle.definition.specs.States.{lengths, QuerySchedule, Run, State, scheduleOf, setScope, setRun, fail}
+use Rattle.definition.specs.States.{lengths, QuerySchedule, Run, State, scheduleOf, setScope, setRun, fail, Way}
 use Rattle.definition.specs.Using.{gatherUsedVars, checkAssigned, recordOne, recordEach}
-use Rattle.definition.specs.States.{Way}
 use Rattle.definition.specs.Comprs.{Mods, propagate, useCompr, allUsed, processCompr, processComprs, useExpr}
 use Rattle.definition.specs.Exprs.{Pairing, pair, mismatch, pairings, assignOneWay, assignPairing, processAssignExpr, processPlainExpr, processExpr, processExtraArg, processCall}
 use Rattle.definition_once.specs.Inner.OnceWay.{Nested, unlessScheduled, analyzeCompr, onceWay}

@@ -1,24 +1,21 @@
 -- Laws of `Named`.
-use mathlib.Core.Path.{_≡_, refl, sym, ap, _∙_}
-use mathlib.Core.Bool.{true, false, _||_}
-use mathlib.Core.List.{List, [], _∷_, List·Memᴰ, List·Memᴰ·head, List·Memᴰ·tail, List·Memᴰ·not-nil}
-use mathlib.Core.Logic.{_⊎_, inl, inr, ⊎-elim}
+use mathlib.Core.Path.{_≡_, refl, ap, _∙_}
+use mathlib.Core.Bool.{true, _||_}
+use mathlib.Core.List.{List·Memᴰ·not-nil}
+use mathlib.Core.Logic.{⊎-elim}
 use mathlib.Core.Option.{Option, none, some}
 use Prim.Native.Nat.{ℕ, _<_}
-use native.Mathlib.Omega.{arith}
 use lib.Dec.{eqb, ltb}
 use borrow.Author.Tests.{eqb-true, ltb-true}
-use Rattle.base.proofs.Laws.Truth.{bool-cases, and-left, and-right, or-cases}
-use Rattle.base.specs.Lists.{all}
-use Rattle.base.specs.Lists.{range}
+use Rattle.base.proofs.Laws.Truth.{and-left, and-right, or-cases}
+use Rattle.base.specs.Lists.{all, range}
 use Rattle.base.proofs.Laws.Members.{all-mem}
 use Rattle.order.specs.Definitions.{Definition, Named}
-use Rattle.base.proofs.Laws.ListLaws.{all-weaken, all-kept}
+use Rattle.base.proofs.Laws.ListLaws.{all-weaken, all-kept, find-some}
 use Rattle.sheet.specs.Sheet.{Sheet, nameBound}
 use Rattle.scope.specs.Statements.{stmtsOf}
 use Rattle.scope.proofs.Laws.StatementRows.{stmts-rows}
-use Rattle.scope.specs.Scopes.{contains, elements}
-use Rattle.scope.specs.Scopes.{Scope, owns}
+use Rattle.scope.specs.Scopes.{contains, elements, Scope, owns}
 use Rattle.scope.specs.Inner.Below.{nameBelow, Below}
 use Rattle.scope.proofs.Laws.Below.{unscoped-below, input-below, flag-below, gathered-below}
 use Rattle.definition.specs.States.{QuerySchedule, scheduleOf}
@@ -59,18 +56,6 @@ unfolding ownDefinition
 own-used n sc b d h =
     all-weaken (owns sc) (λ x. ltb x n) (b .own) (d .used) (and-right (eqb (d .var) 0 || owns sc (d .var)) (all (owns sc) (d .used)) h)
 
--- The schedule found for a query stands in the table.
-pub found-in : (l : List QuerySchedule) (q : ℕ) (a : QuerySchedule) → scheduleOf l q ≡ some a → List·Memᴰ a l
-found-in [] q a e = absurd (none-some a e)
-  where
-    none-some : (a : QuerySchedule) → none ≡ some a → ⊥
-    none-some a e = let z : _≡_ {A = ℕ} 0 1 = cc in omega arith
-found-in (b ∷ l) q a e = go (bool-cases (eqb (b .query) q)) (λ g. found-in l q a g)
-  where
-    go : (eqb (b .query) q ≡ true) ⊎ (eqb (b .query) q ≡ false) → (scheduleOf l q ≡ some a → List·Memᴰ a l) → List·Memᴰ a (b ∷ l)
-    go (inl h) ih = let f : some b ≡ some a = rw h at e in let s : b ≡ a = cc in List·Memᴰ·head (sym s)
-    go (inr h) ih = List·Memᴰ·tail (ih (rw h at e))
-
 -- Where the names of all rows are below n:
 module _ (n : ℕ) (some-name : ltb 0 n ≡ true) (sheet : Sheet) (names : NamesUnder n sheet) where
   -- Those of every scope are.
@@ -87,5 +72,5 @@ module _ (n : ℕ) (some-name : ltb 0 n ≡ true) (sheet : Sheet) (names : Names
       go : (o : Option QuerySchedule) → scheduleOf (analyzeQuerySnippetOnce sheet .schedules) q ≡ o → Named (definitionsIn o) n
       go none e d m = absurd (List·Memᴰ·not-nil m)
       go (some a) e d m =
-          let i = found-in (analyzeQuerySnippetOnce sheet .schedules) q a e in
+          let i = find-some _ (analyzeQuerySnippetOnce sheet .schedules) e .0 in
           own-below n some-name (a .scope) (scopes-below a i) d (all-mem (ownDefinition (a .scope)) (a .definitions) (own-names sheet a i) m)

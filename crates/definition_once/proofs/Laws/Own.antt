@@ -7,20 +7,17 @@ use Prim.Native.Nat.{ℕ}
 use lib.Dec.{eqb}
 use borrow.Author.Tests.{eq-eqb}
 use Rattle.base.proofs.Laws.Truth.{bool-cases, and-intro, and-left, and-right, or-left, or-right, or-cases}
-use Rattle.base.specs.Lists.{all, filter, elem}
+use Rattle.base.specs.Lists.{all, filter, elem, range}
 use Rattle.base.proofs.Laws.Lists.{all-elem}
-use Rattle.base.specs.Lists.{range}
 use Rattle.order.specs.Definitions.{Definition}
 use Rattle.base.proofs.Laws.ListLaws.{all-append, all-weaken, all-kept, all-map, concatMap-always}
 use Rattle.sheet.specs.Sheet.{Sheet, nameBound, isSpecial}
 use Rattle.sheet.specs.Kinds.{isVar, isRefBrack}
 use Rattle.scope.specs.Trees.{Tree, rowOf, firstOf, secondOf}
 use Rattle.scope.specs.Traverse.{traverse, leaves, vars, comprs}
-use Rattle.scope.specs.Scopes.{contains, insert, elements}
-use Rattle.scope.specs.Scopes.{Scope, isLocal, owns, addUnscoped, addInput, useInput}
+use Rattle.scope.specs.Scopes.{contains, insert, elements, Scope, isLocal, owns, addUnscoped, addInput, useInput}
 use Rattle.definition.specs.Uses.{define, nameOf, assignedVars, indexVars, isUse, usedAt, usedVars, indexDefinitionsAt, indexDefinitions}
-use Rattle.definition.specs.States.{State}
-use Rattle.definition.specs.States.{Way}
+use Rattle.definition.specs.States.{State, Way}
 use Rattle.definition.specs.Comprs.{Mods, comprsUse, allUsed}
 use Rattle.definition.specs.Queries.{modsOf}
 use Rattle.definition_once.specs.Inner.Own.{ownDefinition}

@@ -7,8 +7,7 @@ use Rattle.order.specs.Definitions.{Definition}
 use Rattle.base.proofs.Laws.ListLaws.{all-append, all-weaken, all-always}
 use Rattle.sheet.specs.declared.Row.{Row}
 use Rattle.sheet.specs.Sheet.{Sheet}
-use Rattle.scope.specs.Scopes.{elements}
-use Rattle.scope.specs.Scopes.{Scope, addUnscoped, addInput, useInput}
+use Rattle.scope.specs.Scopes.{elements, Scope, addUnscoped, addInput, useInput}
 use Rattle.definition_once.specs.Inner.OnceWay.{analyzeQuerySnippetOnce}
 use Rattle.definition_once.specs.Inner.Own.{ownDefinition}
 use Rattle.definition_once.proofs.Laws.Own.{Grows, own-grows, grows-flag, grows-input, grows-one}

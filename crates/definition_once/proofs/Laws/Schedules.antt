@@ -7,8 +7,7 @@ use Prim.Native.Nat.{ℕ, zero, suc}
 use lib.Dec.{eqb}
 use lib.ListN.{length}
 use Rattle.base.proofs.Laws.Truth.{bool-cases, not-both}
-use Rattle.base.specs.Lists.{all}
-use Rattle.base.specs.Lists.{range}
+use Rattle.base.specs.Lists.{all, range}
 use Rattle.order.specs.Definitions.{Definition}
 use Rattle.base.specs.Limits.{nesting}
 use Rattle.sheet.specs.Sheet.{Sheet, nameBound}
@@ -17,12 +16,10 @@ use Rattle.scope.specs.Trees.{Tree}
 use Rattle.scope.specs.Statements.{stmtsOf}
 use Rattle.scope.proofs.Laws.TreeRows.{rowsPass}
 use Rattle.scope.proofs.Laws.StatementRows.{stmts-rows}
-use Rattle.scope.specs.Scopes.{empty, contains, elements}
-use Rattle.scope.specs.Scopes.{Scope}
+use Rattle.scope.specs.Scopes.{empty, contains, elements, Scope}
 use Rattle.scope.specs.Gather.{gatherLocalVars}
 use Rattle.definition.specs.States.{scopeIn, scheduleOf, Fault, sound, undefined, usedBefore, lengths, indexVariable, QuerySchedule, Run, State, ifSound}
-use Rattle.definition.specs.Queries.{processStmts}
-use Rattle.definition.specs.Queries.{scheduled, analyzeOutputExpr, analyzeQuery}
+use Rattle.definition.specs.Queries.{processStmts, scheduled, analyzeOutputExpr, analyzeQuery}
 use Rattle.definition_once.specs.Inner.OnceWay.{Nested, onceWay, analyzeOnce, analyzeQuerySnippetOnce}
 use Rattle.definition_once.proofs.Laws.Steps.{KeptByChanges, Rises, HoldsBoth}
 use Rattle.definition_once.proofs.Laws.ExprSteps.{rowPasses}

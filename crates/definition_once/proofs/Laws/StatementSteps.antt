@@ -5,9 +5,8 @@ use mathlib.Core.List.{List, [], _∷_, _++_, map, foldl}
 use Prim.Native.Nat.{ℕ, suc}
 use lib.Dec.{eqb}
 use Rattle.base.proofs.Laws.Truth.{and-left, and-right, or-right}
-use Rattle.base.specs.Lists.{all}
+use Rattle.base.specs.Lists.{all, concatMap}
 use Rattle.order.specs.Definitions.{Definition}
-use Rattle.base.specs.Lists.{concatMap}
 use Rattle.base.proofs.Laws.ListLaws.{all-append, all-weaken, all-kept, all-filter, all-map, all-concatMap, concatMap-always}
 use Rattle.sheet.specs.declared.Row.{Row}
 use Rattle.sheet.specs.Sheet.{Sheet, isInput}
@@ -20,14 +19,12 @@ use Rattle.scope.proofs.Laws.TreeRows.{rowsPass, leaves-rows, comprs-rows, extr
 use Rattle.scope.proofs.Laws.StatementRows.{literalRows, stmtRows}
 use Rattle.scope.specs.Scopes.{Scope, noScope, spanOf, isLocal, owns, addLocal}
 use Rattle.definition.specs.Uses.{define, indexDefinitions}
-use Rattle.definition.specs.States.{indexVariable, QuerySchedule, Run, State, addFirstUses, addDefinitions, setRun, inTurn}
+use Rattle.definition.specs.States.{indexVariable, QuerySchedule, Run, State, addFirstUses, addDefinitions, setRun, inTurn, Way}
 use Rattle.definition.specs.Using.{gatherUsedVars, recordOne, atLeastOne}
-use Rattle.definition.specs.States.{Way}
 use Rattle.definition.specs.Comprs.{Mods, propagate, allUsed, processComprs, useExpr}
 use Rattle.definition.specs.Exprs.{processPlainExpr}
 use Rattle.definition.specs.SomeIn.{someVarsIn, nonVars, failIfSome, processNonVar, processSomeIn}
-use Rattle.definition.specs.Queries.{modsOf, processEvery, processLiteral, processStmt, processStmts}
-use Rattle.definition.specs.Queries.{outputScope, outputCompr, analyzeOutputExpr}
+use Rattle.definition.specs.Queries.{modsOf, processEvery, processLiteral, processStmt, processStmts, outputScope, outputCompr, analyzeOutputExpr}
 use Rattle.definition_once.specs.Inner.OnceWay.{Nested, analyzeCompr, onceWay}
 use Rattle.definition_once.proofs.Laws.Own.{define-own, local-own, all-used-own, mods-own}
 use Rattle.definition_once.proofs.Laws.Steps.{KeptByChanges, Rises, HoldsBoth, KeepsBoth, Good, good-same, good-end, good-then, good-fold, good-first-uses, good-run, good-fail, good-definitions, good-used, good-propagate, good-one, good-at-least-one, good-checks}

@@ -14,12 +14,10 @@ use Rattle.sheet.specs.declared.Row.{Row}
 use Rattle.sheet.specs.Sheet.{Sheet}
 use Rattle.scope.specs.Trees.{Tree, rowOf}
 use Rattle.scope.specs.Traverse.{leaves, vars}
-use Rattle.scope.specs.Scopes.{elements}
-use Rattle.scope.specs.Scopes.{Scope, Span, spanOf, spanIn, isLocal, owns, addUnscoped, addInput, useInput}
+use Rattle.scope.specs.Scopes.{elements, Scope, Span, spanOf, spanIn, isLocal, owns, addUnscoped, addInput, useInput}
 use Rattle.definition.specs.Uses.{define, readsInput, undefinedVar, variablesUsed, indexDefinitions}
-use Rattle.definition.specs.States.{scopeIn, scheduleOf, Fault, sound, undefined, usedBefore, lengths, indexVariable, QuerySchedule, Run, State, setScope, addFirstUses, addDefinitions, setRun, fail, ifSound, inTurn, failOr}
+use Rattle.definition.specs.States.{scopeIn, scheduleOf, Fault, sound, undefined, usedBefore, lengths, indexVariable, QuerySchedule, Run, State, setScope, addFirstUses, addDefinitions, setRun, fail, ifSound, inTurn, failOr, Way}
 use Rattle.definition.specs.Using.{undefinedAt, gatherUsedVars, usedBeforeAt, checkFirstUse, checkAssigned, recordOne, recordEach, unlessSome, atLeastOne}
-use Rattle.definition.specs.States.{Way}
 use Rattle.definition.specs.Comprs.{propagate, comprsUse, useCompr}
 use Rattle.definition_once.specs.Inner.OnceWay.{Nested, comprScope, onceWay}
 use Rattle.definition_once.proofs.Laws.OnceWay.{comprInputs}

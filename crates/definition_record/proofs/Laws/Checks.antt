@@ -21,16 +21,16 @@ use Rattle.definition.specs.States.{State, sound, ifSound, fail, setRun, failOr
 use Rattle.definition.specs.Using.{usedBeforeAt, checkFirstUse, checkAssigned}
 use Rattle.scope_walk.specs.Inner.Sheets.{Accepted, exprCount}
 use Rattle.scope_walk.proofs.Laws.Exprs.{row-is}
+use Rattle.scope_walk.specs.Inner.Exprs.{exprBy}
 use Rattle.scope_vars.proofs.Laws.Inputs.{fold-vars}
 use Rattle.scope_state.specs.Inner.Chains.{chainAt}
 use Rattle.scope_state.proofs.Laws.Chains.{chain-none, chain-row}
-use Rattle.scope_walk.specs.Inner.Exprs.{exprBy}
+use Rattle.scope_walk.proofs.Laws.Walking.{LeavesWalk, walked-none, walked-turn}
 use Rattle.definition_state.specs.declared.Progress.{Progress}
 use Rattle.definition_state.specs.Inner.Frames.{guarded, Agree}
 use Rattle.definition_state.proofs.Laws.Frames.{runs-then, runs-none}
 use Rattle.definition_record.proofs.Laws.Guards.{guard-cases, runs-as}
 use Rattle.definition_record.specs.Inner.FirstUse.{UseChecked}
-use Rattle.definition_record.proofs.Laws.Leaves.{LeavesWalked, leaves-walked-none, leaves-walked-turn}
 use Rattle.definition_record.specs.Inner.Checks.{VarChecked, VarsChecked, LeafChecked, leafCheck, Checks, AssignedChecked}
 
 module _ (w : Row) (p : Progress) (fs : List ℕ) where
@@ -166,7 +166,7 @@ module _ (t : List ℕ) where
     others s w e = rw e
 
     abbrev Walks : ℕ → Bool → Progress → Progress → Type 0
-    Walks = LeavesWalked t Does does-as does-none does-then leafCheck others
+    Walks = LeavesWalk t Does does-as does-none does-then leafCheck others
 
     to-walk : (row : ℕ) (rest : Bool) (p r : Progress) → AssignedChecked t row rest p fs r → Walks row rest p r
     to-walk row rest p r h = does-as _ _ p r (λ s. sym (assigned-is (exprBy t rest row) s)) h
@@ -176,12 +176,12 @@ module _ (t : List ℕ) where
 
     module _ (ok : Accepted t) where
       pub checked-none : (row : ℕ) → row ≡ 0 → (rest : Bool) (p : Progress) → AssignedChecked t row rest p fs p
-      checked-none row z rest p = from-walk row rest p p (leaves-walked-none t Does does-as does-none does-then leafCheck others ok row z rest p)
+      checked-none row z rest p = from-walk row rest p p (walked-none t Does does-as does-none does-then leafCheck others ok row z rest p)
 
       pub checked-turn : (row : ℕ) → (row ≡ 0 → ⊥) → row ≤ exprCount t → (rest : Bool) (w : Row) → w ≡ rowAt t row
           → (inner : ℕ) → inner ≡ cond (isPattern w) (w .first) 0 → (next : ℕ) → next ≡ cond rest (w .next) 0 → (p a b r : Progress)
           → LeafChecked w p fs a → AssignedChecked t inner true a fs b → AssignedChecked t next true b fs r → AssignedChecked t row rest p fs r
       checked-turn row ne high rest w is inner i next n p a b r h₀ h₁ h₂ =
           from-walk row rest p r
-          (leaves-walked-turn t Does does-as does-none does-then leafCheck others ok row ne high rest w is inner i next n p a b r
+          (walked-turn t Does does-as does-none does-then leafCheck others ok row ne high rest w is inner i next n p a b r
           (h₀ t) (to-walk inner true a b h₁) (to-walk next true b r h₂))

@@ -1,14 +1,12 @@
 -- A set has no more members than a list that it holds.
 use mathlib.Core.Path.{_≡_, refl, sym}
-use mathlib.Core.Bool.{Bool, true, false}
+use mathlib.Core.Bool.{true, false}
 use mathlib.Core.List.{List, [], _∷_}
 use Prim.Native.Nat.{ℕ, _*_, _≤_}
 use native.Mathlib.Omega.{arith}
 use lib.ListN.{length}
-use Rattle.base.specs.Limits as limits
-use Rattle.base.specs.Lists.{filter, elem}
-use Rattle.base.proofs.Laws.Lists.{ascending}
-use Rattle.base.specs.Lists.{range}
+use Rattle.base.specs.Lists.{filter, elem, range}
+use Rattle.base.proofs.Laws.Lists.{ascending, filter-same}
 use Rattle.base.proofs.Laws.Ranges.{range-ascending}
 use Rattle.base.specs.Sets.{member, members}
 use Rattle.names.specs.declared.Names.{Names}
@@ -25,15 +23,8 @@ unfolding insert
 elem-few [] l h = omega (arith, none-pass l)
 elem-few (x ∷ xs) l h = omega (arith, filter-insert (λ y. elem y xs) x l h, elem-few xs l h)
 
-pub range-few : (xs : List ℕ) → length (filter (λ y. elem y xs) (range 0 limits.perName)) ≤ length xs
-range-few xs = elem-few xs (range 0 limits.perName) (range-ascending 0 limits.perName)
-
-same-test : (f g : ℕ → Bool) → ((n : ℕ) → f n ≡ g n) → (l : List ℕ) → filter f l ≡ filter g l
-same-test f g h [] = refl
-same-test f g h (x ∷ l) = rw (h x, same-test f g h l)
-
 pub held-few : (k : Names) (xs : List ℕ) → Holds k xs → length (members (k .words)) ≤ length xs
 unfolding members
 held-few k xs h =
     let top = 64 * length (k .words) in
-    rw (same-test (member (k .words)) (λ y. elem y xs) (λ n. sym (h .has n)) (range 0 top)) (elem-few xs (range 0 top) (range-ascending 0 top))
+    rw (filter-same (member (k .words)) (λ y. elem y xs) (λ n. sym (h .has n)) (range 0 top)) (elem-few xs (range 0 top) (range-ascending 0 top))

@@ -116,10 +116,3 @@ module _ (v : Width) (i : ℕ) (names used : Names) (without : Bool) (ws : List 
 
         same : (y : ℕ) → elem y (d .done) ≡ member (names .words) y
         same y = ap (elem y) all-done ∙ elem-members (names .words) y
-
--- Nothing is defined where there is no name.
-pub each-name-none : (v : Width) (i : ℕ) (names used : Names) (without : Bool) (ws rs : List ℕ) (count n : ℕ) → EachDefined v i names used without ws rs count n
-    → Holds names [] → n ≡ count
-each-name-none v i names used without ws rs count n d h =
-    let a = d .rows [] (members (used .words)) h (record { has = elem-members (used .words) }) in
-    omega (arith, d .few [] h, a .up)

@@ -22,7 +22,8 @@ use Rattle.definition_state.specs.declared.Fault.the-variants.{UsedBefore}
 use Rattle.definition_state.specs.declared.Progress.{Progress}
 use Rattle.definition_state.specs.Inner.Faults.{isSound}
 use Rattle.definition_state.specs.Inner.Frames.{failed, guarded, WholeState, Agree}
-use Rattle.definition_record.proofs.Laws.Guards.{guard-sound, if-same, runs-as, runs-fault, runs-sound}
+use Rattle.definition_state.proofs.Laws.Steps.{sound-is}
+use Rattle.definition_record.proofs.Laws.Guards.{if-same, runs-as, runs-fault, runs-sound}
 use Rattle.definition_record.specs.Inner.FirstUse.{UseChecked}
 
 -- ---- positions as numbers
@@ -100,7 +101,7 @@ module _ (w : Row) (p : Progress) (fs : List ℕ) where
     stays : ((s : State) → Firsts fs (s .firstUses) → asked w s ≡ s) → UseChecked w p fs p
     stays same = asking p refl refl (λ t spans work s e c h.
         subst (Agree t spans p fs work) (sym (same s (h .used-first))) (record {
-          fault = guard-sound (p .fault) fine ∙ sym e;
+          fault = sound-is (p .fault) fine ∙ sym e;
           count = c;
           whole = λ z. h;
         }))

@@ -20,7 +20,8 @@ use Rattle.definition_state.specs.Inner.Faults.{isSound}
 use Rattle.definition_state.proofs.Laws.Held.{held-append}
 use Rattle.definition_state.specs.Inner.Table.{answersOf, Table}
 use Rattle.definition_state.specs.Inner.Frames.{withCount, guarded, Runs, Ready}
-use Rattle.definition_record.proofs.Laws.Guards.{guard-sound, runs-sound}
+use Rattle.definition_state.proofs.Laws.Steps.{sound-is}
+use Rattle.definition_record.proofs.Laws.Guards.{runs-sound}
 use Rattle.definition_record.specs.Inner.Front.{FitsFront}
 
 pub ready-fits : (t : List ℕ) (p : Progress) (fs w : List ℕ) (more : ℕ) → Ready t p fs w more → FitsFront p w more
@@ -82,7 +83,7 @@ module _ (w v : List ℕ) (p : Progress) (enough : answersSize (p .width) ≤ le
       runs-sound t (addDefinitions ds) p fine fs w (withCount p n) fs (backAfter x w v)
       (record { long = back-length x w v enough same; up = all .up; wide = refl; before = all .before })
       (λ spans s e count h. record {
-        fault = guard-sound (p .fault) fine ∙ sym e;
+        fault = sound-is (p .fault) fine ∙ sym e;
         count = omega (arith, count, few, length-append (s .definitions) ds);
         whole = λ z. record {
           scope = h .scope;

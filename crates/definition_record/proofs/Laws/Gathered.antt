@@ -12,10 +12,10 @@ use Rattle.scope.specs.Trees.{Tree, rowOf}
 use Rattle.scope.specs.Traverse.{leaves}
 use Rattle.scope_walk.specs.Inner.Sheets.{Accepted, exprCount}
 use Rattle.scope_walk.specs.Inner.Exprs.{exprBy}
+use Rattle.scope_walk.proofs.Laws.Walking.{LeavesWalk, walked-none, walked-turn}
 use Rattle.definition_walk.proofs.Laws.Collects.{append-nil, collect}
 use Rattle.definition_walk.specs.Inner.Adds.{Adds}
 use Rattle.definition_walk.proofs.Laws.Adds.{adds-none, adds-then}
-use Rattle.definition_record.proofs.Laws.Leaves.{LeavesWalked, leaves-walked-none, leaves-walked-turn}
 
 module _ (t : List ℕ) (at : Row → List ℕ) (no-other : (w : Row) → isVar w ≡ false → at w ≡ []) where
   abbrev pub atLeaves : Tree → List ℕ
@@ -41,7 +41,7 @@ module _ (t : List ℕ) (at : Row → List ℕ) (no-other : (w : Row) → isVar 
   others l w e = ap (λ (m : List ℕ). l ++ m) (no-other w e) ∙ append-nil l
 
   abbrev Walks : ℕ → Bool → Names → Names → Type 0
-  Walks = LeavesWalked t Does does-as does-none does-then step others
+  Walks = LeavesWalk t Does does-as does-none does-then step others
 
   to-walk : (row : ℕ) (rest : Bool) (a b : Names) → Adds a (atLeaves (exprBy t rest row)) b → Walks row rest a b
   to-walk row rest a b h start l k =
@@ -54,7 +54,7 @@ module _ (t : List ℕ) (at : Row → List ℕ) (no-other : (w : Row) → isVar 
 
   module _ (ok : Accepted t) where
     pub gathered-none : (row : ℕ) → row ≡ 0 → (rest : Bool) (a : Names) → Adds a (atLeaves (exprBy t rest row)) a
-    gathered-none row z rest a = from-walk row rest a a (leaves-walked-none t Does does-as does-none does-then step others ok row z rest a)
+    gathered-none row z rest a = from-walk row rest a a (walked-none t Does does-as does-none does-then step others ok row z rest a)
 
     pub gathered-turn : (row : ℕ) → (row ≡ 0 → ⊥) → row ≤ exprCount t → (rest : Bool) (w : Row) → w ≡ rowAt t row
         → (inner : ℕ) → inner ≡ cond (isPattern w) (w .first) 0 → (next : ℕ) → next ≡ cond rest (w .next) 0 → (a b c d : Names)
@@ -62,5 +62,5 @@ module _ (t : List ℕ) (at : Row → List ℕ) (no-other : (w : Row) → isVar 
         → Adds a (atLeaves (exprBy t rest row)) d
     gathered-turn row ne high rest w is inner i next n a b c d h₀ h₁ h₂ =
         from-walk row rest a d
-        (leaves-walked-turn t Does does-as does-none does-then step others ok row ne high rest w is inner i next n a b c d
+        (walked-turn t Does does-as does-none does-then step others ok row ne high rest w is inner i next n a b c d
         (λ start l k. adds-then start a b l (at w) k h₀) (to-walk inner true b c h₁) (to-walk next true c d h₂))

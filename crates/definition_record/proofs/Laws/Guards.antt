@@ -1,6 +1,6 @@
 -- Steps that are done unless there is a fault.
 use mathlib.Core.Path.{_≡_, refl, sym, _∙_, subst}
-use mathlib.Core.Bool.{true, false, true≢false, false≢true}
+use mathlib.Core.Bool.{true, false, true≢false}
 use mathlib.Core.List.{List}
 use mathlib.Core.Logic.{_⊎_, inl, inr}
 use Prim.Native.Nat.{ℕ, _≤_}
@@ -13,13 +13,7 @@ use Rattle.definition_state.specs.declared.Fault.the-variants.{Sound, Undefined
 use Rattle.definition_state.specs.declared.Progress.{Progress}
 use Rattle.definition_state.specs.Inner.Faults.{isSound, meaning}
 use Rattle.definition_state.specs.Inner.Frames.{guarded, WholeState, Agree, Grown, Runs}
-
-pub guard-sound : (q : Fault) → isSound q ≡ true → meaning q ≡ sound
-guard-sound Sound p = refl
-guard-sound (Undefined l c) p = absurd (false≢true p)
-guard-sound (UsedBefore l c) p = absurd (false≢true p)
-guard-sound (Lengths l c) p = absurd (false≢true p)
-guard-sound IndexVariable p = absurd (false≢true p)
+use Rattle.definition_state.proofs.Laws.Steps.{sound-is}
 
 -- After a fault nothing is done.
 skips : {A : Type 0} (f : A → A) (q : Fault) → isSound q ≡ false → (a : A) → ifSound (meaning q) f a ≡ a
@@ -73,6 +67,6 @@ module _ (t : List ℕ) where
   runs-sound f p fine fs w r fs′ w′ grown step = record {
     grown = grown;
     agrees = λ spans s h.
-        let e : s .run .fault ≡ sound = sym (h .fault) ∙ guard-sound (p .fault) fine in
+        let e : s .run .fault ≡ sound = sym (h .fault) ∙ sound-is (p .fault) fine in
         subst (λ (q : spec.Fault). Agree t spans r fs′ w′ (ifSound q f s)) (sym e) (step spans s e (h .count) (h .whole e));
   }

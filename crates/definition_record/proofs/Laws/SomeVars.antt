@@ -4,11 +4,10 @@ use mathlib.Core.Bool.{Bool, true, false, cond, _&&_, and-true, and-false}
 use mathlib.Core.List.{List, [], _∷_, _++_, foldl, map}
 use Prim.Native.Nat.{ℕ, _≤_}
 use borrow.Author.Tests.{eq-eqb, ne-eqb}
-use Rattle.base.specs.Lists.{filter}
+use Rattle.base.specs.Lists.{filter, concatMap}
 use Rattle.base.specs.Sets.{member}
 use Rattle.names.specs.Inner.Sets.{Inserted}
 use Rattle.names.specs.declared.Names.{Names}
-use Rattle.base.specs.Lists.{concatMap}
 use Rattle.sheet.specs.declared.Row.{Row}
 use Rattle.sheet.specs.Inner.Sheet.{rowAt}
 use Rattle.sheet.specs.Sheet.{isInput}
@@ -17,16 +16,15 @@ use Rattle.scope.specs.Trees.{Tree, rowOf, treeAt}
 use Rattle.scope.specs.Traverse.{leaves, vars}
 use Rattle.scope.specs.Scopes as spec
 use Rattle.scope.specs.Scopes.{Span, spanOf, isLocal}
-use Rattle.definition.specs.Uses.{nameOf}
-use Rattle.definition.specs.Uses.{addFirstUse}
+use Rattle.definition.specs.Uses.{nameOf, addFirstUse}
 use Rattle.definition.specs.SomeIn.{someVarsIn}
 use Rattle.scope_state.specs.declared.Scope.{Scope}
 use Rattle.scope_walk.specs.Inner.Sheets.{sheetAt, Accepted, exprCount}
 use Rattle.scope_walk.specs.Inner.Exprs.{exprBy}
+use Rattle.scope_walk.proofs.Laws.Walking.{LeavesWalk, walked-none, walked-turn}
 use Rattle.definition_walk.specs.Inner.Adds.{Adds}
 use Rattle.definition_walk.proofs.Laws.Adds.{adds-none, adds-one}
 use Rattle.definition_walk.specs.Inner.Firsts.{Firsts, FirstUse}
-use Rattle.definition_record.proofs.Laws.Leaves.{LeavesWalked, leaves-walked-none, leaves-walked-turn}
 use Rattle.definition_record.proofs.Laws.Gathered.{gathered-none, gathered-turn}
 use Rattle.definition_record.specs.Inner.SomeVars.{Binds, binds, SomeStep, SomeVars, EnterStep, SomeEntered}
 
@@ -127,7 +125,7 @@ module _ (t : List ℕ) where
       others u w e = rw e
 
       abbrev Walks : ℕ → List ℕ → List ℕ → Type 0
-      Walks row ws rs = LeavesWalked t Does does-as does-none does-then (enter s) others row true ws rs
+      Walks row ws rs = LeavesWalk t Does does-as does-none does-then (enter s) others row true ws rs
 
       abbrev Entered : ℕ → List ℕ → List ℕ → Type 0
       Entered row = Does (λ spans. foldl addFirstUse spans (map spanOf (someVarsIn (sheetAt t) s (leaves (treeAt (sheetAt t) row)))))
@@ -141,12 +139,12 @@ module _ (t : List ℕ) where
     module _ (ok : Accepted t) where
       pub entered-none : (row : ℕ) → row ≡ 0 → (ws : List ℕ) → SomeEntered t k row ws ws
       entered-none row z ws s h =
-          from-walk s row ws ws (leaves-walked-none t Does does-as does-none does-then (enter s) (others s) ok row z true ws)
+          from-walk s row ws ws (walked-none t Does does-as does-none does-then (enter s) (others s) ok row z true ws)
 
       pub entered-turn : (row : ℕ) → (row ≡ 0 → ⊥) → row ≤ exprCount t → (w : Row) → w ≡ rowAt t row
           → (inner : ℕ) → inner ≡ cond (isPattern w) (w .first) 0 → (next : ℕ) → next ≡ cond true (w .next) 0 → (a b c d : List ℕ)
           → EnterStep t k w a b → SomeEntered t k inner b c → SomeEntered t k next c d → SomeEntered t k row a d
       entered-turn row ne high w is inner i next n a b c d h₀ h₁ h₂ s h =
           from-walk s row a d
-          (leaves-walked-turn t Does does-as does-none does-then (enter s) (others s) ok row ne high true w is inner i next n a b c d
+          (walked-turn t Does does-as does-none does-then (enter s) (others s) ok row ne high true w is inner i next n a b c d
           (h₀ s h) (to-walk s inner b c (h₁ s h)) (to-walk s next c d (h₂ s h)))

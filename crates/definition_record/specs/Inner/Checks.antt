@@ -8,8 +8,8 @@ use Rattle.scope.specs.Traverse.{vars}
 use Rattle.scope.specs.Scopes.{isLocal}
 use Rattle.definition.specs.States.{State}
 use Rattle.definition.specs.Using.{checkFirstUse, checkAssigned}
-use Rattle.scope_state.specs.Inner.Chains.{chainAt}
 use Rattle.scope_walk.specs.Inner.Exprs.{exprBy}
+use Rattle.scope_state.specs.Inner.Chains.{chainAt}
 use Rattle.definition_state.specs.declared.Progress.{Progress}
 use Rattle.definition_state.specs.Inner.Frames.{guarded, Runs}
 

@@ -11,8 +11,7 @@ use Rattle.scope.specs.Trees.{treeAt}
 use Rattle.scope.specs.Traverse.{leaves}
 use Rattle.scope.specs.Scopes as spec
 use Rattle.scope.specs.Scopes.{Span, spanOf, isLocal}
-use Rattle.definition.specs.Uses.{nameOf}
-use Rattle.definition.specs.Uses.{addFirstUse}
+use Rattle.definition.specs.Uses.{nameOf, addFirstUse}
 use Rattle.definition.specs.SomeIn.{someVarsIn}
 use Rattle.scope_state.specs.declared.Scope.{Scope}
 use Rattle.scope_walk.specs.Inner.Sheets.{sheetAt}

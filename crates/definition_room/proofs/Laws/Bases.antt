@@ -1,7 +1,7 @@
 -- Where the places of each query begin, if those of all queries are kept one after the other: no two queries share one, and there are enough.
-use mathlib.Core.Path.{_≡_, refl, ap}
+use mathlib.Core.Path.{_≡_, refl}
 use mathlib.Core.List.{List, [], _∷_}
-use Prim.Native.Nat.{ℕ, zero, suc, _+_, _-_, _≤_, _<_}
+use Prim.Native.Nat.{ℕ, zero, suc, _+_, _-_, _≤_}
 use native.Mathlib.Omega.{arith}
 use lib.ListN.{length}
 use Rattle.sheet.specs.declared.Counts.{Counts}
@@ -36,16 +36,6 @@ module _ (c : Counts) (x : Special) (t : List ℕ) where
   -- The place from which on those of query q are kept.
   unfoldable pub base : ℕ → ℕ
   base q = sumTo countOf (q - 1)
-
-  -- The next query's begin where they end.
-  pub base-next : (q : ℕ) → 1 ≤ q → base (suc q) ≡ base q + countOf q
-  unfolding base
-  base-next q l = let e : suc q - 1 ≡ q = omega arith in omega (arith, ap (sumTo countOf) e, sum-last countOf q l)
-
-  -- A later query's begin there, or later.
-  pub base-later : (p q : ℕ) → 1 ≤ p → p < q → base p + countOf p ≤ base q
-  unfolding base
-  base-later p q l h = omega (arith, sum-last countOf p l, sum-longer countOf p (q - 1) (omega arith))
 
   -- All queries together have no more statements than the sheet.
   pub counts-fit : firstLine c (inTables t) ≡ 0 → sumTo countOf (c .queries) ≤ c .statements

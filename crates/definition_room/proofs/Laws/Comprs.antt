@@ -7,8 +7,7 @@ use Rattle.sheet.specs.Sheet.{Sheet}
 use Rattle.scope.specs.Trees.{Tree, rowOf, outputsOf}
 use Rattle.scope.specs.Traverse.{comprs}
 use Rattle.scope.specs.Scopes.{Scope}
-use Rattle.definition.specs.States.{QuerySchedule, Run, scheduleOf, setRun}
-use Rattle.definition.specs.States.{Way}
+use Rattle.definition.specs.States.{QuerySchedule, Run, scheduleOf, setRun, Way}
 use Rattle.definition.specs.Comprs.{Mods, propagate, useCompr, processCompr, processComprs, useExpr}
 use Rattle.definition_once.specs.Inner.OnceWay.{Nested, unlessScheduled, analyzeCompr, onceWay}
 use Rattle.definition_room.specs.Inner.Leaves.{bracketVars}

@@ -16,8 +16,7 @@ use Rattle.scope.specs.Trees.{Tree, nil, node, rowOf, firstOf, secondOf, chain}
 use Rattle.scope.specs.Paths.{getExtraArg}
 use Rattle.scope.specs.Scopes.{Scope, addUnscoped}
 use Rattle.definition.specs.Uses.{assignedVars}
-use Rattle.definition.specs.States.{lengths, State, setScope}
-use Rattle.definition.specs.States.{Way}
+use Rattle.definition.specs.States.{lengths, State, setScope, Way}
 use Rattle.definition.specs.Comprs.{Mods, allUsed}
 use Rattle.definition.specs.Exprs.{Pairing, pair, mismatch, pairings, assignOneWay, assignPairing, processAssignExpr, processPlainExpr, processExpr, processExtraArg, processCall}
 use Rattle.definition_once.specs.Inner.OnceWay.{Nested, onceWay}

@@ -10,9 +10,8 @@ use lib.Dec.{eqb, ltb}
 use lib.ListN.{length}
 use borrow.Author.Tests.{eqb-true, ltb-true}
 use Rattle.base.proofs.Laws.Truth.{bool-cases, and-left, and-right}
-use Rattle.base.specs.Lists.{all, filter}
+use Rattle.base.specs.Lists.{all, filter, range, last}
 use Rattle.base.proofs.Laws.Lists.{ascending}
-use Rattle.base.specs.Lists.{range}
 use Rattle.base.proofs.Laws.Ranges.{range-ascending, filter-none}
 use Rattle.sheet.specs.declared.Builtin.{Builtin}
 use Rattle.sheet.specs.declared.Row.{Row}
@@ -21,9 +20,7 @@ use Rattle.sheet.specs.Kinds.{isCall}
 use Rattle.scope.specs.Trees.{Tree, nil, node, chain}
 use Rattle.scope.specs.Traverse.{leaves, vars}
 use Rattle.scope.specs.Paths.{getPathString, builtinWith, beyond, getExtraArg}
-use Rattle.base.specs.Lists.{last}
-use Rattle.scope.specs.Scopes.{NameSet, empty, contains, insert, elements}
-use Rattle.scope.specs.Scopes.{Scope, noScope, addLocal, addUnscoped, addInput, useInput, varExists}
+use Rattle.scope.specs.Scopes.{NameSet, empty, contains, insert, elements, Scope, noScope, addLocal, addUnscoped, addInput, useInput, varExists}
 use Rattle.scope.specs.Gather.{assignVar, gatherAssignedVars}
 use Rattle.definition_once.specs.Inner.OnceWay.{Nested, onceWay}
 use Rattle.definition_room.specs.Inner.Sizes.{size}

@@ -14,8 +14,7 @@ use Rattle.sheet.specs.declared.Field.{Field}
 use Rattle.sheet.specs.Fields.{limitOf, aQuery, KindFields, kindOf}
 use Rattle.sheet_fields.proofs.Laws.Tables.{HoldsQuery}
 use Rattle.sheet.specs.Naming.{exprRow, target, placeOf, nextField, exprEntry, exprEntries}
-use Rattle.sheet.specs.Faults.{isMember}
-use Rattle.sheet.specs.Faults.{firstLine}
+use Rattle.sheet.specs.Faults.{isMember, firstLine}
 use Rattle.sheet.specs.Inner.Enclosing.{enclosingQuery}
 use Rattle.sheet.proofs.Laws.EnclosingLaws.{enclosing-query}
 use Rattle.sheet_facts.proofs.Laws.Accepted.{fine-rows}
@@ -24,17 +23,17 @@ use Rattle.sheet_facts.proofs.Laws.Rows.{FineExpr, fine-expr-row}
 use Rattle.sheet_facts.proofs.Laws.Places.{expr-place}
 use Rattle.sheet.specs.declared.Row.{Row}
 use Rattle.sheet.specs.Inner.Sheet.{rowAt}
-use Rattle.sheet.specs.Kinds.{isPattern, isCompr, isCall, isAssign}
+use Rattle.sheet.specs.Kinds.{isPattern, isCompr, isAssign}
 use Rattle.scope.specs.Traverse.{Enters, nothing, params, fields}
 use Rattle.scope_walk.specs.declared.Kids.{Kids}
 use Rattle.scope_walk.specs.Inner.Kids.{entersOf, kidsBy, kidsOf}
 use Rattle.scope_walk.proofs.Laws.Kids.{compr-enters-nothing}
-use Rattle.definition_room.proofs.Laws.Listed.{comprKind, kind-holds}
+use Rattle.definition_room.proofs.Laws.Listed.{comprKind, kind-holds, HoldsField}
 use Rattle.definition_room.proofs.Laws.Named.{target-row, next-holds}
 use Rattle.sheet.specs.Nesting.{level}
 use Rattle.sheet_facts.proofs.Laws.Levels.{next-level}
-use Rattle.definition_room.proofs.Laws.Lying.{Holding, in-expr, query-in-expr}
 use Rattle.definition_room.specs.Inner.Lying.{Lies}
+use Rattle.definition_room.proofs.Laws.Lying.{in-expr, query-in-expr}
 use Rattle.definition_room.proofs.Laws.Terms.{first-no-term, second-no-term, third-no-term, third-holds, compr-terms}
 use Rattle.sheet.specs.Inner.Rows.{inTables}
 
@@ -48,9 +47,6 @@ pattern-no-compr w h = ⊎-elim (kind-no-compr w 7 refl) (kind-no-compr w 9 refl
 
 pub assign-no-compr : (w : Row) → isAssign w ≡ true → isCompr w ≡ false
 assign-no-compr w h = ⊎-elim (kind-no-compr w 20 refl) (kind-no-compr w 21 refl) (or-cases _ _ h)
-
-pub call-no-compr : (w : Row) → isCall w ≡ true → isCompr w ≡ false
-call-no-compr w h = kind-no-compr w 13 refl h
 
 -- ---- what is said of them
 
@@ -99,7 +95,7 @@ module _ (c : Counts) (t : List ℕ) (few : Within c) (fine : firstLine c (inTab
 
   -- ---- parts: they lie where the whole does
 
-  part-lies : (f : Field) (v : ℕ) → Among f v → Holding f → f .term ≡ false → Lies c t q v
+  part-lies : (f : Field) (v : ℕ) → Among f v → HoldsField f → f .term ≡ false → Lies c t q v
   part-lies f v m h p =
       subst (λ (i : ℕ). Lies c t i v) (ap (enclosingQuery c (inTables t)) (expr-place c (inTables t) r row m .part p) ∙ here)
       (in-expr c t few (fine-rows c (inTables t) fine) r low high m h)
@@ -151,7 +147,7 @@ module _ (c : Counts) (t : List ℕ) (few : Within c) (fine : firstLine c (inTab
       (f .is-set (e .1), subst (λ (s : ℕ). exprAt t r .third ≤ limitOf c s) (e .0) (f .in-range))
 
   -- A term lies in the comprehension's query.
-  term-lies : HoldsQuery (fs .third) → (f : Field) (v : ℕ) → Among f v → Holding f → (f .term ≡ true) ⊎ (f .section ≡ 0)
+  term-lies : HoldsQuery (fs .third) → (f : Field) (v : ℕ) → Among f v → HoldsField f → (f .term ≡ true) ⊎ (f .section ≡ 0)
       → Lies c t (exprAt t r .third) v
   unfolding placeOf
   term-lies is f v m h (inl p) =

@@ -2,17 +2,16 @@
 use mathlib.Core.Path.{_≡_, refl, ap, _∙_}
 use mathlib.Core.Bool.{true}
 use mathlib.Core.List.{List, [], _∷_, List·Memᴰ, List·Memᴰ·head, List·Memᴰ·tail}
-use Prim.Native.Nat.{ℕ, zero, suc, _-_, _%_, _≤_, _<_}
+use Prim.Native.Nat.{ℕ, _-_, _%_, _≤_, _<_}
 use native.Mathlib.Omega.{arith}
 use lib.ListN.{length, length-map}
 use borrow.Author.Tests.{lt-ltb, le-leb}
 use Rattle.base.proofs.Laws.Truth.{and-intro}
 use Rattle.base.specs.Limits.{Limits}
-use Rattle.base.specs.Lists.{all}
-use Rattle.base.specs.Lists.{counted, range}
+use Rattle.base.specs.Lists.{all, counted, range}
+use Rattle.base.proofs.Laws.Ranges.{length-counted}
 use Rattle.order.specs.Definitions.{Definition}
-use Rattle.order.specs.Call.{rowCount, definitionAt, definitions}
-use Rattle.order.specs.Call.{within, accepts}
+use Rattle.order.specs.Call.{rowCount, definitionAt, definitions, within, accepts}
 use Rattle.order_bounds.proofs.Laws.Answers.{by-definitions}
 use Rattle.definition.specs.States.{QuerySchedule}
 use Rattle.definition_room.specs.Inner.InBounds.{InBounds}
@@ -30,12 +29,8 @@ all-within lim n (d ∷ defs) s v =
 -- There are as many definitions as rows.
 definitions-counted : (v : ℕ) (ws : List ℕ) → length (definitions v ws) ≡ rowCount v ws
 unfolding definitions range
-definitions-counted v ws = length-map (counted 0 (rowCount v ws - 0)) (definitionAt v ws) ∙ go (rowCount v ws - 0) 0 ∙ less
+definitions-counted v ws = length-map (counted 0 (rowCount v ws - 0)) (definitionAt v ws) ∙ length-counted 0 (rowCount v ws - 0) ∙ less
   where
-    go : (n a : ℕ) → length (counted a n) ≡ n
-    go zero a = refl
-    go (suc n) a = ap suc (go n (suc a))
-
     less : rowCount v ws - 0 ≡ rowCount v ws
     less = omega arith
 

@@ -11,9 +11,8 @@ use Rattle.order.proofs.Laws.Statements.{statement-mem}
 use Rattle.sheet.specs.Sheet.{Sheet}
 use Rattle.scope.specs.Statements.{Stmt}
 use Rattle.scope.specs.Scopes.{Scope}
-use Rattle.definition.specs.States.{State, inTurn}
+use Rattle.definition.specs.States.{State, inTurn, Way}
 use Rattle.definition.specs.Using.{gatherUsedVars, unlessSome, atLeastOne}
-use Rattle.definition.specs.States.{Way}
 use Rattle.definition.specs.Queries.{modsOf, processLiteral, processStmt, processStmts}
 use Rattle.definition_once.specs.Inner.OnceWay.{Nested, onceWay}
 use Rattle.definition_room.specs.Inner.Adds.{Recorded}

@@ -9,8 +9,8 @@ use Rattle.sheet.specs.declared.Row.{Row}
 use Rattle.sheet.specs.Kinds.{isVar, isPattern, isRefBrack}
 use Rattle.scope.specs.Trees.{Tree, nil, node, rowOf, chain}
 use Rattle.scope.specs.Traverse.{Enters, nothing, params, fields, enters, entered, traverse, leaves, vars}
-use Rattle.definition_room.specs.Inner.Sizes.{total, size}
 use Rattle.base.proofs.Laws.ListLaws.{concatMap-append}
+use Rattle.definition_room.specs.Inner.Sizes.{total, size}
 use Rattle.definition_room.proofs.Laws.Lists.{total-append}
 use Rattle.definition_room.specs.Inner.Leaves.{bracketVars, indexCount, patternVars}
 

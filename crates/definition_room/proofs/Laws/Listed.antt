@@ -7,9 +7,8 @@ use native.Mathlib.Omega.{arith}
 use lib.Dec.{eqb, leb}
 use borrow.Author.Tests.{eqb-true}
 use Rattle.base.proofs.Laws.Truth.{and-left, and-right, or-cases}
-use Rattle.base.specs.Lists.{all}
+use Rattle.base.specs.Lists.{all, range}
 use Rattle.base.proofs.Laws.Lists.{all-elem}
-use Rattle.base.specs.Lists.{range}
 use Rattle.base.proofs.Laws.Ranges.{elem-range}
 use Rattle.sheet.specs.declared.Field.{Field}
 use Rattle.sheet.specs.Fields.{exprSection, kinds, kindOf, forms, formOf}

@@ -1,15 +1,13 @@
 -- The lengths of lists that are filtered, mapped and put together.
-use mathlib.Core.Path.{_≡_, refl, ap, _∙_}
+use mathlib.Core.Path.{_≡_, refl, ap}
 use mathlib.Core.Bool.{Bool, true, false, cond}
-use mathlib.Core.List.{List, [], _∷_, _++_, map, List·Memᴰ, List·Memᴰ·head, List·Memᴰ·tail}
-use mathlib.Core.Logic.{_⊎_, inl, inr}
+use mathlib.Core.List.{List, [], _∷_, _++_, map}
 use mathlib.Core.Option.{some}
-use Prim.Native.Nat.{ℕ, zero, suc, _+_, _≤_}
+use Prim.Native.Nat.{ℕ, suc, _+_, _≤_}
 use native.Mathlib.Omega.{arith}
-use lib.ListN.{length, take, length-append}
-use Rattle.base.proofs.Laws.Truth.{bool-cases, and-intro}
-use Rattle.base.specs.Lists.{all, filter}
-use Rattle.base.specs.Lists.{concatMap, find, last}
+use lib.ListN.{length, length-append}
+use Rattle.base.proofs.Laws.Truth.{and-intro}
+use Rattle.base.specs.Lists.{all, filter, concatMap, last}
 use Rattle.definition_room.specs.Inner.Sizes.{total}
 
 module _ {A : Type 0} where
@@ -56,22 +54,3 @@ module _ {A : Type 0} where
   total-last f [] x e = let z : _≡_ {A = ℕ} 0 1 = cc in omega arith
   total-last f (y ∷ []) x e = let q : y ≡ x = cc in omega (arith, ap f q)
   total-last f (y ∷ (z ∷ l)) x e = omega (arith, total-last f (z ∷ l) x e)
-
-  pub total-take : (f : A → ℕ) (k : ℕ) (l : List A) → total f (take k l) ≤ total f l
-  total-take f zero [] = omega arith
-  total-take f zero (x ∷ l) = omega arith
-  total-take f (suc k) [] = omega arith
-  total-take f (suc k) (x ∷ l) = omega (arith, total-take f k l)
-
-  -- What is found is on the list, and passes the test.
-  pub find-some : {a : A} (p : A → Bool) (l : List A) → find p l ≡ some a → List·Memᴰ a l × (p a ≡ true)
-  find-some p [] e = let z : _≡_ {A = ℕ} 0 1 = cc in absurd (omega arith)
-  find-some {a} p (x ∷ l) e = go (bool-cases (p x)) (λ q. find-some p l q)
-    where
-      go : (p x ≡ true) ⊎ (p x ≡ false) → (find p l ≡ some a → List·Memᴰ a l × (p a ≡ true))
-          → List·Memᴰ a (x ∷ l) × (p a ≡ true)
-      go (inl q) rest =
-          let r : some x ≡ some a = rw q at e in
-          let s : a ≡ x = cc in
-          (List·Memᴰ·head s, ap p s ∙ q)
-      go (inr q) rest = let r = rest (rw q at e) in (List·Memᴰ·tail (r .0), r .1)

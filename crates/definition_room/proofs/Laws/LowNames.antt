@@ -6,8 +6,7 @@ use Prim.Native.Nat.{ℕ, zero, suc, _+_, _-_, _≤_, _<_}
 use native.Mathlib.Omega.{arith}
 use borrow.Author.Tests.{lt-ltb}
 use Rattle.base.proofs.Laws.Truth.{and-intro}
-use Rattle.base.specs.Lists.{all}
-use Rattle.base.specs.Lists.{counted, range}
+use Rattle.base.specs.Lists.{all, counted, range}
 use Rattle.sheet.specs.declared.Counts.{Counts}
 use Rattle.sheet.specs.Inner.Records.{Within}
 use Rattle.sheet.specs.declared.Special.{Special}

@@ -12,10 +12,8 @@ use Rattle.base.proofs.Laws.Truth.{lt-cases}
 use Rattle.base.proofs.Laws.Members.{mem-filter}
 use Rattle.sheet.specs.declared.Counts.{Counts}
 use Rattle.sheet.specs.Inner.Records.{Within, firstAt}
-use Rattle.sheet.specs.declared.Field.{Field}
-use Rattle.sheet.specs.Fields.{exprSection, statementSection, querySection, limitOf, aStatement, or0}
-use Rattle.sheet.specs.Naming.{Entry, queryRow, statementRow, exprRow, rowIn, exprEntries, statementEntries, queryEntries}
-use Rattle.sheet.specs.Naming.{Naming, namers, namings}
+use Rattle.sheet.specs.Fields.{statementSection, querySection, limitOf, aStatement, or0}
+use Rattle.sheet.specs.Naming.{Entry, queryRow, statementRow, exprRow, rowIn, exprEntries, statementEntries, queryEntries, Naming, namers, namings}
 use Rattle.sheet.specs.Nesting.{parent}
 use Rattle.sheet.specs.Faults.{isNamedSo, isMember}
 use Rattle.sheet.proofs.Laws.Laws.{only-naming}
@@ -28,11 +26,8 @@ use Rattle.sheet_facts.proofs.Laws.Rows.{fine-expr-row, fine-statement-row, fin
 use Rattle.sheet_facts.proofs.Laws.Enclosed.{NamedBy, up-below, encloses-at-place}
 use Rattle.definition_room.proofs.Laws.Named.{target-row}
 use Rattle.sheet.specs.Inner.Rows.{inTables}
+use Rattle.definition_room.proofs.Laws.Listed.{HoldsField}
 use Rattle.definition_room.specs.Inner.Lying.{Lies, StatementLies}
-
--- A field for an expression, or for nothing.
-abbrev pub Holding : Field → Type 0
-Holding f = (f .section ≡ exprSection) ⊎ (f .section ≡ 0)
 
 module _ (c : Counts) (t : List ℕ) where
   -- Where there is one, it lies there.
@@ -66,10 +61,10 @@ module _ (c : Counts) (t : List ℕ) where
 
     module _ (k : ℕ) (e : Entry) (among : (targetOf c e ≡ 0 → ⊥) → List·Memᴰ (namingOf c k e) (namings c (inTables t)))
         (within : e .value ≤ limitOf c (e .field .section)) where
-      expr-at : Holding (e .field) → Lies c t (enclosingQuery c (inTables t) (e .place)) (e .value)
+      expr-at : HoldsField (e .field) → Lies c t (enclosingQuery c (inTables t) (e .place)) (e .value)
       expr-at s = go s (lt-cases 0 (e .value))
         where
-          go : Holding (e .field) → (0 < e .value) ⊎ (e .value ≤ 0)
+          go : HoldsField (e .field) → (0 < e .value) ⊎ (e .value ≤ 0)
               → Lies c t (enclosingQuery c (inTables t) (e .place)) (e .value)
           go h (inr l) = inl (omega arith)
           go (inr h) (inl l) = let z : e .value ≤ 0 = subst (λ (i : ℕ). e .value ≤ limitOf c i) h within in absurd (omega arith)
@@ -101,7 +96,7 @@ module _ (c : Counts) (t : List ℕ) where
 
     -- An expression that expression r names lies where the field puts it.
     pub in-expr : (r : ℕ) → 1 ≤ r → r ≤ c .exprs → {e : Entry} → List·Memᴰ e (exprEntries c (inTables t) (isMember c (inTables t) r) r)
-        → Holding (e .field) → Lies c t (enclosingQuery c (inTables t) (e .place)) (e .value)
+        → HoldsField (e .field) → Lies c t (enclosingQuery c (inTables t) (e .place)) (e .value)
     in-expr zero a b m s = absurd (omega arith)
     in-expr (suc r) a b {e} m s =
         expr-at (exprRow (suc r)) e (λ n. expr-names c (inTables t) e n r b m)
@@ -125,7 +120,7 @@ module _ (c : Counts) (t : List ℕ) where
 
     -- One that statement s names lies where s does.
     pub in-statement : (s : ℕ) → 1 ≤ s → s ≤ c .statements → {e : Entry} → List·Memᴰ e (statementEntries c (inTables t) s)
-        → Holding (e .field) → Lies c t (enclosingQuery c (inTables t) (statementRow s)) (e .value)
+        → HoldsField (e .field) → Lies c t (enclosingQuery c (inTables t) (statementRow s)) (e .value)
     in-statement zero a b m h = absurd (omega arith)
     in-statement (suc s) a b {e} m h =
         subst (λ (k : ℕ). Lies c t (enclosingQuery c (inTables t) k) (e .value)) (statement-place c (inTables t) (suc s) m)

@@ -11,8 +11,7 @@ use Rattle.sheet.specs.declared.Counts.{Counts}
 use Rattle.sheet.specs.Inner.Records.{exprAt, statementRowAt, firstAt}
 use Rattle.sheet.specs.declared.Field.{Field}
 use Rattle.sheet.specs.Fields.{exprSection, statementSection, limitOf, aChain, aStatement, or0, kindOf, formOf}
-use Rattle.sheet.specs.Naming.{Entry, queryRow, statementRow, exprRow, rowIn, target, nextField, exprEntry, statementEntry, exprEntries, statementEntries, queryEntries}
-use Rattle.sheet.specs.Naming.{entryNaming}
+use Rattle.sheet.specs.Naming.{Entry, queryRow, statementRow, exprRow, rowIn, target, nextField, exprEntry, statementEntry, exprEntries, statementEntries, queryEntries, entryNaming}
 use Rattle.sheet.specs.Faults.{isMember}
 use Rattle.sheet.proofs.Laws.Origins.{targetOf}
 use Rattle.sheet_facts.proofs.Laws.Accepted.{FineRows}

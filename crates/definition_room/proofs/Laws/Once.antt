@@ -7,8 +7,7 @@ use native.Mathlib.Omega.{arith}
 use lib.ListN.{length}
 use Rattle.base.proofs.Laws.Truth.{not-both}
 use Rattle.sheet.specs.declared.Counts.{Counts}
-use Rattle.sheet.specs.Naming.{queryRow, statementRow, exprRow}
-use Rattle.sheet.specs.Naming.{Naming, namers, namedSo, namings}
+use Rattle.sheet.specs.Naming.{queryRow, statementRow, exprRow, Naming, namers, namedSo, namings}
 use Rattle.sheet.specs.Faults.{isNamedSo}
 use Rattle.sheet_facts.proofs.Laws.Accepted.{FineRows}
 use Rattle.sheet_facts.proofs.Laws.Rows.{fine-expr-row, fine-statement-row, fine-query-row}

@@ -1,10 +1,10 @@
--- Laws of `Queries`.
+-- Every query that is analysed records definitions of its statements alone, at most what it weighs, and for each statement at least one.
 use mathlib.Core.Path.{_≡_, refl, sym, ap, _∙_, subst}
 use mathlib.Core.List.{List, [], _∷_, foldl, List·Memᴰ, List·Memᴰ·cases-cons, List·Memᴰ·not-nil}
 use mathlib.Core.Logic.{⊎-elim}
-use Prim.Native.Nat.{ℕ, zero, suc, _+_, _≤_, _<_}
+use Prim.Native.Nat.{ℕ, zero, suc, _+_, _<_}
 use native.Mathlib.Omega.{arith}
-use lib.ListN.{length, take}
+use lib.ListN.{length}
 use Rattle.base.specs.Lists.{all}
 use Rattle.base.specs.Limits.{nesting}
 use Rattle.sheet.specs.Sheet.{Sheet}
@@ -12,14 +12,12 @@ use Rattle.scope.specs.Trees.{Tree}
 use Rattle.scope.specs.Traverse.{comprs}
 use Rattle.scope.specs.Statements.{Stmt, stmtsOf}
 use Rattle.scope.specs.Scopes.{Scope}
-use Rattle.definition.specs.States.{Fault, sound, undefined, usedBefore, lengths, indexVariable, QuerySchedule, Run, State, ifSound}
-use Rattle.definition.specs.States.{Way}
+use Rattle.scope.specs.Gather.{gatherLocalVars}
+use Rattle.definition.specs.States.{Fault, sound, undefined, usedBefore, lengths, indexVariable, QuerySchedule, Run, State, ifSound, Way}
 use Rattle.definition.specs.Comprs.{propagate}
-use Rattle.definition.specs.Queries.{processStmts}
-use Rattle.definition.specs.Queries.{outputScope, scheduled, outputCompr, analyzeOutputExpr, analyzeQuery}
+use Rattle.definition.specs.Queries.{processStmts, outputScope, scheduled, outputCompr, analyzeOutputExpr, analyzeQuery}
 use Rattle.definition_once.specs.Inner.OnceWay.{Nested, analyzeCompr, onceWay, analyzeOnce, analyzeQuerySnippetOnce}
 use Rattle.definition_room.specs.Inner.Sizes.{total, weight}
-use Rattle.definition_room.proofs.Laws.Lists.{total-take}
 use Rattle.definition_room.specs.Inner.Adds.{Recorded, below, FitsSchedule}
 use Rattle.definition_room.proofs.Laws.Adds.{AllFit, AddsDefinitions, Step, adds-definitions-then, adds-below, end, _⨾_, adds-turn, turn-fold-none}
 use Rattle.definition_room.proofs.Laws.Recording.{recorded-stays}
@@ -27,7 +25,11 @@ use Rattle.definition_room.proofs.Laws.Comprs.{KeepsFit, adds-propagate
 use Rattle.definition_room.proofs.Laws.Statements.{adds-process-stmts}
 use Rattle.definition_room.proofs.Laws.Sound.{Sound, turn-sound, fold-sound}
 use Rattle.definition_room.proofs.Laws.Least.{recorded-stmts}
-use Rattle.definition_room.specs.Inner.Queries.{start}
+
+-- The analysis of a query starts with no definition.
+abbrev pub start : Sheet → List Scope → ℕ → List Tree → Run → State
+start sheet parents q outputs r =
+    record { scope = gatherLocalVars sheet parents (stmtsOf sheet q) outputs; firstUses = []; definitions = []; run = r }
 
 module _ (sheet : Sheet) (nested : Nested) (parents : List Scope) (keeps : KeepsFit sheet nested) where
   abbrev way : Way
@@ -97,13 +99,6 @@ module _ (sheet : Sheet) (nested : Nested) (parents : List Scope) (keeps : Keeps
       go (usedBefore l c) e a m = added .fit h a m
       go (lengths l c) e a m = added .fit h a m
       go indexVariable e a m = added .fit h a m
-
-  -- Nor is there more at any time before: after any number of statements, and wherever a fault stopped them.
-  pub query-during : (q : ℕ) (outputs : List Tree) (r : Run) (k : ℕ)
-      → length (processStmts sheet way 0 (take k (stmtsOf sheet q)) (start sheet parents q outputs r) .definitions) ≤ total weight (stmtsOf sheet q)
-  query-during q outputs r k =
-      let a = adds-process-stmts sheet nested parents keeps (take k (stmtsOf sheet q)) 0 (start sheet parents q outputs r) in
-      omega (arith, ap length (a .appended), a .few, total-take weight k (stmtsOf sheet q))
 
 -- ---- the analysis of a sheet
 

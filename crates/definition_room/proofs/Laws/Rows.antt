@@ -8,7 +8,7 @@ use lib.Dec.{eqb}
 use lib.ListN.{length, getD}
 use Rattle.sheet.specs.declared.Counts.{Counts}
 use Rattle.sheet.specs.declared.Statement.{Statement}
-use Rattle.sheet.specs.Inner.Records.{statementRowAt, firstAt}
+use Rattle.sheet.specs.Inner.Records.{statementRowAt}
 use Rattle.sheet.specs.declared.Special.{Special}
 use Rattle.sheet.specs.declared.Row.{Row}
 use Rattle.sheet.specs.Sheet.{Sheet, noRow}
@@ -19,7 +19,7 @@ use Rattle.scope_walk.proofs.Laws.RowTrees.{rows-at}
 use Rattle.definition_room.specs.Inner.Sizes.{total, size, literalSize, weight}
 use Rattle.definition_room.proofs.Laws.Leaves.{size-chain}
 use Rattle.definition_room.proofs.Laws.Parts.{partsAt, wholesAt}
-use Rattle.definition_room.proofs.Laws.Costs.{stmtOf, costAt, costFrom, cost-none, cost-row, cost-query, cost-no-query}
+use Rattle.definition_room.proofs.Laws.Costs.{stmtOf, costAt, cost-no-query}
 
 -- ---- deeper trees are no smaller
 
@@ -123,22 +123,7 @@ module _ (c : Counts) (x : Special) (t : List ℕ) where
   unfolding wholesAt
   weight-at s = weight-few (statementRowAt t s)
 
-  -- The weight of the statements from row s on.
-  abbrev pub weightFrom : ℕ → ℕ
-  weightFrom = costFrom weight c x t
-
-  pub weight-none : weightFrom 0 ≡ 0
-  weight-none = cost-none weight c x t
-
-  -- The weight from a statement on is its own, and that of the rest.
-  pub weight-row : (s : ℕ) → 1 ≤ s → s ≤ c .statements → weightFrom s ≤ suc (wholesAt t sizeAt s) + weightFrom (statementRowAt t s .next)
-  weight-row s a b = omega (arith, cost-row weight c x t s a b, weight-at s)
-
   -- ---- queries
-
-  -- A query weighs what its statements do.
-  pub weight-query : (q : ℕ) → 1 ≤ q → q ≤ c .queries → total weight (stmtsOf sheetHere q) ≡ weightFrom (firstAt t q)
-  weight-query = cost-query weight c x t
 
   -- There are no other queries.
   pub weight-no-query : (q : ℕ) → (1 ≤ q → q ≤ c .queries → ⊥) → total weight (stmtsOf sheetHere q) ≡ 0

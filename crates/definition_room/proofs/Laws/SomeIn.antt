@@ -13,8 +13,7 @@ use Rattle.scope.specs.Trees.{Tree, rowOf}
 use Rattle.scope.specs.Traverse.{leaves, vars, comprs}
 use Rattle.scope.specs.Scopes.{Scope, spanOf, isLocal}
 use Rattle.definition.specs.Uses.{define, indexDefinitions}
-use Rattle.definition.specs.States.{indexVariable, State, addDefinitions}
-use Rattle.definition.specs.States.{Way}
+use Rattle.definition.specs.States.{indexVariable, State, addDefinitions, Way}
 use Rattle.definition.specs.Comprs.{Mods, allUsed}
 use Rattle.definition.specs.SomeIn.{someVarsIn, nonVars, failIfSome, processNonVar, processSomeIn}
 use Rattle.definition_once.specs.Inner.OnceWay.{Nested, onceWay}

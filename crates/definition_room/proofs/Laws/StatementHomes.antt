@@ -16,11 +16,11 @@ use Rattle.sheet.specs.Inner.Enclosing.{enclosingQuery}
 use Rattle.sheet_facts.proofs.Laws.Accepted.{fine-rows}
 use Rattle.sheet_facts.specs.Inner.FineFields.{Nests}
 use Rattle.sheet_facts.proofs.Laws.Rows.{FineStatement, fine-statement-row}
-use Rattle.definition_room.proofs.Laws.Listed.{form-holds}
+use Rattle.definition_room.proofs.Laws.Listed.{form-holds, HoldsField}
 use Rattle.sheet.specs.Nesting.{level}
 use Rattle.sheet_facts.proofs.Laws.Levels.{next-level}
-use Rattle.definition_room.proofs.Laws.Lying.{Holding, in-statement, after-statement, in-query, query-in-statement}
 use Rattle.definition_room.specs.Inner.Lying.{Lies, StatementLies}
+use Rattle.definition_room.proofs.Laws.Lying.{in-statement, after-statement, in-query, query-in-statement}
 use Rattle.sheet.specs.Inner.Rows.{inTables}
 
 -- All that a statement of query q names lies in q, but for the query of an `every`.
@@ -42,7 +42,7 @@ module _ (c : Counts) (t : List ℕ) (few : Within c) (fine : firstLine c (inTab
   first-lies = in-query c t few (fine-rows c (inTables t) fine)
 
   module _ (q s : ℕ) (low : 1 ≤ s) (high : s ≤ c .statements) (here : enclosingQuery c (inTables t) (statementRow s) ≡ q) where
-    part-lies : (f : Field) (v : ℕ) → List·Memᴰ (statementEntry c (inTables t) s f v) (statementEntries c (inTables t) s) → Holding f → Lies c t q v
+    part-lies : (f : Field) (v : ℕ) → List·Memᴰ (statementEntry c (inTables t) s f v) (statementEntries c (inTables t) s) → HoldsField f → Lies c t q v
     part-lies f v m h = subst (λ (i : ℕ). Lies c t i v) here (in-statement c t few (fine-rows c (inTables t) fine) s low high m h)
 
     row : FineStatement c (inTables t) s

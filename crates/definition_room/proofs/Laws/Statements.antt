@@ -12,9 +12,8 @@ use Rattle.scope.specs.Trees.{Tree, chain}
 use Rattle.scope.specs.Traverse.{vars}
 use Rattle.scope.specs.Statements.{Literal, someVars, someIn, expr, notExpr, every, Stmt}
 use Rattle.scope.specs.Scopes.{Scope, noScope, addLocal}
-use Rattle.definition.specs.States.{Fault, sound, undefined, usedBefore, lengths, indexVariable, State, ifSound, inTurn}
+use Rattle.definition.specs.States.{Fault, sound, undefined, usedBefore, lengths, indexVariable, State, ifSound, inTurn, Way}
 use Rattle.definition.specs.Using.{gatherUsedVars, checkFirstUse, unlessSome, atLeastOne}
-use Rattle.definition.specs.States.{Way}
 use Rattle.definition.specs.Comprs.{Mods}
 use Rattle.definition.specs.Exprs.{processPlainExpr}
 use Rattle.definition.specs.Queries.{modsOf, processEvery, processLiteral, processStmt, processStmts}

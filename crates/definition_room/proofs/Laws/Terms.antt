@@ -1,5 +1,5 @@
 -- What the table of kinds says of the terms that lie in another query than their whole: comprehensions have them, and no other kind.
-use mathlib.Core.Path.{_≡_, refl, ap, _∙_}
+use mathlib.Core.Path.{_≡_, refl}
 use mathlib.Core.Bool.{Bool, true, false, not, _&&_, _||_}
 use mathlib.Core.Logic.{_⊎_, inl, inr, ⊎-elim}
 use Prim.Native.Nat.{ℕ, _≤_}
@@ -7,9 +7,8 @@ use native.Mathlib.Omega.{arith}
 use lib.Dec.{eqb}
 use borrow.Author.Tests.{eqb-true}
 use Rattle.base.proofs.Laws.Truth.{bool-cases, not-both, and-left, and-right, or-cases}
-use Rattle.base.specs.Lists.{all}
+use Rattle.base.specs.Lists.{all, range}
 use Rattle.base.proofs.Laws.Lists.{all-elem}
-use Rattle.base.specs.Lists.{range}
 use Rattle.base.proofs.Laws.Ranges.{elem-range}
 use Rattle.sheet.specs.declared.Field.{Field}
 use Rattle.sheet.specs.Fields.{querySection, kinds, kindOf}

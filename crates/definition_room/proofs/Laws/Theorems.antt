@@ -5,7 +5,7 @@ use mathlib.Core.Option.{Option, none, some}
 use Prim.Native.Nat.{ℕ, _+_, _≤_, _<_}
 use native.Mathlib.Omega.{arith}
 use lib.Dec.{eqb}
-use lib.ListN.{length, take}
+use lib.ListN.{length}
 use borrow.Author.Tests.{eqb-true, ltb-true, lt-ltb}
 use Rattle.base.specs.Limits as limits
 use Rattle.base.specs.Limits.{Limits}
@@ -19,27 +19,24 @@ use Rattle.sheet_facts.proofs.Laws.Accepted.{fine-rows}
 use Rattle.sheet_facts.proofs.Laws.Facts.{sheet-facts}
 use Rattle.sheet.specs.Sheet.{Sheet}
 use Rattle.sheet.specs.Inner.Sheet.{sheetOf}
-use Rattle.scope.specs.Trees.{Tree}
 use Rattle.scope.specs.Statements.{stmtsOf}
-use Rattle.scope.specs.Scopes.{Scope}
-use Rattle.definition.specs.States.{QuerySchedule, Run}
-use Rattle.definition.specs.Queries.{processStmts}
+use Rattle.definition.specs.States.{QuerySchedule}
 use Rattle.definition.specs.Inner.Queries.{definitionsIn}
-use Rattle.definition_once.specs.Inner.OnceWay.{onceWay, analyzeOnce, analyzeQuerySnippetOnce, scheduleOnce, recordedOnce}
+use Rattle.definition_once.specs.Inner.OnceWay.{analyzeQuerySnippetOnce, scheduleOnce, recordedOnce}
 use Rattle.definition_once.proofs.Laws.Named.{recorded-named}
 use Rattle.definition_room.specs.Inner.Sizes.{total, weight}
-use Rattle.definition_room.proofs.Laws.Lists.{find-some}
 use Rattle.definition_room.specs.Inner.Adds.{Recorded, below, FitsSchedule}
-use Rattle.definition_room.specs.Inner.Queries.{start}
-use Rattle.definition_room.proofs.Laws.Queries.{query-during, analyze-fits, snippet-fits}
+use Rattle.definition_room.proofs.Laws.Queries.{snippet-fits}
 use Rattle.definition_room.specs.Inner.Sums.{sumTo}
 use Rattle.definition_room.proofs.Laws.Sums.{sum-mono}
 use Rattle.definition_room.proofs.Laws.Bound.{weights-fit, weight-in-bounds}
 use Rattle.definition_room.specs.Inner.Bound.{mostRecorded}
-use Rattle.definition_room.proofs.Laws.Counted.{query-statements-few, statements-counted}
+use Rattle.definition_room.proofs.Laws.Counted.{query-statements-few}
 use Rattle.definition_room.proofs.Laws.LowNames.{names-under}
 use Rattle.definition_room.specs.Inner.InBounds.{InBounds}
 use Rattle.sheet.specs.Inner.Rows.{inTables}
+use Rattle.base.proofs.Laws.ListLaws.{find-some}
+use Rattle.scope_walk.proofs.Laws.RowTrees.{statements-length}
 
 -- ---- any sheet
 
@@ -106,17 +103,6 @@ module _ (c : Counts) (x : Special) (t : List ℕ) (few : Within c) (fine : firs
             (λ q a b. recorded-at-most (sheetOf c x t) q),
       )
 
-  -- There are no more while a query is analysed: after any number of its statements, and wherever a fault stopped them.
-  pub during-in-bounds : (levels : ℕ) (parents : List Scope) (q : ℕ) (outputs : List Tree) (r : Run) (k : ℕ)
-      → length (processStmts (sheetOf c x t) (onceWay (sheetOf c x t) (analyzeOnce levels (sheetOf c x t)) parents) 0 (take k (stmtsOf (sheetOf c x t) q))
-      (start (sheetOf c x t) parents q outputs r) .definitions) ≤ mostRecorded
-  during-in-bounds levels parents q outputs r k =
-      omega (
-        arith,
-        query-during (sheetOf c x t) (analyzeOnce levels (sheetOf c x t)) parents (analyze-fits levels (sheetOf c x t)) q outputs r k,
-        weight-in-bounds c x t few fine q,
-      )
-
   -- Every query that is analysed records what the scheduler takes with the same limits: `question-met` says so of the question that its call asks.
   pub schedule-in-bounds : (lim : Limits) → c .names ≤ lim .names → (q : ℕ) (a : QuerySchedule) → scheduleOnce (sheetOf c x t) q ≡ some a
       → InBounds lim a
@@ -124,7 +110,7 @@ module _ (c : Counts) (x : Special) (t : List ℕ) (few : Within c) (fine : firs
   schedule-in-bounds lim low q a e =
       let these : recordedOnce (sheetOf c x t) q ≡ a .definitions = ap definitionsIn e in
       record {
-        few-statements = omega (arith, count-at-most (sheetOf c x t) q a e, statements-counted c x t, few .few-statements);
+        few-statements = omega (arith, count-at-most (sheetOf c x t) q a e, statements-length c x t, few .few-statements);
         few-definitions = omega (arith, recorded-in-bounds q, ap length these);
         stated = recorded-stated (sheetOf c x t) q a e;
         named = λ d m.

@@ -1,21 +1,14 @@
 -- What the queries after a query weigh together: the room for all that is nested in it.
-use mathlib.Core.Path.{_≡_}
 use mathlib.Core.List.{List}
 use Prim.Native.Nat.{ℕ, _+_, _-_, _≤_, _<_}
 use native.Mathlib.Omega.{arith}
 use Rattle.sheet.specs.declared.Counts.{Counts}
-use Rattle.sheet.specs.Inner.Records.{Within}
 use Rattle.sheet.specs.declared.Special.{Special}
-use Rattle.sheet.specs.Faults.{firstLine}
-use Rattle.sheet_facts.proofs.Laws.Accepted.{fine-rows}
 use Rattle.sheet.specs.Inner.Sheet.{sheetOf}
 use Rattle.scope.specs.Statements.{stmtsOf}
 use Rattle.definition_room.specs.Inner.Sizes.{total, weight}
 use Rattle.definition_room.specs.Inner.Sums.{sumTo}
-use Rattle.definition_room.proofs.Laws.Sums.{sum-at, sum-longer, sum-last}
-use Rattle.definition_room.specs.Inner.Bound.{mostRecorded}
-use Rattle.definition_room.proofs.Laws.Bound.{weights-fit}
-use Rattle.sheet.specs.Inner.Rows.{inTables}
+use Rattle.definition_room.proofs.Laws.Sums.{sum-longer, sum-last}
 
 module _ (c : Counts) (x : Special) (t : List ℕ) where
   -- What query q weighs.
@@ -35,17 +28,4 @@ module _ (c : Counts) (x : Special) (t : List ℕ) where
         sum-last weightOf v (omega arith),
         sum-longer weightOf q (v - 1) (omega arith),
         sum-longer weightOf v (c .queries) h,
-      )
-
-  -- A query and those after it have room for all that they record.
-  pub above-fits : Within c → firstLine c (inTables t) ≡ 0 → (q : ℕ) → 1 ≤ q → q ≤ c .queries → weightOf q + above q ≤ mostRecorded
-  unfolding above
-  above-fits few fine q l h =
-      omega (
-        arith,
-        sum-at weightOf q q l (omega arith),
-        sum-longer weightOf q (c .queries) h,
-        weights-fit c x t (fine-rows c (inTables t) fine),
-        few .few-exprs,
-        few .few-statements,
       )

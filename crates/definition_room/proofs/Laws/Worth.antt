@@ -6,8 +6,7 @@ use Prim.Native.Nat.{ℕ, zero, suc, _+_, _≤_}
 use native.Mathlib.Omega.{arith}
 use borrow.Author.Tests.{ne-eqb}
 use Rattle.sheet.specs.declared.Counts.{Counts}
-use Rattle.sheet.specs.Naming.{Entry, queryRow, statementRow, exprRow, exprEntries, statementEntries, queryEntries}
-use Rattle.sheet.specs.Naming.{Naming, namers, inChain, entryNaming, rowNamings, byQueries, byStatements, byExprs, namings}
+use Rattle.sheet.specs.Naming.{Entry, queryRow, statementRow, exprRow, exprEntries, statementEntries, queryEntries, Naming, namers, inChain, entryNaming, rowNamings, byQueries, byStatements, byExprs, namings}
 use Rattle.sheet.specs.Faults.{isMember}
 use Rattle.sheet.proofs.Laws.Origins.{targetOf, member-settled}
 use Rattle.definition_room.specs.Inner.Sizes.{total}

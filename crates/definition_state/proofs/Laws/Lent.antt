@@ -1,6 +1,6 @@
 -- The rows of definitions lie in front of the table, and are lent without it.
 use mathlib.Core.Path.{_≡_, sym, _∙_, ap, subst}
-use mathlib.Core.List.{List, _++_, List·Memᴰ}
+use mathlib.Core.List.{List, _++_}
 use Prim.Native.Nat.{ℕ, _+_, _-_, _*_, _≤_, _<_}
 use native.Mathlib.Omega.{arith}
 use lib.ListN.{length, getD, take, drop, length-append, length-drop, List·getD-append}

@@ -1,21 +1,19 @@
 -- The sets of a scope whose names are low have room in the width's words.
-use mathlib.Core.Path.{_≡_, sym, _∙_}
-use mathlib.Core.Bool.{Bool, true, false}
+use mathlib.Core.Path.{_≡_, _∙_}
+use mathlib.Core.Bool.{true, false}
 use mathlib.Core.List.{List}
 use mathlib.Core.Logic.{⊎-elim}
-use Prim.Native.Nat.{ℕ, _*_, _≤_}
+use Prim.Native.Nat.{ℕ, _*_}
 use native.Mathlib.Omega.{arith}
 use lib.Dec.{ltb}
 use borrow.Author.Tests.{ltb-true}
 use Rattle.base.proofs.Laws.Truth.{bool-cases, or-left, or-right}
 use Rattle.base.specs.Sets.{member}
-use Rattle.names.specs.declared.Names.{Names}
 use Rattle.names_width.specs.declared.Width.{Width}
 use Rattle.names_width.specs.Inner.Widths.{setWords}
 use Rattle.names_width.proofs.Laws.Widths.{Fits}
-use Rattle.scope.specs.Scopes.{contains}
+use Rattle.scope.specs.Scopes.{contains, isLocal, owns}
 use Rattle.scope.specs.Scopes as spec
-use Rattle.scope.specs.Scopes.{isLocal, owns}
 use Rattle.scope.specs.Inner.Below.{Below}
 use Rattle.scope_state.specs.declared.Scope.{Scope}
 use Rattle.scope_state.specs.Inner.Agrees.{Sets}

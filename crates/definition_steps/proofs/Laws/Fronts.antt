@@ -13,15 +13,13 @@ use Rattle.scope.proofs.Laws.TreeRows.{rowsPass}
 use Rattle.scope.specs.Scopes.{Scope}
 use Rattle.scope.specs.Inner.Below.{nameBelow}
 use Rattle.definition.specs.States.{Fault, sound, undefined, usedBefore, lengths, indexVariable, QuerySchedule, Run, State, ifSound}
-use Rattle.definition.specs.Queries.{processStmts}
-use Rattle.definition.specs.Queries.{scheduled, analyzeOutputExpr, analyzeQuery}
+use Rattle.definition.specs.Queries.{processStmts, scheduled, analyzeOutputExpr, analyzeQuery}
 use Rattle.definition_once.specs.Inner.OnceWay.{onceWay, analyzeOnce}
 use Rattle.definition_once.specs.Inner.Schedules.{EachSchedule}
 use Rattle.definition_once.specs.Inner.Named.{NamesUnder}
 use Rattle.definition_room.specs.Inner.Adds.{FitsSchedule}
 use Rattle.definition_room.proofs.Laws.Adds.{AllFit}
-use Rattle.definition_room.specs.Inner.Queries.{start}
-use Rattle.definition_room.proofs.Laws.Queries.{analyze-fits}
+use Rattle.definition_room.proofs.Laws.Queries.{start, analyze-fits}
 use Rattle.definition_room.proofs.Laws.Sound.{Sound}
 use Rattle.definition_state.specs.Inner.Table.{Low}
 use Rattle.definition_steps.proofs.Laws.Lows.{analyze-low}

@@ -3,20 +3,17 @@ use mathlib.Core.Path.{_≡_, refl, sym, ap, _∙_}
 use mathlib.Core.Bool.{Bool, false}
 use mathlib.Core.List.{List, [], _∷_, _++_, foldl}
 use mathlib.Core.Logic.{_⊎_, inl, inr, ⊎-elim}
-use Prim.Native.Nat.{ℕ, suc}
+use Prim.Native.Nat.{ℕ}
 use native.Mathlib.Omega.{arith}
 use Rattle.sheet.specs.Sheet.{Sheet}
 use Rattle.scope.specs.Trees.{Tree}
 use Rattle.scope.specs.Traverse.{comprs}
-use Rattle.scope.specs.Statements.{Stmt}
 use Rattle.definition.specs.Uses.{indexDefinitions}
-use Rattle.definition.specs.States.{Fault, sound, undefined, usedBefore, lengths, indexVariable, State, fail, ifSound, inTurn}
+use Rattle.definition.specs.States.{Fault, sound, undefined, usedBefore, lengths, indexVariable, State, fail, ifSound, inTurn, Way}
 use Rattle.definition.specs.Using.{gatherUsedVars}
-use Rattle.definition.specs.States.{Way}
 use Rattle.definition.specs.Comprs.{Mods, propagate, useCompr, processCompr, processComprs}
 use Rattle.definition.specs.Exprs.{Pairing, pair, mismatch, assignOneWay, assignPairing}
 use Rattle.definition.specs.SomeIn.{failIfSome, processNonVar}
-use Rattle.definition.specs.Queries.{processStmt, processStmts}
 use Rattle.definition.specs.Queries.{outputScope, outputCompr, analyzeOutputExpr}
 use Rattle.definition_room.proofs.Laws.Sound.{Sound}
 use Rattle.definition_state.specs.Inner.Frames.{guarded}
@@ -28,18 +25,6 @@ fault-cases (undefined l c) = inr (λ e. let z : _≡_ {A = ℕ} 0 1 = cc in ome
 fault-cases (usedBefore l c) = inr (λ e. let z : _≡_ {A = ℕ} 0 1 = cc in omega arith)
 fault-cases (lengths l c) = inr (λ e. let z : _≡_ {A = ℕ} 0 1 = cc in omega arith)
 fault-cases indexVariable = inr (λ e. let z : _≡_ {A = ℕ} 0 1 = cc in omega arith)
-
--- ---- steps in turn, one by one
-
-pub in-turn-two : (f g : State → State) (s : State) → inTurn (f ∷ g ∷ []) s ≡ guarded g (guarded f s)
-in-turn-two f g s = refl
-
-pub in-turn-three : (f g h : State → State) (s : State) → inTurn (f ∷ g ∷ h ∷ []) s ≡ guarded h (guarded g (guarded f s))
-in-turn-three f g h s = refl
-
-pub in-turn-four : (f g h k : State → State) (s : State)
-    → inTurn (f ∷ g ∷ h ∷ k ∷ []) s ≡ guarded k (guarded h (guarded g (guarded f s)))
-in-turn-four f g h k s = refl
 
 -- ---- at a state without a fault
 
@@ -103,12 +88,6 @@ module _ (sheet : Sheet) (way : Way) (s : State) where
     pub non-vars-stay : (i : ℕ) (m : Mods) (l : List Tree) → foldl (processNonVar sheet way i m) s l ≡ s
     non-vars-stay i m l = fold-stays s (processNonVar sheet way i m) (non-var-stays i m) l
 
-    pub stmts-stay : (i : ℕ) (stmts : List Stmt) → processStmts sheet way i stmts s ≡ s
-    unfolding processStmts
-    stmts-stay i [] = refl
-    stmts-stay i (st ∷ stmts) =
-        ap (processStmts sheet way (suc i) stmts) (turn-stays s faulty (processStmt sheet way i st ∷ [])) ∙ stmts-stay (suc i) stmts
-
     pub output-stays : (e : Tree) → outputCompr sheet way s e ≡ s
     unfolding outputCompr
     output-stays e = turn-stays s faulty (way .compr (outputScope (s .scope)) e ∷ (λ t. propagate sheet way (outputScope (t .scope)) e t) ∷ [])
@@ -124,16 +103,6 @@ module _ (sheet : Sheet) (way : Way) (s : State) where
 
   pub comprs-sound : (cs : List Tree) → Sound (processComprs sheet way cs s) → Sound s
   comprs-sound cs = was-sound s (processComprs sheet way cs s) (λ n. comprs-stay n cs)
-
-  pub pairings-sound : (i : ℕ) (m : Mods) (check : Bool) (l : List Pairing)
-      → Sound (foldl (assignPairing sheet way i m check) s l) → Sound s
-  pairings-sound i m check l = was-sound s (foldl (assignPairing sheet way i m check) s l) (λ n. pairings-stay n i m check l)
-
-  pub non-vars-sound : (i : ℕ) (m : Mods) (l : List Tree) → Sound (foldl (processNonVar sheet way i m) s l) → Sound s
-  non-vars-sound i m l = was-sound s (foldl (processNonVar sheet way i m) s l) (λ n. non-vars-stay n i m l)
-
-  pub stmts-sound : (i : ℕ) (stmts : List Stmt) → Sound (processStmts sheet way i stmts s) → Sound s
-  stmts-sound i stmts = was-sound s (processStmts sheet way i stmts s) (λ n. stmts-stay n i stmts)
 
   pub outputs-sound : (outputs : List Tree) → Sound (foldl (analyzeOutputExpr sheet way) s outputs) → Sound s
   outputs-sound outputs = was-sound s (foldl (analyzeOutputExpr sheet way) s outputs) (λ n. outputs-stay n outputs)

@@ -6,17 +6,15 @@ use mathlib.Core.List.{List, [], _∷_, map, foldl}
 use mathlib.Core.Option.{Option, none, some}
 use Prim.Native.Nat.{ℕ}
 use Rattle.base.specs.Lists.{filter}
-use Rattle.order.specs.Definitions.{Definition, ofStatement}
+use Rattle.order.specs.Definitions.{Definition}
 use Rattle.sheet.specs.declared.Row.{Row}
 use Rattle.sheet.specs.Sheet.{Sheet}
 use Rattle.scope.specs.Trees.{Tree}
 use Rattle.scope.specs.Traverse.{leaves, vars}
-use Rattle.scope.specs.Scopes.{elements}
-use Rattle.scope.specs.Scopes.{Span, Scope, spanOf, spanIn, isLocal, owns, addInput, useInput}
+use Rattle.scope.specs.Scopes.{elements, Span, Scope, spanOf, spanIn, isLocal, owns, addInput, useInput}
 use Rattle.definition.specs.Uses.{define, readsInput, undefinedVar, variablesUsed, indexDefinitions}
-use Rattle.definition.specs.States.{Fault, sound, undefined, usedBefore, lengths, indexVariable, Run, State, setScope, addFirstUses, addDefinitions, setRun, fail, ifSound, inTurn, failOr}
-use Rattle.definition.specs.Using.{undefinedAt, gatherUsedVars, usedBeforeAt, checkFirstUse, checkAssigned, recordOne, recordEach, unlessSome, atLeastOne}
-use Rattle.definition.specs.States.{Way}
+use Rattle.definition.specs.States.{Fault, sound, undefined, usedBefore, lengths, indexVariable, Run, State, setScope, addFirstUses, addDefinitions, setRun, fail, ifSound, inTurn, failOr, Way}
+use Rattle.definition.specs.Using.{undefinedAt, gatherUsedVars, usedBeforeAt, checkFirstUse, checkAssigned, recordOne, recordEach}
 use Rattle.definition.specs.Comprs.{propagate, useCompr}
 use Rattle.definition_state.specs.Inner.Frames.{guarded}
 use Rattle.definition_steps.proofs.Laws.Same.{SameScope, same-refl, same-trans}
@@ -101,10 +99,6 @@ keeps-gather-used-vars sheet i extras t s =
     ⨾ keeps-definitions (indexDefinitions sheet (s .scope) extras i t)
     ⨾ end)) s
 
--- The modifiers of statement i.
-pub keeps-with-mods : (sheet : Sheet) (i : ℕ) (mods : List Tree) → Keeps (λ s. foldl (λ u e. inTurn (gatherUsedVars sheet i [] e ∷ []) u) s mods)
-keeps-with-mods sheet i = keeps-fold (λ u e. inTurn (gatherUsedVars sheet i [] e ∷ []) u) (λ e. keeps-turn (keeps-gather-used-vars sheet i [] e ⨾ end))
-
 pub keeps-check-first-use : (w : Row) → Keeps (λ s. checkFirstUse s w)
 unfolding checkFirstUse
 keeps-check-first-use w s = keeps-turn (keeps-fail-or (usedBeforeAt (spanIn (s .firstUses) (w .name)) w) (λ t. t) keeps-none ⨾ end) s
@@ -125,14 +119,6 @@ pub keeps-record-each : (i : ℕ) (xs : List ℕ) (used : ℕ → List ℕ) → 
 unfolding recordEach
 keeps-record-each i [] used s = keeps-record-one i 0 (used 0) s
 keeps-record-each i (x ∷ xs) used s = keeps-definitions (map (λ y. define i y (used y)) (x ∷ xs)) s
-
-pub keeps-at-least-one : (i : ℕ) → Keeps (atLeastOne i)
-unfolding atLeastOne
-keeps-at-least-one i s = go (ofStatement i (s .definitions))
-  where
-    go : (l : List Definition) → SameScope (s .scope) (unlessSome l i s .scope)
-    go [] = keeps-record-one i 0 [] s
-    go (d ∷ defs) = same-refl (s .scope)
 
 -- ---- what rises from a comprehension
 

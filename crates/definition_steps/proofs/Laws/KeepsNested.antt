@@ -1,29 +1,24 @@
 -- The steps that analyse nested queries keep the own names of the scope too.
-use mathlib.Core.Bool.{Bool, true, false, cond, not}
-use mathlib.Core.List.{List, [], _∷_, _++_, map, foldl}
+use mathlib.Core.Bool.{Bool, false, not}
+use mathlib.Core.List.{List, [], _∷_, _++_, foldl}
 use mathlib.Core.Option.{Option, none, some}
 use Prim.Native.Nat.{ℕ}
 use lib.Dec.{eqb}
 use Rattle.base.specs.Lists.{filter}
 use Rattle.order.specs.Definitions.{Definition}
-use Rattle.base.specs.Lists.{concatMap}
-use Rattle.sheet.specs.declared.Row.{Row}
 use Rattle.sheet.specs.Sheet.{Sheet}
-use Rattle.sheet.specs.Kinds.{isAssign, isColEq}
-use Rattle.scope.specs.Trees.{Tree, rowOf, firstOf, secondOf, chain, outputsOf}
-use Rattle.scope.specs.Traverse.{vars, comprs}
-use Rattle.scope.specs.Scopes.{Scope, noScope, spanOf, addLocal}
-use Rattle.definition.specs.Uses.{define, assignedVars, indexDefinitions}
-use Rattle.definition.specs.States.{lengths, indexVariable, QuerySchedule, State, scheduleOf, setRun}
-use Rattle.definition.specs.States.{Way}
+use Rattle.scope.specs.Trees.{Tree, rowOf, outputsOf}
+use Rattle.scope.specs.Traverse.{comprs}
+use Rattle.scope.specs.Scopes.{Scope}
+use Rattle.definition.specs.Uses.{assignedVars, indexDefinitions}
+use Rattle.definition.specs.States.{lengths, indexVariable, QuerySchedule, State, scheduleOf, setRun, Way}
 use Rattle.definition.specs.Comprs.{Mods, allUsed, processCompr, processComprs, useExpr}
-use Rattle.definition.specs.Exprs.{Pairing, pair, mismatch, pairings, assignOneWay, assignPairing, processAssignExpr, processPlainExpr, processExpr}
-use Rattle.definition.specs.SomeIn.{someVarsIn, nonVars, failIfSome, processNonVar, processSomeIn}
-use Rattle.definition.specs.Queries.{processEvery}
+use Rattle.definition.specs.Exprs.{Pairing, pair, mismatch, assignOneWay, assignPairing, processPlainExpr}
+use Rattle.definition.specs.SomeIn.{failIfSome, processNonVar}
 use Rattle.definition.specs.Queries.{outputScope, outputCompr, analyzeOutputExpr}
 use Rattle.definition_once.specs.Inner.OnceWay.{Nested, unlessScheduled, analyzeCompr, onceWay}
 use Rattle.definition_steps.proofs.Laws.Same.{SameScope, same-refl}
-use Rattle.definition_steps.proofs.Laws.Keeps.{Keeps, end, _⨾_, keeps-turn, keeps-fold, keeps-first-uses, keeps-definitions, keeps-run, keeps-fail, keeps-gather-used-vars, keeps-check-assigned, keeps-record-one, keeps-record-each, keeps-propagate, keeps-use-compr}
+use Rattle.definition_steps.proofs.Laws.Keeps.{Keeps, end, _⨾_, keeps-turn, keeps-fold, keeps-run, keeps-fail, keeps-gather-used-vars, keeps-check-assigned, keeps-record-one, keeps-record-each, keeps-propagate, keeps-use-compr}
 
 module _ (sheet : Sheet) (nested : Nested) (parents : List Scope) where
   abbrev way : Way
@@ -79,18 +74,6 @@ module _ (sheet : Sheet) (nested : Nested) (parents : List Scope) where
     unfolding processPlainExpr
     keeps-process-plain-expr e = keeps-turn (keeps-use-expr i [] m e ⨾ (λ t. keeps-record-one i 0 (allUsed sheet way [] m e t) t) ⨾ end)
 
-    pub keeps-process-assign-expr : (e : Tree) → Keeps (processAssignExpr sheet way i m e)
-    unfolding processAssignExpr
-    keeps-process-assign-expr e = keeps-assign-pairings (isColEq (rowOf e)) (pairings (firstOf e) (secondOf e))
-
-    pub keeps-process-expr : (e : Tree) → Keeps (processExpr sheet way i m e)
-    unfolding processExpr
-    keeps-process-expr e s = go (isAssign (rowOf e))
-      where
-        go : (b : Bool) → SameScope (s .scope) (cond b (processAssignExpr sheet way i m e s) (processPlainExpr sheet way i m e s) .scope)
-        go true = keeps-process-assign-expr e s
-        go false = keeps-process-plain-expr e s
-
     pub keeps-process-non-var : (e : Tree) → Keeps (λ s. processNonVar sheet way i m s e)
     unfolding processNonVar
     keeps-process-non-var e =
@@ -105,23 +88,3 @@ module _ (sheet : Sheet) (nested : Nested) (parents : List Scope) where
 
     pub keeps-process-non-vars : (l : List Tree) → Keeps (λ s. foldl (processNonVar sheet way i m) s l)
     keeps-process-non-vars = keeps-fold (processNonVar sheet way i m) keeps-process-non-var
-
-    pub keeps-process-some-in : (pattern : List Tree) (collection : Tree) → Keeps (processSomeIn sheet way i m pattern collection)
-    unfolding processSomeIn
-    keeps-process-some-in pattern collection s =
-        let names = someVarsIn sheet (s .scope) pattern in
-        let others = nonVars sheet (s .scope) pattern in
-        let later : Mods = record { usedVars = []; comprs = m .comprs } in
-        keeps-turn (keeps-use-expr i [] m collection
-        ⨾ (λ t. keeps-definitions (map (λ (w : Row). define i (w .name) (allUsed sheet way [] m collection t)) names) t)
-        ⨾ keeps-first-uses (map spanOf names)
-        ⨾ keeps-process-non-vars others
-        ⨾ (λ t. keeps-record-one i 0 (concatMap (λ e. allUsed sheet way [] later e t) others) t)
-        ⨾ end) s
-
-    pub keeps-process-every : (key value domain : Tree) (query : ℕ) → Keeps (processEvery sheet way i m key value domain query)
-    unfolding processEvery
-    keeps-process-every key value domain query =
-        keeps-turn (keeps-process-plain-expr domain
-        ⨾ (λ t. keeps-run (nested (foldl addLocal noScope (vars (chain key ++ chain value)) ∷ (t .scope ∷ parents)) query [] (t .run)) t)
-        ⨾ end)

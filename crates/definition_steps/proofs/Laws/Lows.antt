@@ -1,9 +1,9 @@
 -- What every schedule in the table has while queries are analysed: names below the bound; and that the scheduler takes it.
-use mathlib.Core.Path.{_≡_, refl}
+use mathlib.Core.Path.{_≡_}
 use mathlib.Core.Bool.{true}
 use mathlib.Core.List.{List, [], _++_, List·Memᴰ, List·Memᴰ·append-cases, List·Memᴰ·not-nil}
 use mathlib.Core.Logic.{⊎-elim}
-use Prim.Native.Nat.{ℕ, _*_, _<_}
+use Prim.Native.Nat.{ℕ, _*_}
 use native.Mathlib.Omega.{arith}
 use lib.Dec.{ltb}
 use borrow.Author.Tests.{ltb-true}
@@ -39,13 +39,11 @@ use Rattle.definition_once.specs.Inner.Named.{NamesUnder}
 use Rattle.definition_once.proofs.Laws.Named.{inputs-under, own-below, own-used}
 use Rattle.definition_room.specs.Inner.Adds.{below, FitsSchedule}
 use Rattle.definition_room.proofs.Laws.Bound.{weight-in-bounds}
-use Rattle.definition_room.proofs.Laws.Counted.{query-statements-few, statements-counted}
-use Rattle.definition_room.proofs.Laws.LowNames.{names-under}
+use Rattle.definition_room.proofs.Laws.Counted.{query-statements-few}
 use Rattle.definition_room.specs.Inner.InBounds.{InBounds}
-use Rattle.scope_walk.specs.Inner.Sheets.{countsAt, specialAt, sheetAt, Accepted}
-use Rattle.scope_state.specs.Inner.Chains.{chainAt}
 use Rattle.definition_state.specs.Inner.Table.{Low}
 use Rattle.sheet.specs.Inner.Rows.{inTables}
+use Rattle.scope_walk.proofs.Laws.RowTrees.{statements-length}
 
 -- ---- each change keeps names low
 
@@ -92,22 +90,13 @@ module _ (n : ℕ) (zero : ltb 0 n ≡ true) where
     analyze-low =
         analyze-keeps sheet (λ x. ltb x n) names zero (Low n) low-kept (λ sc defs low. inputs-under n sc (low .scope)) gathered-low
 
-  -- The sheet in accepted tables is one, where it has fewer names.
-  module _ (t : List ℕ) (ok : Accepted t) (few : countsAt t .names < n) where
-    pub accepted-low : NamesUnder n (sheetAt t)
-    unfolding sheetAt
-    accepted-low = names-under n (countsAt t) (specialAt t) t (ok .within) (ok .facts) few
-
-    pub outputs-low : (key value : ℕ) → all (rowsPass (nameBelow n)) (chainAt t key ++ chainAt t value) ≡ true
-    outputs-low = chains-low (sheetAt t) accepted-low
-
 -- ---- what fits is in bounds
 
 module _ (c : Counts) (x : Special) (t : List ℕ) (few : Within c) (fine : firstLine c (inTables t) ≡ 0) where
   pub in-bounds : (v : Width) (a : QuerySchedule) → FitsSchedule (sheetOf c x t) a → Low (64 * setWords v) (a .scope) (a .definitions) → InBounds (limits v) a
   in-bounds v a fits low = record {
     few-statements =
-        omega (arith, fits .whole, query-statements-few (sheetOf c x t) (a .query), statements-counted c x t, few .few-statements);
+        omega (arith, fits .whole, query-statements-few (sheetOf c x t) (a .query), statements-length c x t, few .few-statements);
     few-definitions = omega (arith, fits .at-most, weight-in-bounds c x t few fine (a .query));
     stated = λ d m. ltb-true (d .statement) (a .count) (all-mem (below (a .count)) (a .definitions) (fits .stated) m);
     named = λ d m. let l = low .named d m in omega (arith, l, names-are v);

@@ -7,8 +7,8 @@ use mathlib.Core.Option.{Option}
 use Prim.Native.Nat.{ℕ}
 use Rattle.base.proofs.Laws.Truth.{bool-cases}
 use Rattle.base.specs.Lists.{filter}
-use Rattle.scope.specs.Scopes.{elements}
-use Rattle.scope.specs.Scopes.{Span, Scope, owns, addUnscoped, addInput, useInput}
+use Rattle.base.proofs.Laws.Lists.{filter-same}
+use Rattle.scope.specs.Scopes.{elements, Span, Scope, owns, addUnscoped, addInput, useInput}
 use Rattle.definition.specs.States.{QuerySchedule, scopeIn}
 use Rattle.definition.specs.Queries.{outputScope}
 use Rattle.definition_once.proofs.Laws.Own.{grows-unscoped}
@@ -21,12 +21,6 @@ output-same-owns sc x =
     ⊎-elim (λ (e : owns sc x ≡ true). grows-unscoped (map (λ (p : Span). p .name) (sc .locals)) sc x e ∙ sym e)
     (λ (e : owns sc x ≡ false). output-owns sc x e ∙ sym e) (bool-cases (owns sc x))
 
--- Names added to unscoped change nothing else.
-locals-stay : (l : List ℕ) (sc : Scope) → foldl addUnscoped sc l .locals ≡ sc .locals
-unfolding addUnscoped
-locals-stay [] sc = refl
-locals-stay (x ∷ l) sc = locals-stay l (addUnscoped sc x)
-
 inputs-stay : (l : List ℕ) (sc : Scope) → foldl addUnscoped sc l .inputs ≡ sc .inputs
 unfolding addUnscoped
 inputs-stay [] sc = refl
@@ -36,10 +30,6 @@ flag-stays : (l : List ℕ) (sc : Scope) → foldl addUnscoped sc l .usesInput �
 unfolding addUnscoped
 flag-stays [] sc = refl
 flag-stays (x ∷ l) sc = flag-stays l (addUnscoped sc x)
-
-pub output-locals : (sc : Scope) → outputScope sc .locals ≡ sc .locals
-unfolding outputScope
-output-locals sc = locals-stay (map (λ (p : Span). p .name) (sc .locals)) sc
 
 pub output-inputs : (sc : Scope) → outputScope sc .inputs ≡ sc .inputs
 unfolding outputScope
@@ -73,10 +63,6 @@ output-add-inputs [] sc = refl
 output-add-inputs (x ∷ l) sc = ap (λ (a : Scope). foldl addInput a l) (sym (output-input sc x)) ∙ output-add-inputs l (addInput sc x)
 
 -- ---- what rises from a comprehension
-
-filter-same : (f g : ℕ → Bool) → ((x : ℕ) → f x ≡ g x) → (l : List ℕ) → filter f l ≡ filter g l
-filter-same f g h [] = refl
-filter-same f g h (x ∷ l) = rw (h x, filter-same f g h l)
 
 -- The scope after it, by the scope before and the schedule of the comprehension's query.
 abbrev pub risen : Scope → Option QuerySchedule → Scope

@@ -8,13 +8,12 @@ use Rattle.sheet.specs.Sheet.{Sheet}
 use Rattle.scope.specs.Trees.{Tree, rowOf, outputsOf}
 use Rattle.scope.specs.Traverse.{comprs}
 use Rattle.scope.specs.Scopes.{Scope}
-use Rattle.definition.specs.States.{Fault, sound, undefined, usedBefore, lengths, indexVariable, QuerySchedule, Run, State, scheduleOf, setScope, addFirstUses, setRun, ifSound}
-use Rattle.definition.specs.States.{Way}
+use Rattle.definition.specs.States.{Fault, sound, undefined, usedBefore, lengths, indexVariable, QuerySchedule, Run, State, scheduleOf, setScope, addFirstUses, setRun, ifSound, Way}
 use Rattle.definition.specs.Comprs.{propagate, useCompr, processCompr, processComprs}
 use Rattle.definition.specs.Queries.{outputScope, outputCompr, analyzeOutputExpr}
 use Rattle.definition_once.specs.Inner.OnceWay.{Nested, unlessScheduled, analyzeCompr, onceWay}
 use Rattle.definition_state.specs.Inner.Frames.{guarded}
-use Rattle.definition_steps.proofs.Laws.OutputScopes.{output-locals, output-inputs, output-flag, risen, output-risen}
+use Rattle.definition_steps.proofs.Laws.OutputScopes.{output-inputs, output-flag, risen, output-risen}
 
 -- The outputs one after the other are their comprehensions one after the other.
 pub outputs-comprs : (sheet : Sheet) (way : Way) (outputs : List Tree) (s : State)
@@ -42,9 +41,6 @@ opened-start s = record { scope = refl; definitions = refl; run = refl }
 
 -- Their scopes differ in what is unscoped alone.
 module _ {s u : State} (o : OpenedState s u) where
-  pub opened-locals : u .scope .locals ≡ s .scope .locals
-  opened-locals = ap (λ (a : Scope). a .locals) (o .scope) ∙ output-locals (s .scope)
-
   pub opened-inputs : u .scope .inputs ≡ s .scope .inputs
   opened-inputs = ap (λ (a : Scope). a .inputs) (o .scope) ∙ output-inputs (s .scope)
 

@@ -1,13 +1,13 @@
 -- Laws of `Pairs`.
 use mathlib.Core.Path.{_≡_, refl}
 use mathlib.Core.Bool.{true, false, cond, _&&_}
-use mathlib.Core.List.{List, [], _∷_, _++_, append-nil}
+use mathlib.Core.List.{List, [], _∷_, _++_}
 use Prim.Native.Nat.{ℕ, _≤_}
 use lib.Dec.{eqb}
 use lib.ListN.{length, getD}
 use Rattle.sheet.specs.Inner.Sheet.{rowAt}
 use Rattle.sheet.specs.Kinds.{isArray, isPattern}
-use Rattle.scope.specs.Trees.{Tree, nil, node, thirdOf, treeAt}
+use Rattle.scope.specs.Trees.{Tree, nil, node, treeAt}
 use Rattle.scope.specs.Traverse.{leaves}
 use Rattle.definition.specs.Exprs.{Pairing, pair, mismatch, pairings}
 use Rattle.scope_walk.specs.Inner.Sheets.{sheetAt, Accepted}
@@ -54,12 +54,3 @@ module _ (t : List ℕ) where
       pub leaves-at-row : leavesAt t row ≡ (cond (isPattern (rowAt t row)) (leavesAt t (rowAt t row .first)) (exprBy t false row ∷ []) ++ (leavesAt t) (rowAt t row .next))
       unfolding leaves
       leaves-at-row = rw (tree-is t ok row some high)
-
-      -- The same without the rest of the chain.
-      pub leaves-alone : leaves (exprBy t false row) ≡ cond (isPattern (rowAt t row)) (leavesAt t (rowAt t row .first)) (exprBy t false row ∷ [])
-      unfolding leaves
-      leaves-alone =
-          rw (tree-is t ok row some high)
-          (append-nil (cond (isPattern (rowAt t row)) (leavesAt t (rowAt t row .first))
-          (node (rowAt t row) (treeAt (sheetAt t) (rowAt t row .first)) (treeAt (sheetAt t) (rowAt t row .second)) (treeAt (sheetAt t) (thirdOf (rowAt t row))) nil
-          ∷ [])))

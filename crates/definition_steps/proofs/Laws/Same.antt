@@ -6,10 +6,9 @@ use Prim.Native.Nat.{ℕ}
 use Rattle.sheet.specs.declared.Row.{Row}
 use Rattle.sheet.specs.Sheet.{Sheet}
 use Rattle.scope.specs.Trees.{Tree}
-use Rattle.scope.specs.Scopes.{NameSet, empty}
-use Rattle.scope.specs.Scopes.{Span, Scope, isLocal, owns, varExists}
-use Rattle.definition.specs.Uses.{assignedVars, indexVars, isUse, usedAt, usedVars, variablesUsed, indexDefinitionsAt, indexDefinitions}
-use Rattle.definition.specs.SomeIn.{someVarsIn, nonVars}
+use Rattle.scope.specs.Scopes.{NameSet, empty, Span, Scope, isLocal, owns, varExists}
+use Rattle.definition.specs.Uses.{assignedVars, indexVars, isUse, usedAt, usedVars, indexDefinitionsAt, indexDefinitions}
+use Rattle.definition.specs.SomeIn.{nonVars}
 use Rattle.scope_state.specs.Inner.Outers.{Outer}
 
 -- The scope b has the own names of a.
@@ -33,30 +32,14 @@ module _ {a b : Scope} (p : SameScope a b) where
   pub same-local : (x : ℕ) → isLocal b x ≡ isLocal a x
   same-local x = ap (λ (l : List Span). isLocal (own l (a .unscoped)) x) (p .locals)
 
-  pub same-owns : (x : ℕ) → owns b x ≡ owns a x
-  unfolding owns
-  same-owns x = ap₂ (λ (l : List Span) (u : NameSet). owns (own l u) x) (p .locals) (p .unscoped)
-
-  pub same-assigned : (t : Tree) → assignedVars b t ≡ assignedVars a t
-  unfolding assignedVars owns
-  same-assigned t = ap₂ (λ (l : List Span) (u : NameSet). assignedVars (own l u) t) (p .locals) (p .unscoped)
-
   module _ (sheet : Sheet) (extras : List ℕ) where
     pub same-used : (t : Tree) → usedVars sheet b extras t ≡ usedVars sheet a extras t
     unfolding usedVars usedAt isUse indexVars assignedVars owns
     same-used t = ap₂ (λ (l : List Span) (u : NameSet). usedVars sheet (own l u) extras t) (p .locals) (p .unscoped)
 
-    pub same-variables : (t : Tree) → variablesUsed sheet b extras t ≡ variablesUsed sheet a extras t
-    unfolding variablesUsed isUse owns
-    same-variables t = ap₂ (λ (l : List Span) (u : NameSet). variablesUsed sheet (own l u) extras t) (p .locals) (p .unscoped)
-
     pub same-index : (i : ℕ) (t : Tree) → indexDefinitions sheet b extras i t ≡ indexDefinitions sheet a extras i t
     unfolding indexDefinitions indexDefinitionsAt usedVars usedAt isUse indexVars assignedVars owns
     same-index i t = ap₂ (λ (l : List Span) (u : NameSet). indexDefinitions sheet (own l u) extras i t) (p .locals) (p .unscoped)
-
-  pub same-some-vars : (sheet : Sheet) (ls : List Tree) → someVarsIn sheet b ls ≡ someVarsIn sheet a ls
-  unfolding someVarsIn
-  same-some-vars sheet ls = ap (λ (l : List Span). someVarsIn sheet (own l (a .unscoped)) ls) (p .locals)
 
   pub same-non-vars : (sheet : Sheet) (ls : List Tree) → nonVars sheet b ls ≡ nonVars sheet a ls
   unfolding nonVars

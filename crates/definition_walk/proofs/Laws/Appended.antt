@@ -12,14 +12,12 @@ use lib.Seq.{getD-set-same, getD-set-other}
 use borrow.Author.Tests.{lt-ltb, le-ltb}
 use Rattle.base.specs.Limits as limits
 use Rattle.base.proofs.Laws.Truth.{lt-cases}
-use Rattle.base.specs.Lists.{filter, elem}
-use Rattle.base.specs.Lists.{counted, range}
-use Rattle.base.specs.Sets.{member, members}
+use Rattle.base.specs.Lists.{filter, elem, counted, range}
+use Rattle.base.specs.Sets.{member, members, wordsAt}
 use Rattle.names.specs.declared.Names.{Names}
 use Rattle.order.specs.Definitions.{Definition}
 use Rattle.names_width.specs.declared.Width.{Width}
 use Rattle.names_width.specs.Inner.Widths.{setWords, rowWords, Put}
-use Rattle.base.specs.Sets.{wordsAt}
 use Rattle.names_width.proofs.Laws.Laws.{words-length, row-two, row-words, at-most, filter-end}
 use Rattle.order.specs.Call.{definitionAt}
 use Rattle.order_rows.specs.Inner.Rows.{heldRow}

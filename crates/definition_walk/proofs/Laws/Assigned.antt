@@ -5,16 +5,14 @@ use mathlib.Core.List.{List, [], _∷_, _++_, map}
 use mathlib.Core.Logic.{_⊎_, inl, inr}
 use Prim.Native.Nat.{ℕ, _≤_, _<_}
 use native.Mathlib.Omega.{arith}
-use lib.Dec.{eqb}
-use borrow.Author.Tests.{eqb-true, eq-eqb, ne-eqb}
-use Rattle.base.proofs.Laws.Truth.{bool-cases, or-cases}
-use Rattle.base.specs.Lists.{filter}
+use borrow.Author.Tests.{eq-eqb, ne-eqb}
+use Rattle.base.proofs.Laws.Truth.{bool-cases}
+use Rattle.base.specs.Lists.{filter, concatMap}
 use Rattle.names.specs.Inner.Sets.{Inserted}
 use Rattle.names.specs.declared.Names.{Names}
 use Rattle.sheet.specs.declared.Row.{Row}
 use Rattle.sheet.specs.Inner.Sheet.{rowAt}
 use Rattle.sheet.specs.Kinds.{isVar, isPattern}
-use Rattle.base.specs.Lists.{concatMap}
 use Rattle.scope.specs.Trees.{Tree, rowOf, treeAt}
 use Rattle.scope.specs.Traverse.{leaves, vars}
 use Rattle.scope.specs.Scopes as spec
@@ -27,7 +25,7 @@ use Rattle.scope_walk.proofs.Laws.Walks.{overLeaves, leaves-none, leaves-row}
 use Rattle.scope_state.specs.declared.Scope.{Scope}
 use Rattle.scope_walk.specs.Inner.Sheets.{countsAt, specialAt, sheetAt, Accepted, exprCount}
 use Rattle.scope_walk.specs.Inner.Walking.{remains}
-use Rattle.scope_walk.proofs.Laws.Walking.{Falls}
+use Rattle.scope_walk.proofs.Laws.Walking.{Falls, no-var}
 use Rattle.definition_walk.specs.Inner.Own.{Owns}
 use Rattle.definition_walk.proofs.Laws.Collects.{append-nil, collect}
 use Rattle.definition_walk.specs.Inner.Adds.{Adds}
@@ -58,14 +56,6 @@ module _ (w : Row) where
 
     pub is-leaf : (w .kind ≡ 9 → ⊥) → 0 ≡ cond (isPattern w) (w .first) 0
     is-leaf n = sym (rw (ne-eqb (w .kind) 7 ne, ne-eqb (w .kind) 9 n))
-
-  -- A variable is no pattern.
-  pub var-leaf : isPattern w ≡ true → isVar w ≡ false
-  var-leaf p = go (or-cases (eqb (w .kind) 7) (eqb (w .kind) 9) p)
-    where
-      go : (eqb (w .kind) 7 ≡ true) ⊎ (eqb (w .kind) 9 ≡ true) → isVar w ≡ false
-      go (inl q) = rw (eqb-true (w .kind) 7 q)
-      go (inr q) = rw (eqb-true (w .kind) 9 q)
 
 module _ (t : List ℕ) where
   -- The calls of a row's turn, on rows i and n.
@@ -140,7 +130,7 @@ module _ (t : List ℕ) where
           go : let w = rowAt t row in
               (isPattern w ≡ true) ⊎ (isPattern w ≡ false)
               → cond (isPattern w) (overLeaves (countsAt t) (specialAt t) t step [] (w .first)) (leafAt s w) ≡ (leafAt s w ++ from (cond (isPattern w) (w .first) 0))
-          go (inl p) = rw (p, var-leaf (rowAt t row) p) (over-is [] (rowAt t row .first))
+          go (inl p) = rw (p, no-var (rowAt t row) p) (over-is [] (rowAt t row .first))
           go (inr p) = rw (p, none-is) (sym (append-nil (leafAt s (rowAt t row))))
 
       pub assigned-zero : assignedVars s (treeAt (sheetAt t) 0) ≡ []

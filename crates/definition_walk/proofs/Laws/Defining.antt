@@ -26,9 +26,9 @@ use Rattle.scope_walk.proofs.Laws.Walks.{aloneAt}
 use Rattle.scope_state.specs.declared.Scope.{Scope}
 use Rattle.scope_walk.specs.Inner.Sheets.{countsAt, specialAt, sheetAt, Accepted, exprCount}
 use Rattle.scope_state.specs.Inner.Agrees.{Sets}
+use Rattle.scope_walk.specs.Inner.Exprs.{exprBy}
 use Rattle.definition_walk.specs.declared.found.Used.{Used}
 use Rattle.definition_walk.specs.Inner.Own.{Holds}
-use Rattle.scope_walk.specs.Inner.Exprs.{exprBy}
 use Rattle.definition_walk.specs.Inner.Undefined.{UndefinedWalk}
 use Rattle.definition_walk.proofs.Laws.Undefined.{undefined-from-none, undefined-none, undefined-turn}
 use Rattle.definition_walk.specs.Inner.Met.{MetWalk, reads}

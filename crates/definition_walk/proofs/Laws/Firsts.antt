@@ -12,27 +12,25 @@ use lib.Seq.{getD-set-same, getD-set-other}
 use borrow.Author.Tests.{eqb-true, eqb-false, eq-eqb, ne-eqb}
 use Rattle.base.specs.Limits as limits
 use Rattle.base.proofs.Laws.Truth.{bool-cases}
-use Rattle.base.specs.Lists.{filter}
+use Rattle.base.specs.Lists.{filter, isSome}
 use Rattle.names.specs.declared.Names.{Names}
 use Rattle.sheet.specs.declared.Row.{Row}
 use Rattle.sheet.specs.Inner.Sheet.{rowAt}
 use Rattle.sheet.specs.Kinds.{isVar}
-use Rattle.base.specs.Lists.{isSome}
 use Rattle.scope.specs.Trees.{Tree, rowOf, treeAt}
 use Rattle.scope.specs.Traverse.{traverse, vars}
 use Rattle.scope.specs.Scopes as spec
 use Rattle.scope.specs.Scopes.{Span, spanOf, spanIn}
-use Rattle.definition.specs.Uses.{isUse, variablesUsed}
-use Rattle.definition.specs.Uses.{addFirstUse}
+use Rattle.definition.specs.Uses.{isUse, variablesUsed, addFirstUse}
 use Rattle.scope_walk.specs.declared.Kids.{Kids}
 use Rattle.scope_walk.specs.Inner.Kids.{kidsOf}
 use Rattle.scope_walk.specs.Inner.Walks.{alone}
 use Rattle.scope_state.specs.declared.Scope.{Scope}
 use Rattle.scope_walk.specs.Inner.Sheets.{sheetAt, Accepted, exprCount}
-use Rattle.definition_walk.specs.Inner.Own.{IsUse}
 use Rattle.scope_walk.specs.Inner.Exprs.{exprBy}
-use Rattle.definition_walk.specs.Inner.Walk.{Walk}
-use Rattle.definition_walk.proofs.Laws.Walk.{walk-none, walk-turn}
+use Rattle.scope_walk.specs.Inner.Walking.{Walk}
+use Rattle.scope_walk.proofs.Laws.Walking.{walk-none, walk-turn}
+use Rattle.definition_walk.specs.Inner.Own.{IsUse}
 use Rattle.definition_walk.specs.Inner.Firsts.{firstWord, Firsts, FirstUse, useStep, FirstStep, FirstWalk}
 
 module _ (w : Row) (low : w .name < limits.perName) (ws : List ℕ) where

@@ -6,7 +6,7 @@ use mathlib.Core.Logic.{_⊎_, inl, inr}
 use Prim.Native.Nat.{ℕ, zero, suc, _≤_, _<_}
 use lib.Dec.{eqb, leb}
 use borrow.Author.Tests.{eq-eqb, ne-eqb, le-leb, lt-leb}
-use Rattle.base.proofs.Laws.Truth.{bool-cases, not-both}
+use Rattle.base.proofs.Laws.Truth.{bool-cases, not-both, neither-left, neither-right}
 use Rattle.base.specs.Sets.{member}
 use Rattle.names.specs.Inner.Sets.{Inserted}
 use Rattle.names.specs.declared.Names.{Names}
@@ -29,21 +29,12 @@ use Rattle.definition_walk.specs.Inner.UsedVars.{UsedStep}
 use Rattle.definition_walk.proofs.Laws.UsedVars.{var-used, var-not-used, used-step-var, step-bracket, used-step-other}
 use Rattle.definition_walk.specs.Inner.Founds.{inputRead, foundUndefined, OwnUsed, withNames, RowUsed, comprMet}
 
--- Of a sum that is false each part is.
-or-first : (a b : Bool) → (a || b) ≡ false → a ≡ false
-or-first true b h = h
-or-first false b h = refl
-
-or-second : (a b : Bool) → (a || b) ≡ false → b ≡ false
-or-second true b h = absurd (not-both refl h)
-or-second false b h = h
-
 -- A name without a meaning of its own is not `input`.
 no-special : (t : List ℕ) (x : ℕ) → isSpecial (sheetAt t) x ≡ false → isInput (sheetAt t) x ≡ false
 unfolding isSpecial
 no-special t x h =
-    or-first (isInput (sheetAt t) x) (eqb x (sheetAt t .special .«data»))
-    (or-second (eqb x (sheetAt t .special .blank)) (isInput (sheetAt t) x || eqb x (sheetAt t .special .«data»)) h)
+    neither-left (isInput (sheetAt t) x) (eqb x (sheetAt t .special .«data»))
+    (neither-right (eqb x (sheetAt t .special .blank)) (isInput (sheetAt t) x || eqb x (sheetAt t .special .«data»)) h)
 
 abbrev reading : Used → Bool → Used
 reading u b = record { names = u .names; count = u .count; undefined = u .undefined; reads = b; comprs = u .comprs }

@@ -17,7 +17,7 @@ use Rattle.scope_walk.specs.Inner.Kids.{kidsOf}
 use Rattle.scope_walk.specs.Inner.Walks.{alone}
 use Rattle.scope_walk.specs.Inner.Sheets.{sheetAt, Accepted, exprCount}
 use Rattle.scope_walk.specs.Inner.Exprs.{exprBy}
-use Rattle.definition_walk.proofs.Laws.Walk.{walk-none, walk-turn}
+use Rattle.scope_walk.proofs.Laws.Walking.{walk-none, walk-turn}
 use Rattle.definition_walk.specs.Inner.Met.{met, MetStep, MetWalk, reads}
 
 -- A walk that keeps that one passed asks whether any does.

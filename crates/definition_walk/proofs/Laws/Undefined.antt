@@ -20,8 +20,8 @@ use Rattle.scope_walk.specs.Inner.Kids.{kidsOf}
 use Rattle.scope_walk.specs.Inner.Walks.{alone}
 use Rattle.scope_state.specs.declared.Scope.{Scope}
 use Rattle.scope_walk.specs.Inner.Sheets.{sheetAt, Accepted, exprCount}
+use Rattle.scope_walk.proofs.Laws.Walking.{walk-none, walk-turn}
 use Rattle.definition_walk.proofs.Laws.Own.{IsUndefined}
-use Rattle.definition_walk.proofs.Laws.Walk.{walk-none, walk-turn}
 use Rattle.definition_walk.specs.Inner.Undefined.{orRow, foundAt, FoundVariable, UndefinedStep, variableAt, earlier, UndefinedWalk, Undefined}
 
 -- A walk that keeps what it found first finds the first of all.

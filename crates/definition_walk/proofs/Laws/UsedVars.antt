@@ -18,8 +18,8 @@ use Rattle.scope_walk.proofs.Laws.Onwards.{onward-low}
 use Rattle.scope_walk.proofs.Laws.Walks.{aloneAt}
 use Rattle.scope_state.specs.declared.Scope.{Scope}
 use Rattle.scope_walk.specs.Inner.Sheets.{countsAt, specialAt, sheetAt, Accepted, exprCount}
-use Rattle.definition_walk.specs.Inner.Own.{IsUse}
 use Rattle.scope_walk.specs.Inner.Exprs.{exprBy}
+use Rattle.definition_walk.specs.Inner.Own.{IsUse}
 use Rattle.definition_walk.proofs.Laws.Collects.{collected-none, collected-turn}
 use Rattle.definition_walk.proofs.Laws.Adds.{adds-none, adds-one}
 use Rattle.definition_walk.specs.Inner.Assigned.{AssignedWalk}

@@ -19,9 +19,9 @@ use Rattle.definition.specs.Uses.{define, readsInput, assignedVars, usedVars, i
 use Rattle.scope_state.specs.declared.Scope.{Scope}
 use Rattle.scope_walk.specs.Inner.Sheets.{sheetAt}
 use Rattle.scope_state.specs.Inner.Agrees.{Sets}
+use Rattle.scope_walk.specs.Inner.Exprs.{exprBy}
 use Rattle.definition_walk.specs.declared.found.Used.{Used}
 use Rattle.definition_walk.specs.Inner.Own.{Holds}
-use Rattle.scope_walk.specs.Inner.Exprs.{exprBy}
 use Rattle.definition_walk.specs.Inner.Undefined.{UndefinedWalk, Undefined}
 use Rattle.definition_walk.specs.Inner.Met.{MetWalk, reads}
 use Rattle.definition_walk.specs.Inner.Firsts.{FirstWalk}

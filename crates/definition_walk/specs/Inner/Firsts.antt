@@ -11,13 +11,12 @@ use Rattle.sheet.specs.declared.Row.{Row}
 use Rattle.sheet.specs.Kinds.{isVar}
 use Rattle.scope.specs.Scopes as spec
 use Rattle.scope.specs.Scopes.{Span, spanOf, spanIn}
-use Rattle.definition.specs.Uses.{isUse, variablesUsed}
-use Rattle.definition.specs.Uses.{addFirstUse}
+use Rattle.definition.specs.Uses.{isUse, variablesUsed, addFirstUse}
 use Rattle.scope_state.specs.declared.Scope.{Scope}
 use Rattle.scope_walk.specs.Inner.Sheets.{sheetAt}
 use Rattle.scope_state.specs.Inner.Agrees.{Sets}
-use Rattle.definition_walk.specs.Inner.Own.{Holds}
 use Rattle.scope_walk.specs.Inner.Exprs.{exprBy}
+use Rattle.definition_walk.specs.Inner.Own.{Holds}
 
 -- A first use as a word: 0 for none.
 abbrev pub firstWord : Option Span → ℕ

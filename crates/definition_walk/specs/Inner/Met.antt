@@ -8,7 +8,7 @@ use Rattle.sheet.specs.Sheet.{isInput}
 use Rattle.sheet.specs.Kinds.{isVar}
 use Rattle.scope.specs.Trees.{Tree, rowOf}
 use Rattle.scope_walk.specs.Inner.Sheets.{sheetAt}
-use Rattle.definition_walk.specs.Inner.Walk.{Walk}
+use Rattle.scope_walk.specs.Inner.Walking.{Walk}
 
 -- Up to this row.
 abbrev pub met : (Row → Bool) → Bool → Row → Bool

@@ -14,7 +14,7 @@ use Rattle.scope_state.specs.declared.Scope.{Scope}
 use Rattle.scope_walk.specs.Inner.Sheets.{sheetAt, exprCount}
 use Rattle.scope_state.specs.Inner.Agrees.{Sets}
 use Rattle.scope_walk.specs.Inner.Exprs.{exprBy}
-use Rattle.definition_walk.specs.Inner.Walk.{Walk}
+use Rattle.scope_walk.specs.Inner.Walking.{Walk}
 
 -- The first of two.
 abbrev pub orRow : Option Row → Option Row → Option Row

@@ -3,8 +3,7 @@ use mathlib.Core.Path.{_≡_, refl}
 use mathlib.Core.Bool.{true, false}
 use mathlib.Core.List.{[], _∷_}
 use Prim.Native.Nat.{_+_, _^_}
-use Rattle.base.specs.Lists.{all}
-use Rattle.base.specs.Lists.{range}
+use Rattle.base.specs.Lists.{all, range}
 use Rattle.base.specs.Sets.{bit, member, members}
 use Rattle.names.specs.Inner.Sets.{isEmpty}
 

@@ -7,14 +7,12 @@ use Prim.Native.Nat.{ℕ, _*_, _/_, _%_, _≤_, _<_}
 use native.Mathlib.Omega.{arith}
 use lib.Dec.{eqb}
 use lib.ListN.{length, List·getD-eq-default}
-use borrow.Author.Tests.{eq-eqb}
-use Rattle.base.proofs.Laws.Truth.{bool-cases, lt-cases, not-both, bool-ext, and-intro, and-left, or-left, or-right}
-use Rattle.base.specs.Lists.{all, elem}
-use Rattle.base.proofs.Laws.Lists.{ascending, all-elem, elem-all, elem-filter, filter-ascending}
-use Rattle.base.specs.Lists.{range}
-use Rattle.base.proofs.Laws.Ranges.{elem-range, range-ascending}
+use Rattle.base.proofs.Laws.Truth.{bool-cases, lt-cases, not-both, bool-ext, and-intro, and-left, or-right}
+use Rattle.base.specs.Lists.{all, elem, range}
+use Rattle.base.proofs.Laws.Lists.{all-elem, elem-all, elem-filter}
+use Rattle.base.proofs.Laws.Ranges.{elem-range}
 use Rattle.base.specs.Sets.{bit, member, members}
-use Rattle.names.specs.Inner.Sets.{isNil, isEmpty, Empty, Inserted, Removed, Union, Next}
+use Rattle.names.specs.Inner.Sets.{isNil, isEmpty, Empty, Inserted}
 use Rattle.names.proofs.Laws.Bits.{bit-of-zero}
 
 -- ---- where members are
@@ -39,10 +37,6 @@ elem-members ws n =
     elem-filter (member ws) n (range 0 (64 * length ws))
     ∙ bool-ext _ _ (and-left (member ws n) (elem n (range 0 (64 * length ws))))
     (λ (m : member ws n ≡ true). and-intro _ _ m (elem-range n 0 (64 * length ws) (omega arith) (member-below ws n m)))
-
-pub members-ascending : (ws : List ℕ) → ascending (members ws) ≡ true
-unfolding members
-members-ascending ws = filter-ascending (member ws) (range 0 (64 * length ws)) (range-ascending 0 (64 * length ws))
 
 -- A test that all members pass, said of each. Where the test is `member` of another set, it is what `is_subset` answers.
 module _ (f : ℕ → Bool) (ws : List ℕ) where
@@ -74,28 +68,5 @@ module _ (ws : List ℕ) where
 
 -- ---- what an operation says of one name
 
-pub inserted-new : {ws : List ℕ} {x : ℕ} {r : List ℕ} → Inserted ws x r → member r x ≡ true
-inserted-new {ws} {x} s = s .has x ∙ or-left _ _ (eq-eqb x x refl)
-
 pub inserted-keeps : {ws : List ℕ} {x : ℕ} {r : List ℕ} → Inserted ws x r → (n : ℕ) → member ws n ≡ true → member r n ≡ true
 inserted-keeps {ws} {x} s n m = s .has n ∙ or-right (eqb n x) (member ws n) m
-
-pub removed-gone : {ws : List ℕ} {x : ℕ} {r : List ℕ} → Removed ws x r → member r x ≡ false
-removed-gone {ws} {x} s = s .has x ∙ rw (eq-eqb x x refl)
-
-pub union-left : {a b r : List ℕ} → Union a b r → (n : ℕ) → member a n ≡ true → member r n ≡ true
-union-left {a} {b} s n m = s .has n ∙ or-left (member a n) (member b n) m
-
-pub union-right : {a b r : List ℕ} → Union a b r → (n : ℕ) → member b n ≡ true → member r n ≡ true
-union-right {a} {b} s n m = s .has n ∙ or-right (member a n) (member b n) m
-
--- `Next` leaves no choice.
-pub next-unique : {ws : List ℕ} {end a r s : ℕ} → Next ws end a r → Next ws end a s → r ≡ s
-next-unique {ws} {end} {a} p q =
-    let u = not-below p q in
-    let v = not-below q p in
-    omega arith
-  where
-    not-below : {r s : ℕ} → Next ws end a r → Next ws end a s → s ≤ r
-    not-below {r} {s} p q =
-        ⊎-elim (λ (h : r < s). absurd (not-both (p .found (omega arith)) (q .gap r (omega arith) h))) (λ (h : s ≤ r). h) (lt-cases r s)

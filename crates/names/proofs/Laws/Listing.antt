@@ -10,8 +10,7 @@ use Prim.Native.Nat.{ℕ, _+_, _*_, _≤_, _<_}
 use native.Mathlib.Omega.{arith}
 use lib.ListN.{length}
 use Rattle.base.proofs.Laws.Truth.{lt-cases}
-use Rattle.base.specs.Lists.{all, filter}
-use Rattle.base.specs.Lists.{range}
+use Rattle.base.specs.Lists.{all, filter, range}
 use Rattle.base.proofs.Laws.Ranges.{range-nil, range-cons, filter-skip}
 use Rattle.base.specs.Sets.{member, members}
 use Rattle.names.specs.Inner.Sets.{Next}

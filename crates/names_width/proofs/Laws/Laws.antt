@@ -1,9 +1,9 @@
 -- Laws of sets of w words, for any w.
-use mathlib.Core.Path.{_≡_, refl, sym, ap, ap₂, _∙_, fun-ext}
+use mathlib.Core.Path.{_≡_, refl, sym, ap, ap₂, _∙_}
 use mathlib.Core.Bool.{Bool, false, cond}
-use mathlib.Core.List.{List, [], _∷_}
+use mathlib.Core.List.{List, _∷_}
 use mathlib.Core.Logic.{⊎-elim}
-use Prim.Native.Nat.{ℕ, zero, suc, _+_, _-_, _*_, _/_, _%_, _^_, _≤_, _<_}
+use Prim.Native.Nat.{ℕ, zero, suc, _+_, _*_, _/_, _%_, _^_, _≤_, _<_}
 use native.Mathlib.Nat.{mul-le-mul-left, mul-suc, div-mul-le-self}
 use native.Mathlib.Omega.{arith}
 use lib.Dec.{lit≤, lit<}
@@ -13,15 +13,13 @@ use borrow.Author.Count.{below-none, below-more}
 use Rattle.base.specs.Limits.{library}
 use Rattle.base.specs.Inner.Sizes.{leastWork}
 use Rattle.base.proofs.Laws.Truth.{lt-cases}
-use Rattle.base.specs.Lists.{filter}
-use Rattle.base.specs.Lists.{counted, range}
-use Rattle.base.specs.Sets.{bit, member, members}
+use Rattle.base.specs.Lists.{filter, counted}
+use Rattle.base.specs.Sets.{bit, member, wordsAt}
 use Rattle.names.specs.Inner.Sets.{Empty}
 use Rattle.names.proofs.Laws.Laws.{member-out}
 use Rattle.names.proofs.Laws.Bits.{bits-ext, bit-of-zero}
 use Rattle.names.proofs.Laws.Words.{member-at}
 use Rattle.names_width.specs.Inner.Widths.{setWords, names, work, rowWords, Same, Put}
-use Rattle.base.specs.Sets.{wordsAt}
 use Rattle.names_width.proofs.Laws.Widths.{Fits}
 use Rattle.names_width.specs.declared.Width.{Width}
 use Rattle.names_width.specs.declared.Width.the-variants.{Two, Eight}
@@ -51,22 +49,11 @@ same-words w a b long setWords rest = record {
       (λ (h : 64 * w ≤ n). member-out a n (omega (arith, long)) ∙ sym (rest n h)) (lt-cases n (64 * w));
 }
 
-pub fits-same : (w : ℕ) (a : List ℕ) (ws : List ℕ) (at : ℕ) → Fits w a → ((i : ℕ) → i < w → getD ws (at + i) 0 ≡ getD a i 0) → Same (wordsAt w ws at) a
-fits-same w a ws at fits put =
-    same-words w (wordsAt w ws at) a (words-length w ws at) (λ i h. sym (put i h) ∙ sym (words-get w ws at i h)) (fits .none)
-
 -- The words behind those that a set needs are zero: by value a set of two words has six of them.
 pub rest-zero : (w : ℕ) (a : List ℕ) → Fits w a → (i : ℕ) → w ≤ i → getD a i 0 < 2 ^ 64 → getD a i 0 ≡ 0
 rest-zero w a fits i h small =
     bits-ext 64 (getD a i 0) 0 small (lit< tt)
     (λ k l. sym (member-at a i k l) ∙ fits .none (64 * i + k) (omega (arith, mul-le-mul-left 64 h)) ∙ sym (bit-of-zero k))
-
--- What has room is put whole.
-pub put-same : (w : ℕ) (before : List ℕ) (at : ℕ) (a after : List ℕ) → Fits w a → Put w before at a after → Same (wordsAt w after at) a
-put-same w before at a after fits put = record {
-  has = λ n. ⊎-elim (λ (h : n < 64 * w). put .held n h)
-      (λ (h : 64 * w ≤ n). member-out (wordsAt w after at) n (omega (arith, words-length w after at)) ∙ sym (fits .none n h)) (lt-cases n (64 * w));
-}
 
 -- A row of v words that is there is there whole.
 pub row-whole : (v k : ℕ) (ws : List ℕ) → k < length ws / v → v * k + v ≤ length ws
@@ -203,14 +190,3 @@ filter-end f a zero (suc n) h none =
     ∙ filter-end f (suc a) zero n (omega arith) (λ x l. none x (omega arith))
 filter-end f a (suc c) (suc n) h none =
     ap (λ (l : List ℕ). cond (f a) (a ∷ l) l) (filter-end f (suc a) c n (omega arith) (λ x l. none x (omega arith)))
-
-members-padded : (a : List ℕ) (n : ℕ) → 64 * length a ≤ n → filter (member a) (counted 0 n) ≡ members a
-unfolding members range
-members-padded a n h =
-    let e : 64 * length a ≡ 64 * length a - 0 = omega arith in
-    filter-end (member a) 0 (64 * length a) n h (λ x l. member-out a x (omega arith)) ∙ ap (λ (k : ℕ). filter (member a) (counted 0 k)) e
-
-pub same-members : (a b : List ℕ) → Same a b → members a ≡ members b
-same-members a b same =
-    let n = 64 * length a + 64 * length b in
-    sym (members-padded a n (omega arith)) ∙ ap (λ (f : ℕ → Bool). filter f (counted 0 n)) (fun-ext (same .has)) ∙ members-padded b n (omega arith)

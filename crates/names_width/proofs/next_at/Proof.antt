@@ -1,5 +1,5 @@
 -- The loop's invariant: the words passed have no member from `from` up. The lowest bit of a word from there says whether it has one.
-use mathlib.Core.Path.{_≡_, sym, ap, subst, _∙_}
+use mathlib.Core.Path.{sym, subst}
 use Prim.Native.Nat.{ℕ, _+_, _-_, _*_, _≤_}
 use native.Mathlib.Omega.{arith}
 use lib.ListN.{length, getD}

@@ -5,18 +5,15 @@ use mathlib.Core.List.{List, [], _∷_, _++_, map-append}
 use Prim.Native.Nat.{ℕ, zero, suc}
 use lib.Dec.{eqb}
 use lib.ListN.{length, length-map}
-use Rattle.base.specs.Lists.{elem}
-use Rattle.base.specs.Lists.{range}
+use Rattle.base.specs.Lists.{elem, range}
 use Rattle.order.specs.Walk.{takeable, pick, walk, rounds}
-use Rattle.order.specs.Definitions.{Definition}
-use Rattle.order.specs.Definitions.{defines, ready}
-use Rattle.order.specs.Turns.{Turn, Placement, statements, try, tries, defining, turnOf, followed, round, roundsFrom, placements}
-use Rattle.order.specs.Turns.{placed, order, reached}
+use Rattle.order.specs.Definitions.{Definition, defines, ready}
+use Rattle.order.specs.Turns.{Turn, Placement, statements, try, tries, defining, turnOf, followed, round, roundsFrom, placements, placed, order, reached}
 use Rattle.order.specs.Inner.Orders.{turnOrder, followedOrder, roundOrder, placedOrder}
 
 -- Each placement has one statement.
-pub statements-length : (p : List Placement) → length (statements p) ≡ length p
-statements-length p = length-map p (λ (q : Placement). q .statement)
+pub placed-length : (p : List Placement) → length (statements p) ≡ length p
+placed-length p = length-map p (λ (q : Placement). q .statement)
 
 -- A choice between two lists of placements is one between their statements.
 statements-cond : (b : Bool) (p q : List Placement) → statements (cond b p q) ≡ cond b (statements p) (statements q)
@@ -51,7 +48,7 @@ module _ (defs : List Definition) (n : ℕ) where
       let more = turnOf defs n 0 (record { round = r; name = x; follow = true }) own in
       let e : statements own ≡ turnOrder defs n x (statements p) = turn-statements x _ p in
       statements-cond (eqb (length own) (length p)) own more
-      ∙ rw (← statements-length own, ← statements-length p, turn-statements 0 _ own, e)
+      ∙ rw (← placed-length own, ← placed-length p, turn-statements 0 _ own, e)
 
   pub round-statements : (r : ℕ) (names : List ℕ) (p : List Placement)
       → statements (round defs n r names p) ≡ roundOrder defs n names (statements p)
@@ -66,7 +63,7 @@ module _ (defs : List Definition) (n : ℕ) where
   rounds-statements names r (suc fuel) p =
       let after = round defs n r names p in
       statements-cond (eqb (length after) (length p)) after (roundsFrom defs n names (suc r) fuel after)
-      ∙ rw (← statements-length after, ← statements-length p, rounds-statements names (suc r) fuel after, round-statements r names p)
+      ∙ rw (← placed-length after, ← placed-length p, rounds-statements names (suc r) fuel after, round-statements r names p)
 
   pub placements-order : (m : ℕ) → statements (placements defs n m) ≡ placedOrder defs n m
   unfolding placements placedOrder
@@ -74,7 +71,7 @@ module _ (defs : List Definition) (n : ℕ) where
       rounds-statements (range 0 m) 1 (suc n) _ ∙ ap (rounds (roundOrder defs n (range 0 m)) (suc n)) (turn-statements 0 _ [])
 
   pub placements-length : (m : ℕ) → length (placements defs n m) ≡ length (placedOrder defs n m)
-  placements-length m = sym (statements-length (placements defs n m)) ∙ ap length (placements-order m)
+  placements-length m = sym (placed-length (placements defs n m)) ∙ ap length (placements-order m)
 
   -- ---- what is read off, said of the order alone
 

@@ -1,15 +1,15 @@
 -- The laws of walks: what a walk keeps, and which picks change nothing.
 use mathlib.Core.Path.{_≡_, refl, sym, ap, _∙_}
-use mathlib.Core.Bool.{Bool, true, false, not, _&&_, _||_, and-false}
+use mathlib.Core.Bool.{Bool, true, false, not, _&&_, _||_}
 use mathlib.Core.List.{List, [], _∷_, _++_, append-assoc, append-nil}
 use mathlib.Core.Logic.{_⊎_, inl, inr, ⊎-elim}
 use Prim.Native.Nat.{ℕ, _≤_, _<_}
 use native.Mathlib.Omega.{arith}
 use lib.Dec.{ltb, eqb}
 use lib.ListN.{length, length-append}
-use borrow.Author.Tests.{ltb-true, lt-ltb, eqb-true, not-true, not-false}
+use borrow.Author.Tests.{ltb-true, lt-ltb, eqb-true, not-true}
 use Rattle.base.proofs.Laws.Truth.{bool-cases, not-both, and-intro, and-left, and-right, or-right, or-cases, or-left-comm}
-use Rattle.base.specs.Lists.{elem, filter}
+use Rattle.base.specs.Lists.{elem}
 use Rattle.base.proofs.Laws.Members.{elem-snoc}
 use Rattle.base.proofs.Laws.Subsets.{_⊆_}
 use Rattle.order.specs.Walk.{known, takeable, pick, walk}
@@ -121,20 +121,3 @@ module _ (ready : (ℕ → Bool) → ℕ → Bool) (gives : ℕ → ℕ → Bool
       go : (more : List ℕ) → length more ≡ 0 → o ++ more ≡ o
       go [] z = append-nil o
       go (i ∷ more) z = absurd (omega arith)
-
-  -- Picks may be sifted by a test that only those taken already fail.
-  pub walk-filter : (f : ℕ → Bool) (o p : List ℕ) → ((i : ℕ) → f i ≡ false → elem i o ≡ true)
-      → walk ready gives n o p ≡ walk ready gives n o (filter f p)
-  walk-filter f o [] taken = refl
-  walk-filter f o (i ∷ p) taken = go (bool-cases (f i)) (walk-filter f o p taken)
-      (walk-filter f (pick ready gives n o i) p (λ j q. walk-elem j o (i ∷ []) (taken j q)))
-    where
-      go : (f i ≡ true) ⊎ (f i ≡ false) → walk ready gives n o p ≡ walk ready gives n o (filter f p)
-          → walk ready gives n (pick ready gives n o i) p ≡ walk ready gives n (pick ready gives n o i) (filter f p)
-          → walk ready gives n o (i ∷ p) ≡ walk ready gives n o (filter f (i ∷ p))
-      go (inl q) without with-i = rw q with-i
-      go (inr q) without with-i = rw (q, taken i q, and-false (ltb i n)) without
-
-  -- So those taken already may be left out.
-  pub walk-unplaced : (o p : List ℕ) → walk ready gives n o p ≡ walk ready gives n o (filter (λ i. not (elem i o)) p)
-  walk-unplaced o p = walk-filter (λ i. not (elem i o)) o p (λ i q. not-false (elem i o) q)

@@ -1,27 +1,19 @@
 -- The turn rule on the order alone, step by step: what a turn, a followed turn and a round come to.
 use mathlib.Core.Path.{_≡_, refl, sym, ap, _∙_}
-use mathlib.Core.Bool.{Bool, true, false, not}
+use mathlib.Core.Bool.{Bool, true, false}
 use mathlib.Core.List.{List, [], _∷_}
 use mathlib.Core.Logic.{_⊎_, inl, inr}
 use Prim.Native.Nat.{ℕ, _<_}
 use lib.ListN.{length}
 use borrow.Author.Tests.{eq-eqb, ne-eqb}
 use Rattle.base.proofs.Laws.Truth.{bool-cases}
-use Rattle.base.specs.Lists.{elem, filter}
+use Rattle.base.specs.Lists.{filter}
 use Rattle.base.proofs.Laws.Ranges.{filter-none}
 use Rattle.order.specs.Walk.{walk}
-use Rattle.order.proofs.Laws.Laws.{walk-unplaced}
-use Rattle.order.specs.Definitions.{Definition}
-use Rattle.order.specs.Definitions.{defines, ready}
-use Rattle.order.specs.Turns.{defining}
+use Rattle.order.specs.Definitions.{Definition, defines, ready}
 use Rattle.order.specs.Inner.Orders.{turnOrder, followedOrder, roundOrder}
 
 module _ (defs : List Definition) (n : ℕ) where
-  -- A turn may try the name's unplaced statements only.
-  pub turn-unplaced : (x : ℕ) (o : List ℕ)
-      → turnOrder defs n x o ≡ walk (ready defs) (defines defs) n o (filter (λ i. not (elem i o)) (defining defs n x))
-  turn-unplaced x o = walk-unplaced (ready defs) (defines defs) n o (defining defs n x)
-
   -- A turn that places nothing is not followed.
   pub followed-still : (o : List ℕ) (x : ℕ) → length (turnOrder defs n x o) ≡ length o → followedOrder defs n o x ≡ turnOrder defs n x o
   followed-still o x e = rw (eq-eqb (length (turnOrder defs n x o)) (length o) e)

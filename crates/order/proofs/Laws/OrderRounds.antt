@@ -4,8 +4,7 @@ use mathlib.Core.List.{List, []}
 use Prim.Native.Nat.{ℕ, zero, suc, _≤_, _<_}
 use native.Mathlib.Omega.{arith}
 use lib.ListN.{length}
-use Rattle.base.specs.Lists.{elem}
-use Rattle.base.specs.Lists.{range}
+use Rattle.base.specs.Lists.{elem, range}
 use Rattle.order.specs.Walk.{rounds}
 use Rattle.order.specs.Inner.Count.{missing, AddsUp}
 use Rattle.order.proofs.Laws.Count.{nil-adds-up}

@@ -9,17 +9,14 @@ use lib.Dec.{eqb}
 use lib.ListN.{length}
 use borrow.Author.Tests.{eqb-true}
 use Rattle.base.proofs.Laws.Truth.{eq-cases, not-both, and-intro, and-left, or-left, or-right, or-cases}
-use Rattle.base.specs.Lists.{elem}
+use Rattle.base.specs.Lists.{elem, range}
 use Rattle.base.proofs.Laws.Lists.{elem-filter}
 use Rattle.base.proofs.Laws.Members.{elem-append}
-use Rattle.base.specs.Lists.{range}
 use Rattle.base.proofs.Laws.Ranges.{elem-range}
-use Rattle.order.specs.Inner.Count.{AddsUp}
 use Rattle.order.proofs.Laws.Count.{nil-adds-up}
 use Rattle.order.proofs.Laws.Walked.{Walked, walked-trans, walked-adds-up}
 use Rattle.order.proofs.Laws.Rounds.{Sweeps, rounds-ended, rounds-walked}
-use Rattle.order.specs.Definitions.{Definition, ofStatement, Named}
-use Rattle.order.specs.Definitions.{defines, ready, WalkEnded}
+use Rattle.order.specs.Definitions.{Definition, ofStatement, Named, defines, ready, WalkEnded}
 use Rattle.order.proofs.Laws.Statements.{statement-mem, some-mem, by-defines}
 use Rattle.order.specs.Turns.{defining}
 use Rattle.order.specs.Inner.Orders.{turnOrder, followedOrder, roundOrder, placedOrder}
@@ -69,9 +66,6 @@ module _ (defs : List Definition) (n : ℕ) where
   pub turn-walked : (x : ℕ) (o : List ℕ) → Walked (ready defs) (defines defs) n o (turnOrder defs n x o)
   turn-walked x o = turn-tried x o .walked
 
-  pub followed-walked : (o : List ℕ) (x : ℕ) → Walked (ready defs) (defines defs) n o (followedOrder defs n o x)
-  followed-walked o x = followed-tried o x .walked
-
   pub round-walked : (names o : List ℕ) → Walked (ready defs) (defines defs) n o (roundOrder defs n names o)
   round-walked names o = round-tried names o .walked
 
@@ -81,9 +75,6 @@ module _ (defs : List Definition) (n : ℕ) where
       walked-trans (turn-walked 0 [])
       (rounds-walked (ready defs) (defines defs) n (roundOrder defs n (range 0 m)) (round-walked (range 0 m)) (suc n)
       (turnOrder defs n 0 []))
-
-  pub placed-adds-up : (m : ℕ) → AddsUp n (placedOrder defs n m)
-  placed-adds-up m = walked-adds-up (placed-walked m) (nil-adds-up n)
 
   module _ (m : ℕ) (named : Named defs m) where
     -- A statement that can be ready defines a name, and a round tries the statements of all names.

@@ -8,8 +8,7 @@ use Rattle.base.specs.Lists.{elem}
 use Rattle.base.proofs.Laws.Lists.{all-elem, elem-all}
 use Rattle.order.proofs.Laws.Reach.{taken-reach, reach-taken}
 use Rattle.order.proofs.Laws.Embedding.{Into, reach-into}
-use Rattle.order.specs.Definitions.{Definition, ofStatement}
-use Rattle.order.specs.Definitions.{some, defines, ready, plainWalk, WalkEnded}
+use Rattle.order.specs.Definitions.{Definition, ofStatement, some, defines, ready, plainWalk, WalkEnded}
 use Rattle.order.proofs.Laws.Statements.{mem-statement, statement-mem, mem-some, some-mem, by-defines, defines-by}
 use Rattle.order.proofs.Laws.Resolving.{ready-mono, Renamed, resolves-renamed}
 use Rattle.order.specs.Relisting.{Bijection, Permutes, Moved, Relisted}

@@ -9,8 +9,7 @@ use lib.Dec.{ltb}
 use lib.ListN.{length, getD}
 use borrow.Author.Tests.{ltb-true, lt-ltb, eqb-true, eq-eqb}
 use Rattle.base.proofs.Laws.Truth.{bool-ext, and-intro, and-left, and-right}
-use Rattle.base.specs.Lists.{all, elem}
-use Rattle.base.specs.Lists.{counted}
+use Rattle.base.specs.Lists.{all, elem, counted}
 use Rattle.base.proofs.Laws.Ranges.{elem-counted}
 use Rattle.base.proofs.Laws.Members.{getD-mem, mem-getD}
 use Rattle.base.proofs.Laws.Subsets.{_⊆_, ⊆-refl, all-mono, or-mono}
@@ -20,8 +19,7 @@ use Rattle.order.proofs.Laws.Count.{nil-adds-up, long-has-all, all-is-l
 use Rattle.order.proofs.Laws.Walked.{Walked, walked-adds-up}
 use Rattle.order.proofs.Laws.Reach.{Monotone, taken-reach, ended-closed}
 use Rattle.order.proofs.Laws.Rounds.{Sweeps, rounds-ended, rounds-walked}
-use Rattle.order.specs.Definitions.{Definition, ofStatement, noDefinition, resolvable, definedAt, resolved, resolves}
-use Rattle.order.specs.Definitions.{some, ready}
+use Rattle.order.specs.Definitions.{Definition, ofStatement, noDefinition, resolvable, definedAt, resolved, resolves, some, ready}
 
 -- Can d be resolved from the names in K and those in L?
 abbrev pub resolvableFrom : (ℕ → Bool) → (ℕ → Bool) → Definition → Bool

@@ -8,8 +8,7 @@ use lib.Dec.{eqb}
 use borrow.Author.Tests.{eqb-true, eq-eqb}
 use Rattle.base.proofs.Laws.Truth.{not-both, and-intro, and-left, and-right, or-left, or-right, or-cases}
 use Rattle.base.proofs.Laws.Members.{mem-filter, filter-mem}
-use Rattle.order.specs.Definitions.{Definition, ofStatement}
-use Rattle.order.specs.Definitions.{some, defines}
+use Rattle.order.specs.Definitions.{Definition, ofStatement, some, defines}
 
 -- Statement i has just the definitions on the list whose statement is i.
 pub mem-statement : {d : Definition} (i : ℕ) (defs : List Definition) → List·Memᴰ d defs → d .statement ≡ i

@@ -7,23 +7,20 @@ use Prim.Native.Nat.{ℕ}
 use lib.ListN.{length}
 use borrow.Author.Tests.{eqb-true, eq-eqb}
 use Rattle.base.proofs.Laws.Truth.{bool-ext}
-use Rattle.base.specs.Lists.{elem}
-use Rattle.base.specs.Lists.{range}
+use Rattle.base.specs.Lists.{elem, range}
 use Rattle.order.proofs.Laws.Count.{long-has-all}
 use Rattle.order.proofs.Laws.Reach.{confluent}
 use Rattle.order.proofs.Laws.Walkable.{walk-walkable, walkable-adds-up, all-taken}
-use Rattle.order.specs.Definitions.{Definition, Named, resolves}
-use Rattle.order.specs.Definitions.{defines, ready, plainWalk, WalkEnded, canBeWalked}
+use Rattle.order.specs.Definitions.{Definition, Named, resolves, defines, ready, plainWalk, WalkEnded, canBeWalked}
 use Rattle.order.specs.Turns.{statements, placements, placed, order, reached}
 use Rattle.order.proofs.Laws.Resolving.{ready-mono}
-use Rattle.order.proofs.Laws.Labels.{statements-length, placements-order}
+use Rattle.order.proofs.Laws.Labels.{placed-length, placements-order}
 use Rattle.order.proofs.Laws.OrderWalks.{placed-walked, placed-ended}
-use Rattle.order.specs.Relisting.{Bijection, Permutes, Relisted}
+use Rattle.order.specs.Relisting.{Bijection, Permutes, Relisted, OrderOfAll}
 use Rattle.order.proofs.Laws.Relisting.{inverse, permutes-back, relisted-back, relisted-takes}
 use Rattle.order.specs.Inner.Sequence.{InSequence}
 use Rattle.order.proofs.Laws.Sequence.{resolves-sequence, sequence-resolves}
 use Rattle.order.specs.Inner.Theorems.{EndedWalk}
-use Rattle.order.specs.Relisting.{OrderOfAll}
 
 -- The statements placed, in their order, are such a walk.
 pub placements-ended : (defs : List Definition) (n m : ℕ) → Named defs m → EndedWalk defs n (statements (placements defs n m))
@@ -68,7 +65,7 @@ module _ (defs : List Definition) (n m : ℕ) where
       let w = placements-ended defs n m named in
       let e : order defs n m ≡ plainWalk defs n (w .picks) = rw h (w .along) in
       let walked : canBeWalked defs n (order defs n m) ≡ true = rw e (walk-walkable (ready defs) (defines defs) n (w .picks)) in
-      let long : length (order defs n m) ≡ n = rw h (statements-length (placements defs n m) ∙ eqb-true _ n h) in
+      let long : length (order defs n m) ≡ n = rw h (placed-length (placements defs n m) ∙ eqb-true _ n h) in
       let sum = walkable-adds-up (ready defs) (defines defs) n (order defs n m) walked in
       (record { has = long-has-all (order defs n m) sum long; once = long }, walked)
 
@@ -79,7 +76,7 @@ module _ (defs : List Definition) (n m : ℕ) where
     λ h. let o = placed-order named h in (order defs n m, o .0, o .1),
     λ q.
         let w = placements-ended defs n m named in
-        eq-eqb _ n (sym (statements-length (placements defs n m)) ∙ ap length (w .along)
+        eq-eqb _ n (sym (placed-length (placements defs n m)) ∙ ap length (w .along)
         ∙ all-taken (ready defs) (defines defs) n (ready-mono defs) (q .0) (q .2) (q .1 .once) (w .picks) (w .ended)),
   )
 

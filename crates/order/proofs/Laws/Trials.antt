@@ -4,8 +4,7 @@ use mathlib.Core.Bool.{Bool, true, false, _&&_, Bool·beq}
 use mathlib.Core.List.{List, [], _∷_, map}
 use Prim.Native.Nat.{ℕ}
 use lib.Dec.{eqb}
-use Rattle.base.specs.Lists.{all}
-use Rattle.base.specs.Lists.{range}
+use Rattle.base.specs.Lists.{all, range}
 use Rattle.order.specs.Definitions.{Definition, resolves}
 use Rattle.order.specs.Turns.{round, placements, placed, order, reached}
 

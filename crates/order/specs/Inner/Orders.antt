@@ -6,8 +6,7 @@ use lib.Dec.{eqb}
 use lib.ListN.{length}
 use Rattle.base.specs.Lists.{range}
 use Rattle.order.specs.Walk.{walk, rounds}
-use Rattle.order.specs.Definitions.{Definition}
-use Rattle.order.specs.Definitions.{defines, ready}
+use Rattle.order.specs.Definitions.{Definition, defines, ready}
 use Rattle.order.specs.Turns.{defining}
 
 module _ (defs : List Definition) (n : ℕ) where

@@ -4,13 +4,10 @@ use mathlib.Core.Bool.{true, false}
 use mathlib.Core.List.{List}
 use mathlib.Core.Logic.{_↔_}
 use Prim.Native.Nat.{ℕ}
-use Rattle.base.specs.Lists.{elem}
-use Rattle.base.specs.Lists.{range}
-use Rattle.order.specs.Definitions.{Definition}
-use Rattle.order.specs.Definitions.{plainWalk, WalkEnded, canBeWalked}
+use Rattle.base.specs.Lists.{elem, range}
+use Rattle.order.specs.Definitions.{Definition, plainWalk, WalkEnded, canBeWalked}
 use Rattle.order.specs.Turns.{statements, placements, placed, order, reached}
-use Rattle.order.specs.Relisting.{Bijection, Permutes, Relisted}
-use Rattle.order.specs.Relisting.{OrderOfAll}
+use Rattle.order.specs.Relisting.{Bijection, Permutes, Relisted, OrderOfAll}
 
 -- Of n statements with these definitions, in rounds over the names below m.
 pub record PlainWalks (defs : List Definition) (n m : ℕ) : Type 0 where

@@ -12,9 +12,8 @@ use Rattle.base.proofs.Laws.Truth.{and-left, and-right}
 use Rattle.base.specs.Limits.{Limits}
 use Rattle.base.specs.Lists.{all}
 use Rattle.base.proofs.Laws.Members.{all-mem}
-use Rattle.order.specs.Call.{rowCount, statementAt, varAt, definitionAt, definitions}
+use Rattle.order.specs.Call.{rowCount, statementAt, varAt, definitionAt, definitions, within, accepts}
 use Rattle.order_rows.proofs.Laws.RowLaws.{row-listed}
-use Rattle.order.specs.Call.{within, accepts}
 use Rattle.order_bounds.specs.Inner.Answers.{AcceptedList}
 
 module _ (lim : Limits) (ws : List ℕ) (n room marks : ℕ) where

@@ -3,15 +3,11 @@ use mathlib.Core.Path.{_≡_, refl, ap, _∙_}
 use mathlib.Core.Bool.{Bool, true, false, _&&_}
 use mathlib.Core.List.{List, map}
 use Prim.Native.Nat.{ℕ, _+_, _≤_, _<_}
-use native.Mathlib.Omega.{arith}
 use borrow.Author.Tests.{lt-ltb, le-ltb, le-leb, lt-leb}
 use Rattle.base.specs.Limits.{Limits}
-use Rattle.base.specs.Lists.{all}
-use Rattle.base.specs.Lists.{range}
+use Rattle.base.specs.Lists.{all, range}
 use Rattle.base.proofs.Laws.Ranges.{range-nil, range-cons}
-use Rattle.order.specs.Definitions.{Definition}
-use Rattle.order.specs.Call.{rowCount, statementAt, varAt, definitionAt, definitions}
-use Rattle.order.specs.Call.{within}
+use Rattle.order.specs.Call.{rowCount, statementAt, varAt, definitionAt, definitions, within}
 
 module _ (lim : Limits) (ws : List ℕ) (n : ℕ) where
   -- Do the definitions from row k on pass?

@@ -5,8 +5,7 @@ use Prim.Native.Nat.{ℕ, _+_, _*_, _≤_, _<_}
 use native.Mathlib.Omega.{arith}
 use lib.ListN.{length}
 use Rattle.base.specs.Limits as limits
-use Rattle.base.specs.Lists.{filter}
-use Rattle.base.specs.Lists.{range}
+use Rattle.base.specs.Lists.{filter, range}
 use Rattle.base.specs.Sets.{member, members}
 use Rattle.names.specs.Inner.Sets.{Next}
 use Rattle.names.proofs.Laws.Listing.{Listing, listing-first, listing-next, listing-end}

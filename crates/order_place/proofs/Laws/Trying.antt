@@ -17,11 +17,10 @@ use Rattle.names.specs.declared.statements.Statements.{Statements}
 use Rattle.base.specs.Sets.{member}
 use Rattle.names.specs.Inner.Sets.{Inserted}
 use Rattle.names.proofs.Laws.Laws.{inserted-keeps}
-use Rattle.order.specs.Walk.{known, takeable, pick}
+use Rattle.order.specs.Walk.{takeable, pick}
 use Rattle.order.proofs.Laws.Count.{snoc-adds-up, long-has-all}
 use Rattle.order.proofs.Laws.Laws.{known-snoc, pick-taken, pick-skipped}
-use Rattle.order.specs.Definitions.{Definition, ofStatement, resolves}
-use Rattle.order.specs.Definitions.{defines, ready}
+use Rattle.order.specs.Definitions.{Definition, ofStatement, resolves, defines, ready}
 use Rattle.order_place.specs.Inner.State.{orderOf, WrittenOrder, HoldsPlaced, Knows, Waiting, After}
 use Rattle.order_place.proofs.Laws.StateLaws.{state-order-length}
 use Rattle.order_place.specs.declared.State.{State}

@@ -8,14 +8,12 @@ use native.Mathlib.Omega.{arith}
 use borrow.Author.Tests.{not-true}
 use Rattle.base.specs.Limits as limits
 use Rattle.base.proofs.Laws.Truth.{bool-cases, lt-cases, not-both, and-left, and-right}
-use Rattle.base.specs.Lists.{filter}
-use Rattle.base.specs.Lists.{range}
+use Rattle.base.specs.Lists.{filter, range}
 use Rattle.base.proofs.Laws.Ranges.{range-nil, range-cons}
 use Rattle.base.specs.Sets.{member}
 use Rattle.order.specs.Walk.{takeable, pick, walk}
 use Rattle.order.proofs.Laws.Laws.{pick-skipped}
-use Rattle.order.specs.Definitions.{Definition, ofStatement}
-use Rattle.order.specs.Definitions.{defines, ready}
+use Rattle.order.specs.Definitions.{Definition, ofStatement, defines, ready}
 use Rattle.order.proofs.Laws.Statements.{mem-statement, mem-some, defines-by}
 use Rattle.order.specs.Inner.Orders.{turnOrder}
 use Rattle.order.specs.Call.{statementAt, definitions}

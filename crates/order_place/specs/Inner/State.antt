@@ -10,8 +10,7 @@ use Rattle.base.specs.Lists.{elem}
 use Rattle.base.specs.Sets.{member}
 use Rattle.order.specs.Walk.{known, takeable}
 use Rattle.order.specs.Inner.Count.{AddsUp}
-use Rattle.order.specs.Definitions.{Definition, ofStatement}
-use Rattle.order.specs.Definitions.{some, defines, ready}
+use Rattle.order.specs.Definitions.{Definition, ofStatement, some, defines, ready}
 use Rattle.order.specs.Call.{rowCount, statementAt, varAt, definitions}
 use Rattle.order_rows.specs.Inner.Links.{Linked}
 use Rattle.order_rows.specs.Inner.Masks.{maskAt}

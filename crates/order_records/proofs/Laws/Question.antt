@@ -16,9 +16,8 @@ use Rattle.order_schedule.specs.Inner.Call.{Scheduled}
 use Rattle.order_schedule.proofs.Laws.Leaves.{refused}
 use Rattle.order.specs.declared.Outcome.the-variants.{Refused}
 use Rattle.order_records.specs.declared.Definition.{Definition}
-use Rattle.order_records.specs.Records.{rowsOfRecords}
+use Rattle.order_records.specs.Records.{rowsOfRecords, acceptsRecords}
 use Rattle.order_records.proofs.Laws.RowLaws.{rows-whole, rows-count, rows-define}
-use Rattle.order_records.specs.Records.{acceptsRecords}
 
 module _ (ds : List Definition) (n room marks : ℕ) where
   -- The flat call's question of their rows is the same.

@@ -1,18 +1,16 @@
 -- The rows of records stand for the records: they are whole, as many, and define the same.
 use mathlib.Core.Path.{_≡_, refl, sym, ap, ap₂, _∙_}
 use mathlib.Core.List.{List, [], _∷_, _++_, map}
-use Prim.Native.Nat.{ℕ, zero, suc, _+_, _-_, _*_, _/_, _%_, _≤_, _<_}
+use Prim.Native.Nat.{ℕ, zero, suc, _+_, _-_, _*_, _%_, _≤_, _<_}
 use native.Mathlib.Omega.{arith}
 use lib.ListN.{length, getD, take, drop}
-use lib.Seq.{take-all, drop-cons, ext-getD, getD-append-add}
+use lib.Seq.{take-all, drop-cons, getD-append-add}
 use Rattle.base.specs.Lists.{counted, range}
-use Rattle.base.specs.Sets.{members}
 use Rattle.order.specs.Definitions as Turns
 use Rattle.base.specs.Sets.{wordsAt}
-use Rattle.names_width.proofs.Laws.Laws.{words-length, words-get}
 use Rattle.order.specs.Call.{rowCount, definitionAt, definitions}
 use Rattle.order_records.specs.declared.Definition.{Definition}
-use Rattle.order_records.specs.Records.{usedWords, rowOfRecord, rowsOfRecords, definitionOf}
+use Rattle.order_records.specs.Records.{rowOfRecord, rowsOfRecords, definitionOf}
 use Rattle.order_records.proofs.Laws.Copies.{noRecord}
 
 pub records-rows-length : (ds : List Definition) → length (rowsOfRecords ds) ≡ 10 * length ds
@@ -30,14 +28,6 @@ rows-append [] ys = refl
 rows-append (d ∷ xs) ys = ap (λ (t : List ℕ). rowOfRecord d ++ t) (rows-append xs ys)
 
 -- ---- what they define
-
--- A used set has eight words, and these are all of it.
-pub used-whole : (d : Definition) → length (d .used .words) ≡ 8 → definitionOf d .used ≡ members (d .used .words)
-used-whole d h =
-    let ws = d .used .words in
-    ap members (ext-getD 0 (usedWords d) ws (words-length 8 ws 0 ∙ sym h) (λ k l.
-    let z : 0 + k ≡ k = omega arith in
-    words-get 8 ws 0 k (omega (arith, l, words-length 8 ws 0)) ∙ ap (λ (j : ℕ). getD ws j 0) z))
 
 -- A row more in front moves every row by one.
 row-on : (front ws : List ℕ) → length front ≡ 10 → (k : ℕ) → definitionAt 10 (front ++ ws) (suc k) ≡ definitionAt 10 ws k

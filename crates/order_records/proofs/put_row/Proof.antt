@@ -1,8 +1,5 @@
 -- The loop's invariant: the used words so far stand behind the statement and the name.
-use mathlib.Core.Path.{_≡_}
-use Prim.Native.Nat.{_+_, _*_, _-_, _<_}
-use native.Mathlib.Omega.{arith}
-use lib.ListN.{length}
+use Prim.Native.Nat.{_-_}
 use borrow.Author.Needs.{needs}
 use Rattle.order_records.proofs.Laws.Puts.{PuttingWords, putting-first, words-put-next, words-put-all}
 use Rattle.order_records.proofs.put_row.Statement.{statement}

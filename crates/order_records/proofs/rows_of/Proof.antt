@@ -1,11 +1,10 @@
 -- Before each turn the words hold the rows of the records so far.
-use mathlib.Core.Path.{_≡_, refl, ap, subst, _∙_}
-use Prim.Native.Nat.{ℕ, _≤_, _<_, _-_, _+_, _*_}
-use lib.ListN.{length, getD, take}
+use mathlib.Core.Path.{_≡_, refl, subst, _∙_}
+use Prim.Native.Nat.{ℕ, _≤_, _-_, _*_}
+use lib.ListN.{length, take}
 use native.Mathlib.Omega.{arith}
 use borrow.Author.Needs.{needs}
 use Rattle.order_records.specs.Records.{rowsOfRecords}
-use Rattle.order_records.proofs.Laws.Copies.{noRecord}
 use Rattle.order_records.proofs.Laws.Puts.{rows-next}
 use Rattle.order_records.proofs.rows_of.Statement.{statement}
 use Rattle.order_records.proofs.rows_of.Tie as tie

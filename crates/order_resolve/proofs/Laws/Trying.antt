@@ -10,8 +10,7 @@ use Rattle.base.specs.Lists.{all}
 use Rattle.order.specs.Inner.Count.{missing}
 use Rattle.base.specs.Sets.{member, members}
 use Rattle.names.proofs.Laws.Laws.{all-members}
-use Rattle.order.specs.Definitions.{Definition, ofStatement, resolves}
-use Rattle.order.specs.Definitions.{defines}
+use Rattle.order.specs.Definitions.{Definition, ofStatement, resolves, defines}
 use Rattle.order.proofs.Laws.Resolving.{resolves-same}
 use Rattle.order.proofs.Laws.Statements.{mem-statement, statement-mem, by-defines, defines-by}
 use Rattle.order.specs.Call.{rowCount, definitions}

@@ -6,8 +6,7 @@ use Prim.Native.Nat.{ℕ}
 use lib.Dec.{eqb}
 use Rattle.base.specs.Lists.{all}
 use Rattle.base.specs.Sets.{member, members}
-use Rattle.order.specs.Definitions.{Definition, ofStatement, resolves}
-use Rattle.order.specs.Definitions.{defines}
+use Rattle.order.specs.Definitions.{Definition, ofStatement, resolves, defines}
 use Rattle.order.specs.Call.{rowCount, definitions}
 use Rattle.order_rows.specs.Inner.Links.{chainOf}
 

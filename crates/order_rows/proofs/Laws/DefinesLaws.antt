@@ -8,8 +8,7 @@ use native.Mathlib.Omega.{arith}
 use lib.Dec.{eqb}
 use borrow.Author.Tests.{eqb-true, eq-eqb}
 use Rattle.base.proofs.Laws.Truth.{bool-cases, bool-ext, not-both, eq-cases, and-intro, and-left, and-right, or-left, or-right, or-cases}
-use Rattle.order.specs.Definitions.{Definition}
-use Rattle.order.specs.Definitions.{defines}
+use Rattle.order.specs.Definitions.{Definition, defines}
 use Rattle.order.proofs.Laws.Statements.{by-defines, defines-by}
 use Rattle.order.specs.Call.{rowCount, statementAt, varAt, definitions}
 use Rattle.order_rows.proofs.Laws.RowLaws.{row-listed, listed-row}

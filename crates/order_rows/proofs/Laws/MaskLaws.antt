@@ -1,5 +1,5 @@
 -- What `add_to_mask` and a turn of `mask` do to the sets of statements.
-use mathlib.Core.Path.{_≡_, refl, sym, ap, ap₂, _∙_}
+use mathlib.Core.Path.{_≡_, sym, ap, ap₂, _∙_}
 use mathlib.Core.Bool.{Bool, true, false, _&&_, _||_, and-comm}
 use mathlib.Core.List.{List, [], _∷_}
 use mathlib.Core.Logic.{_⊎_, inl, inr, ⊎-elim}
@@ -10,10 +10,10 @@ use lib.Dec.{eqb}
 use lib.ListN.{length, getD, set, length-set}
 use lib.Bits.{bitOr}
 use lib.Seq.{getD-set-same, getD-set-other}
-use borrow.Author.Tests.{eqb-true, eqb-false, eq-eqb}
+use borrow.Author.Tests.{eqb-true, eqb-false}
 use Rattle.base.specs.Inner.Sizes as sizes
 use Rattle.base.specs.Limits as limits
-use Rattle.base.proofs.Laws.Truth.{bool-cases, bool-ext, lt-cases}
+use Rattle.base.proofs.Laws.Truth.{bool-cases, lt-cases, eqb-sym}
 use Rattle.base.specs.Sets.{member}
 use Rattle.names.specs.Inner.Sets.{Empty, Inserted}
 use Rattle.names.proofs.Laws.Words.{zeros-empty, nameBit, stored-in}
@@ -77,12 +77,6 @@ masked-first w ws masks names long zeros none = record {
       ap₂ (λ (a b : ℕ). member (a ∷ b ∷ []) s) (zeros (2 * x)) (zeros (suc (2 * x))) ∙ zeros-empty 2 .has s;
   named = none .has;
 }
-
-eqb-sym : (a b : ℕ) → eqb a b ≡ eqb b a
-eqb-sym a b = bool-ext _ _ (turned a b) (turned b a)
-  where
-    turned : (a b : ℕ) → eqb a b ≡ true → eqb b a ≡ true
-    turned a b e = eq-eqb b a (sym (eqb-true a b e))
 
 pub masked-next : (w : ℕ) (ws masks names after more : List ℕ) (k : ℕ) → MaskedTo w ws masks names k
     → Added masks (varAt w ws k) (statementAt w ws k) after → Inserted names (varAt w ws k) more → MaskedTo w ws after more (k + 1)

@@ -1,27 +1,27 @@
 -- The buffers at each way out of the call.
-use mathlib.Core.Path.{_≡_, refl, sym, ap, ap₂, _∙_}
+use mathlib.Core.Path.{_≡_, sym, ap, ap₂, _∙_}
 use mathlib.Core.Bool.{Bool, true, false}
-use mathlib.Core.List.{List, [], _∷_, _++_, map}
-use Prim.Native.Nat.{ℕ, zero, suc, _+_, _-_, _≤_, _<_}
+use mathlib.Core.List.{List, _++_, map}
+use Prim.Native.Nat.{ℕ, _+_, _-_, _≤_, _<_}
 use native.Mathlib.Omega.{arith}
 use lib.ListN.{length, getD, take, drop, replicate, length-drop, length-replicate, getD-replicate, take-append-drop, length-map}
 use lib.Seq.{ext-getD, getD-take, getD-drop, length-take-le}
 use borrow.Author.Tests.{eq-eqb, ne-eqb}
 use Rattle.base.specs.Limits as limits
 use Rattle.base.specs.Limits.{Limits}
-use Rattle.base.specs.Lists.{elem}
-use Rattle.base.specs.Lists.{counted, range}
+use Rattle.base.specs.Lists.{elem, range}
+use Rattle.base.proofs.Laws.Ranges.{counted-at}
 use Rattle.buffers.proofs.Laws.Fills.{length-range}
 use Rattle.order.specs.Turns.{placed, order, reached, mark}
 use Rattle.order.specs.Inner.Orders.{placedOrder}
 use Rattle.order.proofs.Laws.Labels.{placed-by-order, order-by-order, reached-by-order}
-use Rattle.order.specs.Call.{definitions}
+use Rattle.order.specs.Call.{definitions, accepts, outcome}
 use Rattle.order_rows.proofs.Laws.Zeros.{zero-at}
-use Rattle.order.specs.Call.{accepts}
 use Rattle.order_place.specs.Inner.State.{After}
+use Rattle.order_place.proofs.Laws.StateLaws.{after-length}
 use Rattle.order_place.specs.declared.State.{State}
-use Rattle.order_schedule.specs.Inner.Call.{Scheduled}
-use Rattle.order.specs.declared.Outcome.the-variants.{Refused, Placed, Unplaced}
+use Rattle.order_schedule.specs.Inner.Call.{Arranged, Scheduled}
+use Rattle.order.specs.declared.Outcome.the-variants.{Refused}
 
 -- ---- lists with zeros
 
@@ -38,55 +38,53 @@ zeros-after l n z = sym (take-append-drop n l) ∙ ap (λ (t : List ℕ). take n
 
 pub getD-map-range : (f : ℕ → ℕ) (n i : ℕ) → i < n → getD (map f (range 0 n)) i 0 ≡ f i
 unfolding range
-getD-map-range f n i h = let e : 0 + i ≡ i = omega arith in go 0 (n - 0) i (omega arith) ∙ ap f e
-  where
-    go : (a c i : ℕ) → i < c → getD (map f (counted a c)) i 0 ≡ f (a + i)
-    go a zero i h = absurd (omega arith)
-    go a (suc c) zero h = let e : a ≡ a + 0 = omega arith in ap f e
-    go a (suc c) (suc i) h = let e : suc a + i ≡ a + suc i = omega arith in go (suc a) c i (omega arith) ∙ ap f e
+getD-map-range f n i h = let e : 0 + i ≡ i = omega arith in counted-at f (n - 0) 0 i 0 (omega arith) ∙ ap f e
 
--- ---- the ways out
+-- ---- what place_rows leaves, arranged
+
+-- The statements placed in the buffers are those of the turn rule.
+module _ (lim : Limits) (ws : List ℕ) (n room marks : ℕ) {s : State} {o m : List ℕ}
+    (after : After (definitions (lim .row) ws) n (placedOrder (definitions (lim .row) ws) n limits.perName) s o m) (lo : length o ≡ room) (lm : length m ≡ marks) where
+  all-marks : m ≡ map (λ i. mark (reached (definitions (lim .row) ws) n limits.perName i)) (range 0 n) ++ replicate (marks - n) 0
+  all-marks =
+      let h = after .holds .written in
+      let at : (i : ℕ) → i < n → getD (take n m) i 0 ≡ getD (map (λ j. mark (reached (definitions (lim .row) ws) n limits.perName j)) (range 0 n)) i 0 =
+      λ i b. getD-take n m i 0 b ∙ h .marks i b ∙ ap (λ (l : List ℕ). mark (elem i l)) (after .now-is)
+      ∙ ap mark (sym (reached-by-order (definitions (lim .row) ws) n limits.perName i)) ∙ sym (getD-map-range (λ j. mark (reached (definitions (lim .row) ws) n limits.perName j)) n i b) in
+      let front : take n m ≡ map (λ j. mark (reached (definitions (lim .row) ws) n limits.perName j)) (range 0 n) =
+      ext-getD 0 _ _ (length-take-le n m (h .marked) ∙ sym (length-map (range 0 n) _ ∙ length-range n))
+      (λ i l. at i (omega (arith, length-take-le n m (h .marked)))) in
+      zeros-after m n (h .beyond) ∙ ap₂ (λ (x : List ℕ) (k : ℕ). x ++ replicate (k - n) 0) front lm
+
+  pub all-placed : s .count ≡ n → Arranged lim ws n room marks true o m
+  all-placed e =
+      let p : placed (definitions (lim .row) ws) n limits.perName ≡ true = placed-by-order (definitions (lim .row) ws) n limits.perName ∙ eq-eqb _ n (after-length after ∙ e) in
+      let front : take (s .count) o ≡ order (definitions (lim .row) ws) n limits.perName = after .now-is ∙ sym (order-by-order (definitions (lim .row) ws) n limits.perName ∙ rw p) in
+      let rest : length o - s .count ≡ room - n = omega arith in
+      record {
+        came-to = sym p;
+        ordered = zeros-after o (s .count) (after .holds .written .past) ∙ ap₂ (λ (x : List ℕ) (k : ℕ). x ++ replicate k 0) front rest;
+        marked = all-marks;
+      }
+
+  pub not-placed : (s .count ≡ n → ⊥) → Arranged lim ws n room marks false (range 0 n ++ drop n o) m
+  not-placed ne =
+      let p : placed (definitions (lim .row) ws) n limits.perName ≡ false = placed-by-order (definitions (lim .row) ws) n limits.perName ∙ ne-eqb _ n (λ e. ne (sym (after-length after) ∙ e)) in
+      let rest : drop n o ≡ replicate (room - n) 0 =
+      zeros-drop o n (λ i l. after .holds .written .past i (omega (arith, after .holds .written .adds-up, length-take-le (s .count) o (after .holds .written .filled))))
+      ∙ ap (λ (k : ℕ). replicate (k - n) 0) lo in
+      record { came-to = sym p; ordered = rw p (ap (λ (x : List ℕ). range 0 n ++ x) rest); marked = all-marks }
+
+-- ---- the ways out of the call
 
 module _ (lim : Limits) (ws : List ℕ) (n room marks : ℕ) where
   pub refused : accepts lim ws n room marks ≡ false → Scheduled lim ws n room marks Refused (replicate room 0) (replicate marks 0)
   refused f = record { came-to = rw f; ordered = rw f; marked = rw f }
 
-  -- The statements placed in the buffers are those of the turn rule.
-  module _ (accepted : accepts lim ws n room marks ≡ true) {s : State} {o m : List ℕ}
-      (after : After (definitions (lim .row) ws) n (placedOrder (definitions (lim .row) ws) n limits.perName) s o m) (lo : length o ≡ room) (lm : length m ≡ marks) where
-    all-marks : m ≡ map (λ i. mark (reached (definitions (lim .row) ws) n limits.perName i)) (range 0 n) ++ replicate (marks - n) 0
-    all-marks =
-        let h = after .holds .written in
-        let at : (i : ℕ) → i < n → getD (take n m) i 0 ≡ getD (map (λ j. mark (reached (definitions (lim .row) ws) n limits.perName j)) (range 0 n)) i 0 =
-        λ i b. getD-take n m i 0 b ∙ h .marks i b ∙ ap (λ (l : List ℕ). mark (elem i l)) (after .now-is)
-        ∙ ap mark (sym (reached-by-order (definitions (lim .row) ws) n limits.perName i)) ∙ sym (getD-map-range (λ j. mark (reached (definitions (lim .row) ws) n limits.perName j)) n i b) in
-        let front : take n m ≡ map (λ j. mark (reached (definitions (lim .row) ws) n limits.perName j)) (range 0 n) =
-        ext-getD 0 _ _ (length-take-le n m (h .marked) ∙ sym (length-map (range 0 n) _ ∙ length-range n))
-        (λ i l. at i (omega (arith, length-take-le n m (h .marked)))) in
-        zeros-after m n (h .beyond) ∙ ap₂ (λ (x : List ℕ) (k : ℕ). x ++ replicate (k - n) 0) front lm
-
-    count-is : length (placedOrder (definitions (lim .row) ws) n limits.perName) ≡ s .count
-    count-is = ap length (sym (after .now-is)) ∙ length-take-le (s .count) o (after .holds .written .filled)
-
-    pub all-placed : s .count ≡ n → Scheduled lim ws n room marks Placed o m
-    all-placed e =
-        let p : placed (definitions (lim .row) ws) n limits.perName ≡ true = placed-by-order (definitions (lim .row) ws) n limits.perName ∙ eq-eqb _ n (count-is ∙ e) in
-        let front : take (s .count) o ≡ order (definitions (lim .row) ws) n limits.perName = after .now-is ∙ sym (order-by-order (definitions (lim .row) ws) n limits.perName ∙ rw p) in
-        let rest : length o - s .count ≡ room - n = omega arith in
-        record {
-          came-to = rw (accepted, p);
-          ordered = rw accepted (zeros-after o (s .count) (after .holds .written .past) ∙ ap₂ (λ (x : List ℕ) (k : ℕ). x ++ replicate k 0) front rest);
-          marked = rw accepted all-marks;
-        }
-
-    pub not-placed : (s .count ≡ n → ⊥) → Scheduled lim ws n room marks Unplaced (range 0 n ++ drop n o) m
-    not-placed ne =
-        let p : placed (definitions (lim .row) ws) n limits.perName ≡ false = placed-by-order (definitions (lim .row) ws) n limits.perName ∙ ne-eqb _ n (λ e. ne (sym count-is ∙ e)) in
-        let rest : drop n o ≡ replicate (room - n) 0 =
-        zeros-drop o n (λ i l. after .holds .written .past i (omega (arith, after .holds .written .adds-up, length-take-le (s .count) o (after .holds .written .filled))))
-        ∙ ap (λ (k : ℕ). replicate (k - n) 0) lo in
-        record {
-          came-to = rw (accepted, p);
-          ordered = rw (accepted, p) (ap (λ (x : List ℕ). range 0 n ++ x) rest);
-          marked = rw accepted all-marks;
-        }
+  pub arranged : accepts lim ws n room marks ≡ true → (all : Bool) (o m : List ℕ) → Arranged lim ws n room marks all o m
+      → Scheduled lim ws n room marks (outcome true all) o m
+  arranged accepted all o m a = record {
+    came-to = rw (accepted, a .came-to);
+    ordered = rw accepted (a .ordered);
+    marked = rw accepted (a .marked);
+  }

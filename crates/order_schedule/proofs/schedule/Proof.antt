@@ -1,13 +1,16 @@
--- Each way out is one of Leaves: refused, all placed, or not all placed. The question is asked of the buffers' lengths, which nothing changes.
+-- Each way out is one of Leaves: refused, or arranged. The question is asked of the buffers' lengths, which nothing changes.
 use mathlib.Core.Path.{_≡_, sym, ap₂, _∙_}
-use native.Mathlib.Omega.{arith}
+use mathlib.Core.Bool.{Bool, true}
+use mathlib.Core.List.{List}
+use Prim.Native.Nat.{ℕ}
 use lib.ListN.{length}
 use borrow.Author.Needs.{needs}
 use borrow.Author.Tests.{not-true, not-false}
-use Rattle.order.specs.Call.{accepts}
+use Rattle.order.specs.Call.{accepts, outcome}
 use Rattle.order_bounds.proofs.Laws.Answers.{list-accepted}
 use Rattle.names_width.specs.Widths.{limits}
-use Rattle.order_schedule.proofs.Laws.Leaves.{cleared-zero, refused, all-placed, not-placed}
+use Rattle.order_schedule.specs.Inner.Call.{Arranged, Scheduled}
+use Rattle.order_schedule.proofs.Laws.Leaves.{cleared-zero, refused, arranged}
 use Rattle.order_schedule.proofs.schedule.Statement.{statement}
 use Rattle.order_schedule.proofs.schedule.Tie as tie
 
@@ -40,8 +43,8 @@ returns c =
     let k = c .before in
     rw (k .before .before .before .before .before .before .before .clear .ensures, k .before .before .before .clear2 .ensures) (refused _ _ _ _ _ (sym (says k) ∙ not-true _ (c .if1 .taken)))
 
-place-rows-requires : tie.Need-place-rows-requires
-place-rows-requires c κs =
+arrange-rows-requires : tie.Need-arrange-rows-requires
+arrange-rows-requires c κs =
     let k = c .before .before .before in
     let start = k .before .before .before .before .before .before .before .before .before .before .before .before .args in (
       list-accepted _ _ _ _ _ (sym (k .admits .ensures) ∙ not-false _ (c .before .before .if1 .left)),
@@ -57,19 +60,20 @@ same-length-3 c = search needs
 same-length-4 : tie.Need-same-length-4
 same-length-4 c = search needs
 
+-- A list that the question lets through, arranged.
+scheduled : (k : tie.After-admits) → k .admits .result ≡ true → (all : Bool) (o m : List ℕ)
+    → (let start = k .before .before .before .before .before .before .before .before .before .before .before .before .args in
+    Arranged (limits (start .width)) (start .rows .now) (start .n) (length (k .before .before .before .before .before .before .before .clear .last .0)) (length (k .before .before .before .clear2 .last .0)) all o m
+    → Scheduled (limits (start .width)) (start .rows .now) (start .n) (length (start .order .now)) (length (start .reached .now)) (outcome true all) o m)
+scheduled k taken all o m a =
+    rw (k .before .before .before .before .before .before .before .clear .kept .0, k .before .before .before .clear2 .kept .0) at
+    (arranged _ _ _ _ _ (sym (k .admits .ensures) ∙ taken) all o m a)
+
 returns-2 : tie.Need-returns-2
 returns-2 c =
-    let p = c .before .before .before .before .before in
-    let k = p .before .before .before .before in
-    all-placed _ _ _ _ _ (sym (says k) ∙ not-false _ (p .before .before .before .if1 .left)) (p .place-rows .ensures)
-    (p .place-rows .kept .1 .1 .1 .0 ∙ k .before .before .before .before .before .before .before .clear .kept .0) (p .place-rows .kept .1 .1 .1 .1 .0 ∙ k .before .before .before .clear2 .kept .0) (c .if2 .taken)
-
-count-up-requires : tie.Need-count-up-requires
-count-up-requires c κs =
-    let p = c .before .before .before .before .before .before in
-    let k = p .before .before .before .before in
-    let a = list-accepted _ _ _ _ _ (sym (k .admits .ensures) ∙ not-false _ (p .before .before .before .if1 .left)) in
-    (omega (arith, a .few), p .place-rows .ensures .holds .written .room)
+    let a = c .before .before .before .before .before .arrange-rows in
+    let asked = c .before .before .before .before .before .before .before .before in
+    scheduled (asked .before) (not-false _ (asked .if1 .left)) _ _ _ (rw (c .if2 .taken) at (a .ensures))
 
 same-length-5 : tie.Need-same-length-5
 same-length-5 c = search needs
@@ -79,11 +83,9 @@ same-length-6 c = search needs
 
 returns-3 : tie.Need-returns-3
 returns-3 c =
-    let p = c .before .before .before .before .before .before .before .before .before in
-    let k = p .before .before .before .before in
-    rw (c .before .before .count-up .ensures)
-    (not-placed _ _ _ _ _ (sym (says k) ∙ not-false _ (p .before .before .before .if1 .left)) (p .place-rows .ensures)
-    (p .place-rows .kept .1 .1 .1 .0 ∙ k .before .before .before .before .before .before .before .clear .kept .0) (p .place-rows .kept .1 .1 .1 .1 .0 ∙ k .before .before .before .clear2 .kept .0) (c .before .before .before .before .if2 .left))
+    let a = c .before .before .before .before .before .arrange-rows in
+    let asked = c .before .before .before .before .before .before .before .before in
+    scheduled (asked .before) (not-false _ (asked .if1 .left)) _ _ _ (rw (c .if2 .left) at (a .ensures))
 
 pub schedule-spec : {M : Type 1} → statement M
 schedule-spec =
@@ -95,11 +97,10 @@ schedule-spec =
     same-length
     same-length-2
     returns
-    place-rows-requires
+    arrange-rows-requires
     same-length-3
     same-length-4
     returns-2
-    count-up-requires
     same-length-5
     same-length-6
     returns-3)

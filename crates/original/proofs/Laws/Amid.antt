@@ -17,7 +17,6 @@ use Rattle.original.proofs.Laws.Distinct.{Apart, apart-sym, distinct-le
 use Rattle.definition.specs.RustWay.{analyze}
 use Rattle.original.proofs.Laws.RustSame.{analyze-same}
 use Rattle.original.specs.Inner.Places.{comprFamily, family}
-use Rattle.original.specs.Inner.Beside.{noFault}
 use Rattle.original.proofs.Laws.CoupledQuery
 use Rattle.original.proofs.Laws.RustWrites.{family-has, rust-only}
 use Rattle.original.proofs.Laws.LookUps.{SameTable, OnlyIn, HeldIn, same-behind, fresh-kept, held-kept, held-now}

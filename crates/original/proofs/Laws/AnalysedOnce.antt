@@ -2,8 +2,7 @@
 use mathlib.Core.Path.{_≡_, refl, ap, _∙_}
 use mathlib.Core.List.{List}
 use Prim.Native.Nat.{ℕ, suc}
-use Rattle.base.specs.Lists.{range}
-use Rattle.base.specs.Lists.{concatMap}
+use Rattle.base.specs.Lists.{range, concatMap}
 use Rattle.sheet.specs.declared.Counts.{Counts}
 use Rattle.sheet.specs.Inner.Records.{Within}
 use Rattle.sheet.specs.Inner.Rows.{inTables}
@@ -14,8 +13,7 @@ use Rattle.definition.specs.States.{Fault, sound, undefined, usedBefore, length
 use Rattle.definition.specs.RustWay.{analyzeQuerySnippet}
 use Rattle.definition_once.specs.Inner.OnceWay.{analyzeQuerySnippetOnce, scheduleOnce}
 use Rattle.original.proofs.Laws.Accepted.{accepted-fault, accepted-schedules}
-use Rattle.answer.specs.Text.{queryRows, placeRows, setRows, allRows}
-use Rattle.answer.specs.Text.{answerText}
+use Rattle.answer.specs.Text.{queryRows, placeRows, setRows, allRows, answerText}
 use Rattle.answer.specs.Call.{fitting, finished, analysed}
 use Rattle.original.specs.Inner.AnalysedOnce.{analysedOnce}
 

@@ -11,8 +11,7 @@ use Rattle.sheet.specs.Sheet.{Sheet}
 use Rattle.scope.specs.Trees.{Tree}
 use Rattle.scope.specs.Traverse.{leaves, vars}
 use Rattle.scope.specs.Scopes.{Scope, Span, spanOf, spanIn, isLocal, addInput, useInput}
-use Rattle.definition.specs.Uses.{define, readsInput, undefinedVar, variablesUsed, indexDefinitions}
-use Rattle.definition.specs.Uses.{addFirstUse}
+use Rattle.definition.specs.Uses.{define, readsInput, undefinedVar, variablesUsed, indexDefinitions, addFirstUse}
 use Rattle.definition.specs.States.{Fault, sound, undefined, usedBefore, lengths, indexVariable, QuerySchedule, State, setScope, addFirstUses, addDefinitions, setRun, fail, ifSound, inTurn, failOr}
 use Rattle.definition.specs.Using.{undefinedAt, gatherUsedVars, usedBeforeAt, checkFirstUse, checkAssigned, recordOne, recordEach, unlessSome, atLeastOne}
 use Rattle.definition.specs.SomeIn.{failIfSome}

@@ -1,38 +1,29 @@
--- Laws of `BracketRepeats`.
+-- The Rust's repeats at brackets change nothing: what its own walk over an expression of statement i comes to is what the definitions of
+-- `uses` say, which walk each expression once.
 use mathlib.Core.Path.{_≡_, refl, sym, ap, _∙_}
 use mathlib.Core.Bool.{Bool, true, false, cond}
 use mathlib.Core.List.{List, [], _∷_, _++_, map, foldl}
 use mathlib.Core.Option.{none}
 use Prim.Native.Nat.{ℕ}
-use Rattle.base.specs.Lists.{filter, elem}
+use Rattle.base.specs.Lists.{filter, concatMap, any, find}
 use Rattle.order.specs.Definitions.{Definition}
-use Rattle.base.specs.Lists.{concatMap, any, find}
 use Rattle.sheet.specs.declared.Row.{Row}
 use Rattle.sheet.specs.Sheet.{Sheet, isInput}
 use Rattle.scope.specs.Trees.{Tree}
 use Rattle.scope.specs.Traverse.{traverse, vars, comprs}
 use Rattle.scope.specs.Scopes.{Scope, Span, spanOf}
-use Rattle.definition.specs.Uses.{readsInput, isUndefined, undefinedVar, isUse, usedVars, variablesUsed, indexDefinitions}
-use Rattle.definition.specs.Uses.{addFirstUse}
+use Rattle.definition.specs.Uses.{readsInput, isUndefined, undefinedVar, isUse, variablesUsed, indexDefinitions, addFirstUse}
 use Rattle.original.specs.Inner.Settled.{Settled}
 use Rattle.original.proofs.Laws.Settled.{settled-parts, foldl-concatMap}
-use Rattle.original.proofs.Laws.Takers.{orFound, foldl-find, find-settled, firstUses-settled, once-settled}
-use Rattle.original.specs.Inner.Takers.{addOnce, firstPlaces}
+use Rattle.original.proofs.Laws.Takers.{orFound, foldl-find, find-settled, firstUses-settled}
 use Rattle.original.specs.Inner.Events.{seenAt, metAt, eventDefines, varsSeen, comprsMet, definitionsMade}
-use Rattle.original.specs.Inner.RustWalk.{namesUsed, rustWalk}
+use Rattle.original.specs.Inner.RustWalk.{rustWalk}
 use Rattle.original.proofs.Laws.RustWalk.{walkOnce}
-use Rattle.original.proofs.Laws.SameEvents.{same-read, same-any, same-names, rust-once}
+use Rattle.original.proofs.Laws.SameEvents.{same-read, same-any, rust-once}
 use Rattle.original.proofs.Laws.OnceLists.{vars-once, comprs-once}
-use Rattle.original.proofs.Laws.OnceSets.{names-once, definitions-once}
-use Rattle.original.specs.Inner.BracketRepeats.{queryOfCompr}
+use Rattle.original.proofs.Laws.OnceSets.{definitions-once}
 
 module _ (sheet : Sheet) (s : Scope) (extras : List ℕ) (i : ℕ) where
-  -- The Rust's walk uses the names that `usedVars` lists, as a set.
-  pub rust-usedVars : (t : Tree) (x : ℕ) → elem x (namesUsed sheet s extras i (rustWalk sheet s extras i t)) ≡ elem x (usedVars sheet s extras t)
-  rust-usedVars t x =
-      same-names sheet s extras i (rustWalk sheet s extras i t) (walkOnce sheet s extras i t) (rust-once sheet s extras i t) x
-      ∙ names-once sheet s extras i t x
-
   -- It records the definitions that `indexDefinitions` lists, as a set: whatever is asked of them.
   pub rust-definitions : (t : Tree) (p : Definition → Bool)
       → any p (definitionsMade (rustWalk sheet s extras i t)) ≡ any p (indexDefinitions sheet s extras i t)
@@ -98,8 +89,3 @@ module _ (sheet : Sheet) (s : Scope) (extras : List ℕ) (i : ℕ) where
       spans : (l : List Row)
           → foldl addFirstUse uses (map spanOf (filter (isUse sheet s extras) l)) ≡ foldl (λ k w. foldl addFirstUse k (spansAt w)) uses l
       spans l = ap (foldl addFirstUse uses) (listed l) ∙ foldl-concatMap addFirstUse spansAt uses l
-
-  -- The comprehensions that it meets, each at its first place, are those that `comprs` lists.
-  pub rust-comprs : (t : Tree) → firstPlaces queryOfCompr (comprsMet (rustWalk sheet s extras i t)) ≡ firstPlaces queryOfCompr (comprs t)
-  unfolding firstPlaces
-  rust-comprs t = rust-takes-comprs (addOnce queryOfCompr) (once-settled queryOfCompr) t []

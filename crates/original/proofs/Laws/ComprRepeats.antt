@@ -5,22 +5,19 @@ use mathlib.Core.Bool.{Bool, false, not, _||_}
 use mathlib.Core.List.{List, [], _∷_, _++_, foldl, foldl-append, append-nil}
 use mathlib.Core.Logic.{⊎-elim}
 use Prim.Native.Nat.{ℕ}
-use Rattle.base.specs.Lists.{filter}
-use Rattle.base.specs.Lists.{concatMap, isSome}
+use Rattle.base.specs.Lists.{filter, concatMap, isSome}
 use Rattle.sheet.specs.Sheet.{Sheet}
 use Rattle.scope.specs.Trees.{Tree, rowOf, outputsOf}
 use Rattle.scope.specs.Traverse.{comprs}
-use Rattle.scope.specs.Scopes.{contains, insert, elements}
-use Rattle.scope.specs.Scopes.{Scope, spanIn, owns, addInput, useInput}
+use Rattle.scope.specs.Scopes.{contains, insert, elements, Scope, spanIn, owns, addInput, useInput}
 use Rattle.definition.specs.Uses.{addFirstUse}
-use Rattle.definition.specs.States.{Fault, sound, QuerySchedule, Run, State, scheduleOf, scopeIn, setScope, addFirstUses, setRun, inTurn}
+use Rattle.definition.specs.States.{Fault, sound, QuerySchedule, Run, State, scheduleOf, scopeIn, setScope, addFirstUses, setRun, inTurn, Way}
 use Rattle.original.specs.Inner.SameOuter.{SameOwn, below}
 use Rattle.original.proofs.Laws.SameOuter.{same-own, same-outer}
 use Rattle.original.specs.Inner.Settled.{Settled}
 use Rattle.original.specs.Inner.Events.{comprsMet}
 use Rattle.original.specs.Inner.RustWalk.{rustWalk}
 use Rattle.original.proofs.Laws.BracketRepeats.{rust-takes-comprs}
-use Rattle.definition.specs.States.{Way}
 use Rattle.definition.specs.Comprs.{propagate, comprsUse, useCompr, processCompr, processComprs}
 use Rattle.definition.specs.RustWay.{take, rustWay, analyze}
 use Rattle.original.proofs.Laws.RustSame.{analyze-same}

@@ -8,8 +8,7 @@ use native.Mathlib.Omega.{arith}
 use lib.Dec.{eqb}
 use borrow.Author.Tests.{eq-eqb}
 use Rattle.base.proofs.Laws.Truth.{bool-cases, not-both, or-cases, and-intro}
-use Rattle.base.specs.Lists.{elem}
-use Rattle.base.specs.Lists.{concatMap}
+use Rattle.base.specs.Lists.{elem, concatMap}
 use Rattle.definition_room.specs.Inner.Sizes.{total}
 use Rattle.definition_room.proofs.Laws.Lists.{total-append}
 use Rattle.original.specs.Inner.Distinct.{distinct}

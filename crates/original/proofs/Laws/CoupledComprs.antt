@@ -7,13 +7,11 @@ use Rattle.base.specs.Lists.{filter}
 use Rattle.sheet.specs.Sheet.{Sheet}
 use Rattle.scope.specs.Trees.{Tree, rowOf}
 use Rattle.scope.specs.Traverse.{comprs}
-use Rattle.scope.specs.Scopes.{elements}
-use Rattle.scope.specs.Scopes.{Scope, Span, owns, addInput, useInput}
+use Rattle.scope.specs.Scopes.{elements, Scope, Span, owns, addInput, useInput}
 use Rattle.definition.specs.Uses.{usedVars}
-use Rattle.definition.specs.States.{QuerySchedule, State}
+use Rattle.definition.specs.States.{QuerySchedule, State, Way}
 use Rattle.definition.specs.Comprs.{Mods, propagate, comprsUse, useCompr, allUsed, processCompr, processComprs, useExpr}
 use Rattle.original.specs.Inner.SameOuter.{SameOwn}
-use Rattle.definition.specs.States.{Way}
 use Rattle.original.proofs.Laws.Members.{Among, mem-right, mem-move, concatMap-agree}
 use Rattle.original.proofs.Laws.Beside.{Own, stateOf, Tables, Beside, going, GoodBeside, turn-at, beside-turn, beside-map, own-useInput, own-addInputs, gatherUsedVars-good, addFirstUses-beside, setScope-beside}
 

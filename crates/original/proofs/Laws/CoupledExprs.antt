@@ -4,18 +4,16 @@ use mathlib.Core.Bool.{Bool, true, false, cond, not}
 use mathlib.Core.List.{List, [], _++_, foldl}
 use Prim.Native.Nat.{ℕ}
 use lib.Dec.{eqb}
-use Rattle.base.specs.Lists.{filter}
-use Rattle.base.specs.Lists.{concatMap}
+use Rattle.base.specs.Lists.{filter, concatMap}
 use Rattle.sheet.specs.Sheet.{Sheet}
 use Rattle.sheet.specs.Kinds.{isAssign, isColEq}
 use Rattle.scope.specs.Trees.{Tree, rowOf, firstOf, secondOf}
 use Rattle.scope.specs.Traverse.{comprs}
 use Rattle.definition.specs.Uses.{assignedVars}
-use Rattle.definition.specs.States.{lengths, State, fail}
+use Rattle.definition.specs.States.{lengths, State, fail, Way}
 use Rattle.definition.specs.Using.{checkAssigned, recordOne, recordEach}
 use Rattle.definition.specs.Comprs.{Mods, allUsed}
 use Rattle.definition.specs.Exprs.{Pairing, pair, mismatch, pairings, assignOneWay, assignPairing, processAssignExpr, processPlainExpr, processExpr}
-use Rattle.definition.specs.States.{Way}
 use Rattle.original.proofs.Laws.Members.{Among, mem-left, mem-right, within-append, mem-concatMap}
 use Rattle.original.specs.Inner.Places.{pairComprs, exprComprs}
 use Rattle.original.proofs.Laws.Beside.{stateOf, Beside, going, GoodBeside, beside-turn, fold-beside, fail-good, checkAssigned-good, recordOne-beside, recordEach-beside}

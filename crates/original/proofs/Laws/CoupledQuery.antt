@@ -4,20 +4,16 @@ use mathlib.Core.Bool.{false, not}
 use mathlib.Core.List.{List, [], _∷_, foldl, List·Memᴰ}
 use Prim.Native.Nat.{ℕ}
 use lib.ListN.{length}
-use Rattle.base.specs.Lists.{filter}
-use Rattle.base.specs.Lists.{concatMap}
+use Rattle.base.specs.Lists.{filter, concatMap}
 use Rattle.sheet.specs.Sheet.{Sheet}
 use Rattle.scope.specs.Trees.{Tree}
 use Rattle.scope.specs.Traverse.{comprs}
 use Rattle.scope.specs.Statements.{Stmt, stmtsOf}
-use Rattle.scope.specs.Scopes.{elements}
-use Rattle.scope.specs.Scopes.{Scope, owns, addInput, useInput}
-use Rattle.definition.specs.States.{sound, QuerySchedule, Run, State, ifSound}
-use Rattle.definition.specs.Queries.{outputScope, scheduled, outputCompr, analyzeOutputExpr, analyzeQuery}
+use Rattle.scope.specs.Scopes.{elements, Scope, owns, addInput, useInput}
+use Rattle.definition.specs.States.{sound, QuerySchedule, Run, State, ifSound, Way}
+use Rattle.definition.specs.Queries.{outputScope, scheduled, outputCompr, analyzeOutputExpr, analyzeQuery, processStmts}
 use Rattle.original.specs.Inner.SameOuter.{SameOwn}
-use Rattle.definition.specs.States.{Way}
 use Rattle.definition.specs.Comprs.{propagate}
-use Rattle.definition.specs.Queries.{processStmts}
 use Rattle.original.proofs.Laws.Members.{Among, mem-concatMap}
 use Rattle.original.specs.Inner.Beside.{noFault}
 use Rattle.original.proofs.Laws.Beside.{Own, stateOf, Tables, Beside, failed, going, GoodBeside, ifSound-failed, turn-at, beside-turn, beside-map, fold-beside, own-useInput, own-addInputs, setScope-beside}

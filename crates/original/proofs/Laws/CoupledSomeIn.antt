@@ -10,11 +10,10 @@ use Rattle.scope.specs.Trees.{Tree}
 use Rattle.scope.specs.Traverse.{comprs}
 use Rattle.scope.specs.Scopes.{spanOf}
 use Rattle.definition.specs.Uses.{define, usedVars, indexDefinitions}
-use Rattle.definition.specs.States.{State, addFirstUses, addDefinitions}
+use Rattle.definition.specs.States.{State, addFirstUses, addDefinitions, Way}
 use Rattle.definition.specs.Using.{gatherUsedVars, recordOne}
 use Rattle.definition.specs.Comprs.{Mods, allUsed, processCompr, processComprs}
 use Rattle.definition.specs.SomeIn.{someVarsIn, nonVars, failIfSome, processNonVar, processSomeIn}
-use Rattle.definition.specs.States.{Way}
 use Rattle.original.proofs.Laws.Members.{Among, mem-left, mem-right, within-append, mem-concatMap, concatMap-agree}
 use Rattle.original.proofs.Laws.Beside.{stateOf, Beside, going, GoodBeside, beside-turn, beside-map, gatherUsedVars-good, addFirstUses-beside, addDefinitions-beside, recordOne-beside, failIfSome-good}
 use Rattle.original.proofs.Laws.CoupledComprs.{Coupling, processComprs-beside, forget, useExpr-good, allUsed-same}

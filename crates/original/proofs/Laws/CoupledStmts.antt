@@ -10,11 +10,10 @@ use Rattle.scope.specs.Traverse.{leaves, vars, comprs}
 use Rattle.scope.specs.Paths.{getExtraArg}
 use Rattle.scope.specs.Statements.{Literal, someVars, someIn, expr, notExpr, every, Stmt}
 use Rattle.scope.specs.Scopes.{Scope, noScope, addLocal, addUnscoped}
-use Rattle.definition.specs.States.{QuerySchedule, State, setScope, inTurn}
+use Rattle.definition.specs.States.{QuerySchedule, State, setScope, inTurn, Way}
 use Rattle.definition.specs.Using.{gatherUsedVars, checkFirstUse, recordEach, atLeastOne}
 use Rattle.definition.specs.Comprs.{Mods, allUsed, useExpr}
 use Rattle.definition.specs.Queries.{modsOf, processEvery, processLiteral, processStmt, processStmts}
-use Rattle.definition.specs.States.{Way}
 use Rattle.definition.specs.Exprs.{processExtraArg, processCall}
 use Rattle.original.proofs.Laws.Members.{Among, mem-left, mem-right, within-append}
 use Rattle.original.specs.Inner.Places.{callComprs, literalComprs, stmtComprs, bodyOf}

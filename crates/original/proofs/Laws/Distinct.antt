@@ -1,30 +1,19 @@
 -- Laws of `Distinct`.
 use mathlib.Core.Path.{_≡_, refl, sym, ap, _∙_, subst}
-use mathlib.Core.Bool.{Bool, true, false, not, _||_}
+use mathlib.Core.Bool.{true, false, not}
 use mathlib.Core.List.{List, [], _∷_, _++_, List·Memᴰ, List·Memᴰ·cases-cons, List·Memᴰ·not-nil}
 use mathlib.Core.Logic.{_⊎_, inl, inr, ⊎-elim}
 use Prim.Native.Nat.{ℕ}
 use lib.Dec.{eqb}
 use borrow.Author.Tests.{eqb-true, not-true}
-use Rattle.base.proofs.Laws.Truth.{bool-cases, not-both, and-intro, and-left, and-right, or-left, or-right, or-cases}
-use Rattle.base.specs.Lists.{elem}
+use Rattle.base.proofs.Laws.Truth.{bool-cases, not-both, and-intro, and-left, and-right, or-left, or-right, or-cases, neither-left, neither-right}
+use Rattle.base.specs.Lists.{elem, concatMap}
 use Rattle.base.proofs.Laws.Members.{elem-append}
-use Rattle.base.specs.Lists.{concatMap}
 use Rattle.original.specs.Inner.Distinct.{distinct}
 
 -- What is on the first list is not on the second.
 abbrev pub Apart : List ℕ → List ℕ → Type 0
 Apart k l = (x : ℕ) → elem x k ≡ true → elem x l ≡ false
-
--- Neither test holds: not the first.
-pub or-false-left : (a b : Bool) → (a || b) ≡ false → a ≡ false
-or-false-left true b h = h
-or-false-left false b h = refl
-
--- Nor the second.
-pub or-false-right : (a b : Bool) → (a || b) ≡ false → b ≡ false
-or-false-right true b h = absurd (not-both refl h)
-or-false-right false b h = h
 
 -- What is on the first part is on the whole.
 pub elem-left : (x : ℕ) (k l : List ℕ) → elem x k ≡ true → elem x (k ++ l) ≡ true
@@ -49,7 +38,7 @@ pub distinct-left : (k l : List ℕ) → distinct (k ++ l) ≡ true → distinct
 distinct-left [] l h = refl
 distinct-left (x ∷ k) l h =
     let n : elem x (k ++ l) ≡ false = not-true _ (and-left (not (elem x (k ++ l))) _ h) in
-    let m : elem x k ≡ false = or-false-left (elem x k) (elem x l) (sym (elem-append x k l) ∙ n) in
+    let m : elem x k ≡ false = neither-left (elem x k) (elem x l) (sym (elem-append x k l) ∙ n) in
     and-intro (not (elem x k)) (distinct k) (ap not m) (distinct-left k l (and-right (not (elem x (k ++ l))) _ h))
 
 -- And the second.
@@ -64,7 +53,7 @@ distinct-apart (y ∷ k) l h x m =
     let n : elem y (k ++ l) ≡ false = not-true _ (and-left (not (elem y (k ++ l))) _ h) in
     ⊎-elim
     (λ (e : eqb x y ≡ true).
-    or-false-right (elem x k) (elem x l) (sym (elem-append x k l) ∙ ap (λ (z : ℕ). elem z (k ++ l)) (eqb-true x y e) ∙ n))
+    neither-right (elem x k) (elem x l) (sym (elem-append x k l) ∙ ap (λ (z : ℕ). elem z (k ++ l)) (eqb-true x y e) ∙ n))
     (λ (e : elem x k ≡ true). distinct-apart k l (and-right (not (elem y (k ++ l))) _ h) x e) (or-cases (eqb x y) (elem x k) m)
 
 -- ---- lists put together

@@ -10,13 +10,12 @@ use Rattle.base.proofs.Laws.Truth.{bool-cases, not-both}
 use Rattle.sheet.specs.Sheet.{Sheet}
 use Rattle.scope.specs.Trees.{Tree}
 use Rattle.base.specs.Limits.{nesting}
-use Rattle.scope.specs.Scopes.{empty, contains}
-use Rattle.scope.specs.Scopes.{Scope, varExists}
+use Rattle.base.proofs.Laws.ListLaws.{find-some}
+use Rattle.scope.specs.Scopes.{empty, contains, Scope, varExists}
 use Rattle.scope.specs.Inner.Shadowed.{InputsFound}
 use Rattle.definition.specs.States.{sound, QuerySchedule, Run, scheduleOf, scopeIn}
 use Rattle.definition.specs.RustWay.{analyze, analyzeQuerySnippet}
 use Rattle.definition_once.specs.Inner.OnceWay.{analyzeOnce, analyzeQuerySnippetOnce, scheduleOnce}
-use Rattle.definition_room.proofs.Laws.Lists.{find-some}
 use Rattle.original.proofs.Laws.Lists.{orElse, orElse-none}
 use Rattle.original.specs.Inner.Distinct.{distinct}
 use Rattle.original.specs.Inner.Places.{family}

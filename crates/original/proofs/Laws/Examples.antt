@@ -10,18 +10,14 @@ use Rattle.scope.specs.Trees.{Tree, nil, node, decode, treeAt, chain}
 use Rattle.scope.specs.Traverse.{traverse, leaves, vars}
 use Rattle.scope.specs.Paths.{getPathString, getExtraArg}
 use Rattle.scope.specs.Statements.{literalOf, stmtsFrom, stmtsOf}
-use Rattle.scope.specs.Scopes.{empty, contains, insert, remove, elements}
-use Rattle.scope.specs.Scopes.{Scope, addLocal, addUnscoped, addInput, useInput, removeAll, removeShadowed, owns, varExists}
-use Rattle.scope.specs.Gather.{assignVar, gatherAssignedVars, inputVar, gatherInputVars, loopVar, gatherLoopVars, gatherRead, gatherVars}
-use Rattle.scope.specs.Gather.{gatherExpr, gatherLiteral, gatherStmt, gatherLocalVars}
-use Rattle.definition.specs.Uses.{define, nameOf, assignedVars, indexVars, readsInput, isUndefined, undefinedVar, isUse, usedAt, usedVars, variablesUsed, indexDefinitionsAt, indexDefinitions}
-use Rattle.definition.specs.Uses.{addFirstUse}
+use Rattle.scope.specs.Scopes.{empty, contains, insert, remove, elements, Scope, addLocal, addUnscoped, addInput, useInput, removeAll, removeShadowed, owns, varExists}
+use Rattle.scope.specs.Gather.{assignVar, gatherAssignedVars, inputVar, gatherInputVars, loopVar, gatherLoopVars, gatherRead, gatherVars, gatherExpr, gatherLiteral, gatherStmt, gatherLocalVars}
+use Rattle.definition.specs.Uses.{define, nameOf, assignedVars, indexVars, readsInput, isUndefined, undefinedVar, isUse, usedAt, usedVars, variablesUsed, indexDefinitionsAt, indexDefinitions, addFirstUse}
 use Rattle.definition.specs.States.{QuerySchedule, setScope, addFirstUses, addDefinitions, setRun, fail}
 use Rattle.definition.specs.Using.{gatherUsedVars, checkFirstUse, checkAssigned, recordOne, recordEach, atLeastOne}
 use Rattle.definition.specs.Comprs.{propagate, comprsUse, useCompr, allUsed, processCompr, processComprs, useExpr}
 use Rattle.definition.specs.Exprs.{pairings, assignOneWay, assignPairing, processAssignExpr, processPlainExpr, processExpr, processExtraArg, processCall}
-use Rattle.definition.specs.Queries.{modsOf, processLiteral, processStmt, processStmts}
-use Rattle.definition.specs.Queries.{outputScope, scheduled, outputCompr, analyzeOutputExpr, analyzeQuery}
+use Rattle.definition.specs.Queries.{modsOf, processLiteral, processStmt, processStmts, outputScope, scheduled, outputCompr, analyzeOutputExpr, analyzeQuery}
 use Rattle.definition.specs.RustWay.{take, rustWay, analyze, analyzeQuerySnippet}
 use Rattle.definition_once.specs.Inner.OnceWay.{analyzeCompr, analyzeOnce, analyzeQuerySnippetOnce}
 use Rattle.original.specs.Inner.Events.{varsSeen}

@@ -23,7 +23,6 @@ use Rattle.sheet.specs.Inner.Enclosing.{enclosingQuery}
 use Rattle.sheet_facts.proofs.Laws.Accepted.{fine-rows}
 use Rattle.sheet_facts.proofs.Laws.Rows.{fine-statement-row}
 use Rattle.sheet_facts.proofs.Laws.Levels.{not-deep, first-level}
-use Rattle.sheet_facts.specs.Inner.Facts.{SheetFacts}
 use Rattle.sheet_facts.proofs.Laws.Facts.{sheet-facts}
 use Rattle.base.specs.Lists.{concatMap}
 use Rattle.sheet.specs.Inner.Sheet.{rowAt, sheetOf}
@@ -48,9 +47,6 @@ use Rattle.original.specs.Inner.MoreLevels.{Alike}
 use Rattle.original.specs.Inner.LevelsSuffice.{theTree, theSheet}
 
 module _ (c : Counts) (x : Special) (t : List ℕ) (few : Within c) (fine : firstLine c (inTables t) ≡ 0) where
-  abbrev facts : SheetFacts c (inTables t)
-  facts = sheet-facts c (inTables t) few fine
-
   abbrev InQuery : ℕ → Tree → Type 0
   InQuery q e = Compr c x t few fine q e
 
@@ -81,12 +77,12 @@ module _ (c : Counts) (x : Special) (t : List ℕ) (few : Within c) (fine : firs
         go : (0 < r) ⊎ (r ≤ 0) → EachLies (InQuery q) (cond (isAssign (rowOf (theTree c x t few fine r))) (concatMap pairComprs (pairings (firstOf (theTree c x t few fine r)) (secondOf (theTree c x t few fine r)))) (comprs (theTree c x t few fine r)))
         go (inr z) =
             let e : r ≡ 0 = omega arith in
-            let no : theTree c x t few fine r ≡ nil = ap (theTree c x t few fine) e ∙ tree-none c x t facts in
+            let no : theTree c x t few fine r ≡ nil = ap (theTree c x t few fine) e ∙ tree-none c x t (sheet-facts c (inTables t) few fine) in
             let none : isAssign (rowOf (theTree c x t few fine r)) ≡ false = ap (λ (d : Tree). isAssign (rowOf d)) no in
             rw none (of-tree r l)
         go (inl z) =
             let b = low r l in
-            let is = tree-row c x t facts r z b in
+            let is = tree-row c x t (sheet-facts c (inTables t) few fine) r z b in
             let a : isAssign (rowOf (theTree c x t few fine r)) ≡ isAssign (rowAt t r) = ap (λ (d : Tree). isAssign (rowOf d)) is in
             let f : firstOf (theTree c x t few fine r) ≡ theTree c x t few fine (rowAt t r .first) = ap firstOf is in
             let s : secondOf (theTree c x t few fine r) ≡ theTree c x t few fine (rowAt t r .second) = ap secondOf is in
@@ -189,7 +185,7 @@ module _ (c : Counts) (x : Special) (t : List ℕ) (few : Within c) (fine : firs
       rw (statement-is r b)
       (each-cons (StmtAt q) (record { literal = literalOf (theSheet c x t few fine) st; withMods = chain (theTree c x t few fine (st .with)) }) _
       (record { row = suc r; from = from; to = b; here = here; is = refl })
-      (stmts-from k (st .next) q (onward-low (c .statements) (suc r) (st .next) (facts .statement (suc r) from b .next))
+      (stmts-from k (st .next) q (onward-low (c .statements) (suc r) (st .next) ((sheet-facts c (inTables t) few fine) .statement (suc r) from b .next))
       (statement-lies c t few fine q (suc r) from b here .next)))
 
   first-is : (q : ℕ) → 1 ≤ q → q ≤ c .queries → getD (0 ∷ (theSheet c x t few fine) .queries) q 0 ≡ firstAt t q
@@ -201,7 +197,7 @@ module _ (c : Counts) (x : Special) (t : List ℕ) (few : Within c) (fine : firs
   unfolding stmtsOf
   stmts-at q a b =
       rw (first-is q a b)
-      (stmts-from (length ((theSheet c x t few fine) .statements)) (firstAt t q) q (facts .query q a b .in-first) (first-lies c t few fine q a b))
+      (stmts-from (length ((theSheet c x t few fine) .statements)) (firstAt t q) q ((sheet-facts c (inTables t) few fine) .query q a b .in-first) (first-lies c t few fine q a b))
 
   -- ---- levels
 

@@ -6,8 +6,7 @@ use mathlib.Core.Option.{Option, none, some}
 use Prim.Native.Nat.{ℕ}
 use lib.Dec.{eqb}
 use Rattle.base.proofs.Laws.Truth.{or-left-comm}
-use Rattle.base.specs.Lists.{elem}
-use Rattle.base.specs.Lists.{concatMap, any, find}
+use Rattle.base.specs.Lists.{elem, concatMap, any, find}
 use Rattle.scope.specs.Traverse.{Enters, nothing, params, fields, entered}
 use Rattle.base.proofs.Laws.ListLaws.{concatMap-append}
 

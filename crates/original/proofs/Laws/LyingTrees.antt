@@ -7,22 +7,19 @@ use Prim.Native.Nat.{ℕ, zero, suc, _+_, _≤_, _<_}
 use native.Mathlib.Omega.{arith}
 use lib.Dec.{eqb}
 use lib.ListN.{length, getD, List·getD-eq-default}
-use Rattle.base.proofs.Laws.Truth.{bool-cases, lt-cases, not-both, or-left, and-left, and-right}
+use Rattle.base.proofs.Laws.Truth.{bool-cases, lt-cases, or-left, and-left, and-right}
 use Rattle.sheet.specs.declared.Counts.{Counts}
-use Rattle.sheet.specs.declared.Row.{Row}
 use Rattle.sheet.specs.Inner.Records.{Within}
 use Rattle.sheet.specs.Inner.Rows.{inTables}
 use Rattle.sheet.specs.declared.Special.{Special}
-use Rattle.sheet.specs.Naming.{exprRow}
+use Rattle.sheet.specs.Naming.{exprRow, namings}
 use Rattle.sheet.specs.Faults.{firstLine}
 use Rattle.sheet.specs.Nesting.{enclosingOf, enclosing}
-use Rattle.sheet.specs.Naming.{namings}
 use Rattle.sheet.proofs.Laws.GrownLaws.{grown-length}
 use Rattle.sheet.specs.Inner.Enclosing.{enclosingQuery}
 use Rattle.sheet_facts.specs.Inner.Facts.{SheetFacts}
 use Rattle.sheet_facts.proofs.Laws.Facts.{sheet-facts}
 use Rattle.base.specs.Lists.{concatMap}
-use Rattle.sheet.specs.Sheet.{Sheet}
 use Rattle.sheet.specs.Inner.Sheet.{rowAt, sheetOf}
 use Rattle.sheet.specs.Kinds.{isPattern, isCompr, isArray}
 use Rattle.scope.specs.Trees.{Tree, nil, node, rowOf, thirdOf, treeAt, chain}
@@ -31,7 +28,7 @@ use Rattle.scope_walk.proofs.Laws.Descent.{OnwardTo}
 use Rattle.scope_walk.specs.Inner.Kids.{kidsOf}
 use Rattle.scope_walk.proofs.Laws.RowTrees.{row-descends, tree-none, tree-row}
 use Rattle.scope_walk.proofs.Laws.Onwards.{row-onwards, onward-low}
-use Rattle.scope_walk.proofs.Laws.Walks.{aloneAt, over-row, overBy-row, leaves-row}
+use Rattle.scope_walk.proofs.Laws.Walks.{aloneAt, over-row}
 use Rattle.definition.specs.Exprs.{Pairing, pair, mismatch, pairings}
 use Rattle.definition_room.specs.Inner.Lying.{Lies}
 use Rattle.definition_room.proofs.Laws.Lying.{lies-there}

@@ -12,9 +12,9 @@ use Rattle.sheet.specs.Sheet.{Sheet}
 use Rattle.sheet.specs.Kinds.{isVar, isCompr, isRefBrack}
 use Rattle.scope.specs.Trees.{Tree, nil, node, rowOf}
 use Rattle.scope.specs.Traverse.{nothing, enters, entered, traverse, vars, comprs}
+use Rattle.base.proofs.Laws.ListLaws.{concatMap-append}
 use Rattle.scope.specs.Scopes.{Scope}
 use Rattle.definition.specs.Uses.{indexVars}
-use Rattle.base.proofs.Laws.ListLaws.{concatMap-append}
 use Rattle.original.proofs.Laws.Lists.{concatMap-entered}
 use Rattle.original.specs.Inner.Events.{Event, seen, met, seenAt, metAt, varsSeen, comprsMet}
 use Rattle.original.specs.Inner.RustWalk.{indexed, ownEvents}

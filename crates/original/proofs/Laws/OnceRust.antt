@@ -9,14 +9,12 @@ use Prim.Native.Nat.{ℕ, zero, suc}
 use lib.Dec.{eqb}
 use lib.ListN.{length}
 use Rattle.base.proofs.Laws.Truth.{and-right, or-right, not-both}
-use Rattle.base.specs.Lists.{elem}
-use Rattle.base.specs.Lists.{concatMap, isSome}
+use Rattle.base.specs.Lists.{elem, concatMap, isSome}
 use Rattle.sheet.specs.Sheet.{Sheet}
 use Rattle.scope.specs.Trees.{Tree, rowOf, outputsOf}
 use Rattle.scope.specs.Traverse.{comprs}
 use Rattle.scope.specs.Statements.{Stmt, stmtsOf}
-use Rattle.scope.specs.Scopes.{Scope, Span, addUnscoped}
-use Rattle.scope.specs.Scopes.{insert}
+use Rattle.scope.specs.Scopes.{Scope, Span, addUnscoped, insert}
 use Rattle.definition.specs.States.{Fault, sound, QuerySchedule, Run, State, scheduleOf, scopeIn, setRun}
 use Rattle.definition.specs.Queries.{outputScope, analyzeQuery}
 use Rattle.definition.specs.RustWay.{noRun, take, rustWay, analyze}

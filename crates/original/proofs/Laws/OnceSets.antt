@@ -7,19 +7,18 @@ use Prim.Native.Nat.{ℕ}
 use lib.Dec.{eqb}
 use borrow.Author.Tests.{eqb-true}
 use lib.ListN.{getD}
-use Rattle.base.specs.Lists.{elem}
+use Rattle.base.specs.Lists.{elem, concatMap, any}
 use Rattle.base.proofs.Laws.Truth.{not-both}
 use Rattle.order.specs.Definitions.{Definition}
-use Rattle.base.specs.Lists.{concatMap, any}
 use Rattle.sheet.specs.declared.Row.{Row}
 use Rattle.sheet.specs.Sheet.{Sheet}
 use Rattle.sheet.specs.Kinds.{isVar, isCompr, isRefBrack}
 use Rattle.scope.specs.Trees.{Tree, nil, node}
 use Rattle.scope.specs.Traverse.{Enters, nothing, enters, entered, traverse}
+use Rattle.base.proofs.Laws.ListLaws.{concatMap-append}
 use Rattle.scope.specs.Scopes.{Scope}
 use Rattle.definition.specs.Uses
 use Rattle.definition.specs.Uses.{define, indexVars, isUse, usedVars, indexDefinitionsAt, indexDefinitions}
-use Rattle.base.proofs.Laws.ListLaws.{concatMap-append}
 use Rattle.original.proofs.Laws.Lists.{concatMap-entered, any-append, any-swap, any-entered, elem-any}
 use Rattle.original.specs.Inner.Events.{Event, seen, met, eventDefines, definitionsMade}
 use Rattle.original.specs.Inner.RustWalk.{rustUsedAt, namesUsed, indexed, ownEvents}

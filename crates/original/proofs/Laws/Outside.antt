@@ -8,14 +8,11 @@ use Prim.Native.Nat.{ℕ}
 use lib.Dec.{eqb}
 use borrow.Author.Tests.{eqb-true}
 use Rattle.base.proofs.Laws.Truth.{bool-cases, not-both, and-left, and-right, or-left, or-right, or-cases}
-use Rattle.base.specs.Lists.{all, filter}
-use Rattle.base.specs.Lists.{range}
-use Rattle.base.specs.Lists.{isSome}
+use Rattle.base.specs.Lists.{all, filter, range, isSome}
 use Rattle.base.proofs.Laws.ListLaws.{all-kept, all-filter}
 use Rattle.sheet.specs.declared.Row.{Row}
 use Rattle.sheet.specs.Sheet.{nameBound}
-use Rattle.scope.specs.Scopes.{contains, insert, elements}
-use Rattle.scope.specs.Scopes.{Span, Scope, spanIn, isLocal, owns, notBelow, addUnscoped, addInput, useInput, varExists}
+use Rattle.scope.specs.Scopes.{contains, insert, elements, Span, Scope, spanIn, isLocal, owns, notBelow, addUnscoped, addInput, useInput, varExists}
 use Rattle.scope.specs.Inner.Shadowed.{ExistsAround, InputsFound}
 
 -- A name without a span is no local that counts.

@@ -1,24 +1,21 @@
 -- The fields of an accepted sheet that hold a query, a comprehension's third and an `every`'s body: what they name is worth what the query is.
 use mathlib.Core.Path.{_≡_, refl, ap, _∙_, subst}
-use mathlib.Core.Bool.{Bool, true, false, cond, not, _&&_, _||_}
+use mathlib.Core.Bool.{Bool, true, false, cond, not, _||_}
 use mathlib.Core.List.{List, List·Memᴰ·head, List·Memᴰ·tail}
 use mathlib.Core.Logic.{_⊎_, inl, inr, ⊎-elim}
 use Prim.Native.Nat.{ℕ, suc, _+_, _-_, _≤_}
 use native.Mathlib.Omega.{arith}
-use lib.Dec.{eqb}
-use borrow.Author.Tests.{eqb-true, not-true}
-use Rattle.base.proofs.Laws.Truth.{bool-cases, not-both, and-left, and-right, or-cases}
-use Rattle.base.specs.Lists.{all}
+use borrow.Author.Tests.{not-true}
+use Rattle.base.proofs.Laws.Truth.{bool-cases, not-both, or-cases}
+use Rattle.base.specs.Lists.{all, range}
 use Rattle.base.proofs.Laws.Lists.{all-elem}
-use Rattle.base.specs.Lists.{range}
 use Rattle.base.proofs.Laws.Ranges.{elem-range}
 use Rattle.sheet.specs.declared.Counts.{Counts}
 use Rattle.sheet.specs.Inner.Records.{exprAt, statementRowAt}
 use Rattle.sheet.specs.declared.Field.{Field}
 use Rattle.sheet.specs.Fields.{limitOf, kinds, kindOf, forms, formOf}
 use Rattle.sheet_fields.proofs.Laws.Tables.{HoldsQuery, holdsQuery, holds-query}
-use Rattle.sheet.specs.Naming.{Entry, statementRow, exprRow, rowIn, exprEntry, statementEntry, exprEntries, statementEntries}
-use Rattle.sheet.specs.Naming.{entryNaming}
+use Rattle.sheet.specs.Naming.{Entry, statementRow, exprRow, rowIn, exprEntry, statementEntry, exprEntries, statementEntries, entryNaming}
 use Rattle.sheet.proofs.Laws.Origins.{targetOf}
 use Rattle.sheet_facts.proofs.Laws.Accepted.{FineRows}
 use Rattle.sheet_facts.specs.Inner.FineFields.{Fine}

@@ -3,10 +3,10 @@ use mathlib.Core.Path.{_≡_, refl, ap, _∙_}
 use mathlib.Core.Bool.{Bool, true, false, cond}
 use mathlib.Core.List.{List, _∷_}
 use mathlib.Core.Logic.{_⊎_, inl, inr}
-use Prim.Native.Nat.{ℕ, zero, suc, _+_, _≤_, _<_}
+use Prim.Native.Nat.{ℕ, zero, suc, _+_, _≤_}
 use native.Mathlib.Omega.{arith}
 use lib.Dec.{eqb}
-use lib.ListN.{length, getD}
+use lib.ListN.{getD}
 use borrow.Author.Tests.{eqb-false}
 use Rattle.base.proofs.Laws.Truth.{bool-cases}
 use Rattle.sheet.specs.declared.Counts.{Counts}
@@ -15,12 +15,12 @@ use Rattle.sheet.specs.Inner.Records.{exprAt, statementRowAt, firstAt}
 use Rattle.sheet.specs.declared.Special.{Special}
 use Rattle.sheet_facts.proofs.Laws.Accepted.{FineRows}
 use Rattle.sheet_facts.specs.Inner.Facts.{SheetFacts}
-use Rattle.sheet.specs.Sheet.{Sheet, noStatement}
+use Rattle.sheet.specs.Sheet.{Sheet}
 use Rattle.sheet.specs.Inner.Sheet.{rowAt, sheetOf}
 use Rattle.scope.specs.Trees.{Tree, node, thirdOf, treeAt, chain}
 use Rattle.scope.specs.Statements.{Literal, Stmt, literalOf, stmtsOf}
-use Rattle.scope.proofs.Laws.StatementWalks.{statementIn, StatementsOnward, stmtAt, stmtsAt, stmts-none, stmts-row, stmts-of}
-use Rattle.scope_walk.proofs.Laws.RowTrees.{rows-length, rows-at, tree-none, tree-row}
+use Rattle.scope.proofs.Laws.StatementWalks.{stmtAt, stmtsAt, stmts-none, stmts-row, stmts-of}
+use Rattle.scope_walk.proofs.Laws.RowTrees.{rows-at, tree-none, tree-row, statement-is, statements-length, statements-onwards}
 use Rattle.definition_room.specs.Inner.Sizes.{total}
 use Rattle.definition_room.proofs.Laws.Worth.{statementWorth}
 use Rattle.definition_room.proofs.Laws.Listed.{comprKind}
@@ -88,32 +88,6 @@ module _ (c : Counts) (x : Special) (t : List ℕ) (g : ℕ → ℕ) where
 
     -- ---- statements
 
-    -- Statement s of the sheet is that of the tables.
-    row-is : (s : ℕ) → 1 ≤ s → s ≤ c .statements → statementIn (sheet .statements) s ≡ statementRowAt t s
-    unfolding sheetOf
-    row-is zero a b = absurd (omega arith)
-    row-is (suc s) a b = rows-at (statementRowAt t) (c .statements) s noStatement b
-
-    -- And there are no more.
-    row-count : length (sheet .statements) ≡ c .statements
-    unfolding sheetOf
-    row-count = rows-length (statementRowAt t) (c .statements)
-
-    -- A statement's `next` is a later one, or none.
-    onwards : StatementsOnward (sheet .statements)
-    onwards zero l n = absurd (n refl)
-    onwards (suc s) l n =
-        let high : suc s ≤ c .statements = omega (arith, row-count) in
-        let e = row-is (suc s) (omega arith) high in
-        let same : statementIn (sheet .statements) (suc s) .next ≡ statementRowAt t (suc s) .next = ap (λ (st : Statement). st .next) e in
-        go (facts .statement (suc s) (omega arith) high .next) same
-      where
-        go : (statementRowAt t (suc s) .next ≡ 0) ⊎ ((suc s < statementRowAt t (suc s) .next) × (statementRowAt t (suc s) .next ≤ c .statements))
-            → statementIn (sheet .statements) (suc s) .next ≡ statementRowAt t (suc s) .next
-            → (suc s < statementIn (sheet .statements) (suc s) .next) × (statementIn (sheet .statements) (suc s) .next ≤ length (sheet .statements))
-        go (inl z) same = absurd (n (same ∙ z))
-        go (inr h) same = (omega (arith, h .0), omega (arith, h .1, row-count))
-
     -- From row 0 on there is none.
     pub tally-from-none : tallyFrom 0 ≡ 0
     unfolding tallyFrom
@@ -126,7 +100,7 @@ module _ (c : Counts) (x : Special) (t : List ℕ) (g : ℕ → ℕ) where
     -- It is statement s of the sheet.
     stmt-is : (s : ℕ) → 1 ≤ s → s ≤ c .statements → stmtAt sheet s ≡ stmtOf (statementRowAt t s)
     unfolding stmtAt stmtOf
-    stmt-is s a b = ap stmtOf (row-is s a b)
+    stmt-is s a b = ap stmtOf (statement-is c x t s a b)
 
     -- It names no more than its row does.
     stmt-wholes : (s : ℕ) → stmtTally g (stmtOf (statementRowAt t s)) ≤ wholesAt t tallyAt s + total g (bodyOf (literalOf sheet (statementRowAt t s)))
@@ -165,9 +139,9 @@ module _ (c : Counts) (x : Special) (t : List ℕ) (g : ℕ → ℕ) where
       from-row s a b =
           omega (
             arith,
-            ap (λ (l : List Stmt). total (stmtTally g) l) (stmts-row sheet onwards s (λ z. omega arith) (omega (arith, row-count))),
+            ap (λ (l : List Stmt). total (stmtTally g) l) (stmts-row sheet (statements-onwards c x t facts) s (λ z. omega arith) (omega (arith, statements-length c x t))),
             ap (stmtTally g) (stmt-is s a b),
-            ap (λ (st : Statement). total (stmtTally g) (stmtsAt sheet (st .next))) (row-is s a b),
+            ap (λ (st : Statement). total (stmtTally g) (stmtsAt sheet (st .next))) (statement-is c x t s a b),
             stmt-wholes s,
             body-worth s a b,
           )

@@ -5,9 +5,8 @@ use mathlib.Core.Bool.{Bool, _||_}
 use mathlib.Core.List.{List, [], _∷_, map}
 use mathlib.Core.Option.{Option, none, some}
 use Prim.Native.Nat.{ℕ}
-use Rattle.base.specs.Lists.{filter}
+use Rattle.base.specs.Lists.{filter, any, find}
 use Rattle.order.specs.Definitions.{Definition}
-use Rattle.base.specs.Lists.{any, find}
 use Rattle.sheet.specs.declared.Row.{Row}
 use Rattle.sheet.specs.Sheet.{Sheet, isInput}
 use Rattle.scope.specs.Trees.{Tree}

@@ -15,16 +15,13 @@ use Rattle.sheet.specs.Sheet.{Sheet}
 use Rattle.scope.specs.Trees.{Tree, rowOf, chain, outputsOf}
 use Rattle.scope.specs.Traverse.{vars}
 use Rattle.scope.specs.Statements.{stmtsOf}
-use Rattle.scope.specs.Scopes.{contains, empty, elements}
-use Rattle.scope.specs.Scopes.{Scope, noScope, owns, addLocal, addInput, useInput}
-use Rattle.scope.specs.Gather.{gatherAssignedVars}
-use Rattle.scope.specs.Gather.{gatherLocalVars}
+use Rattle.scope.specs.Scopes.{contains, empty, elements, Scope, noScope, owns, addLocal, addInput, useInput}
+use Rattle.scope.specs.Gather.{gatherAssignedVars, gatherLocalVars}
 use Rattle.scope.specs.Inner.Shadowed.{InputsFound}
 use Rattle.scope.proofs.Laws.Shadowed.{inputs-found}
 use Rattle.definition.specs.States.{Fault, sound, QuerySchedule, Run, State, scheduleOf, scopeIn, setRun, ifSound}
-use Rattle.definition.specs.Queries.{outputScope, scheduled, analyzeOutputExpr, analyzeQuery}
+use Rattle.definition.specs.Queries.{outputScope, scheduled, analyzeOutputExpr, analyzeQuery, processStmts}
 use Rattle.definition.specs.Comprs.{propagate}
-use Rattle.definition.specs.Queries.{processStmts}
 use Rattle.definition.specs.RustWay.{noRun, Answer, take, rustWay, analyze, analyzeQuerySnippet}
 use Rattle.original.proofs.Laws.RustWrites.{failed-cases}
 use Rattle.original.specs.Inner.Beside.{noFault}

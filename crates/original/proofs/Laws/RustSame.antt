@@ -5,8 +5,7 @@ use mathlib.Core.List.{List, _∷_, []}
 use Prim.Native.Nat.{ℕ, zero, suc}
 use Rattle.sheet.specs.Sheet.{Sheet}
 use Rattle.scope.specs.Trees.{rowOf, outputsOf}
-use Rattle.scope.specs.Scopes.{elements}
-use Rattle.scope.specs.Scopes.{Scope, noScope}
+use Rattle.scope.specs.Scopes.{elements, Scope, noScope}
 use Rattle.definition.specs.States.{scheduleOf, scopeIn}
 use Rattle.definition.specs.Queries.{analyzeQuery}
 use Rattle.definition.specs.RustWay.{noRun, Answer, take, rustWay, analyze}

@@ -9,8 +9,7 @@ use lib.Dec.{eqb}
 use lib.ListN.{length}
 use borrow.Author.Tests.{eq-eqb, ne-eqb}
 use Rattle.base.proofs.Laws.Truth.{or-left, not-both}
-use Rattle.base.specs.Lists.{elem}
-use Rattle.base.specs.Lists.{concatMap, isSome}
+use Rattle.base.specs.Lists.{elem, concatMap, isSome}
 use Rattle.sheet.specs.Sheet.{Sheet}
 use Rattle.scope.specs.Trees.{Tree, rowOf, outputsOf}
 use Rattle.scope.specs.Traverse.{comprs}

@@ -6,10 +6,8 @@ use Prim.Native.Nat.{ℕ}
 use lib.Dec.{eqb}
 use borrow.Author.Tests.{eqb-true}
 use lib.ListN.{getD}
-use Rattle.base.specs.Lists.{filter, elem}
-use Rattle.base.specs.Lists.{range}
+use Rattle.base.specs.Lists.{filter, elem, range, concatMap, any}
 use Rattle.order.specs.Definitions.{Definition}
-use Rattle.base.specs.Lists.{concatMap, any}
 use Rattle.sheet.specs.declared.Row.{Row}
 use Rattle.sheet.specs.Sheet.{Sheet, nameBound}
 use Rattle.sheet.specs.Kinds.{isRefBrack}

@@ -9,10 +9,8 @@ use Rattle.scope.specs.Trees.{Tree, rowOf, firstOf, secondOf, chain}
 use Rattle.scope.specs.Traverse.{traverse, leaves, vars}
 use Rattle.scope.specs.Paths.{getExtraArg}
 use Rattle.scope.specs.Statements.{Literal, someVars, someIn, expr, notExpr, every}
-use Rattle.scope.specs.Scopes.{contains}
-use Rattle.scope.specs.Scopes.{Scope, noScope, spanIn, addLocal, addUnscoped, addInput, useInput, removeShadowed, notBelow, varExists}
-use Rattle.scope.specs.Gather.{assignVar, gatherAssignedVars, inputVar, gatherInputVars, loopVar, gatherLoopVars, gatherRead, gatherVars}
-use Rattle.scope.specs.Gather.{gatherExtraArg, gatherExpr, gatherLiteral, gatherStmt, gatherLocalVars}
+use Rattle.scope.specs.Scopes.{contains, Scope, noScope, spanIn, addLocal, addUnscoped, addInput, useInput, removeShadowed, notBelow, varExists}
+use Rattle.scope.specs.Gather.{assignVar, gatherAssignedVars, inputVar, gatherInputVars, loopVar, gatherLoopVars, gatherRead, gatherVars, gatherExtraArg, gatherExpr, gatherLiteral, gatherStmt, gatherLocalVars}
 use Rattle.original.specs.Inner.SameOuter.{SameOwn, SameOuter, outermost, below}
 
 -- A scope agrees with itself.

@@ -9,8 +9,7 @@ use borrow.Author.Tests.{eqb-true, eq-eqb}
 use Rattle.base.proofs.Laws.Truth.{bool-cases, or-left, or-right}
 use Rattle.base.specs.Lists.{filter}
 use Rattle.scope.specs.Trees.{Tree, rowOf}
-use Rattle.scope.specs.Scopes.{NameSet, insert, elements}
-use Rattle.scope.specs.Scopes.{Scope, Span}
+use Rattle.scope.specs.Scopes.{NameSet, insert, elements, Scope, Span}
 use Rattle.definition.specs.Uses.{addFirstUse}
 use Rattle.original.specs.Inner.Settled.{Settled}
 use Rattle.original.proofs.Laws.Settled.{settled-parts}

@@ -1,20 +1,18 @@
--- Laws of `Takers`.
+-- What is settled: a test asked of all, the first that passes a test, first uses, a list on which each stands once.
 use mathlib.Core.Path.{_≡_, refl, sym, _∙_}
 use mathlib.Core.Bool.{Bool, true, false, cond, _||_, or-assoc, or-false}
-use mathlib.Core.List.{List, [], _∷_, _++_, foldl}
+use mathlib.Core.List.{List, [], _∷_, foldl}
 use mathlib.Core.Option.{Option, none, some}
 use mathlib.Core.Logic.{_⊎_, inl, inr}
-use Prim.Native.Nat.{ℕ}
 use lib.Dec.{eqb}
 use borrow.Author.Tests.{eq-eqb}
-use Rattle.base.proofs.Laws.Truth.{bool-cases, or-left, or-right}
+use Rattle.base.proofs.Laws.Truth.{bool-cases}
 use Rattle.base.specs.Lists.{any, find, isSome}
 use Rattle.scope.specs.Scopes.{Span, spanIn}
 use Rattle.definition.specs.Uses.{addFirstUse}
-use Rattle.original.proofs.Laws.Lists.{any-append, orElse, orElse-none}
+use Rattle.original.proofs.Laws.Lists.{orElse, orElse-none}
 use Rattle.original.specs.Inner.Settled.{Settled}
 use Rattle.original.proofs.Laws.Settled.{settle}
-use Rattle.original.specs.Inner.Takers.{isKey, addOnce}
 
 module _ {A : Type 0} (p : A → Bool) where
   -- Did one pass the test?
@@ -87,29 +85,3 @@ firstUses-settled = settle addFirstUse (λ p l. isSome (spanIn l (p .name))) lef
 
     still : (l : List Span) (p : Span) → isSome (spanIn l (p .name)) ≡ true → addFirstUse l p ≡ l
     still l p h = rw h
-
--- ---- a list on which each stands once
-
-module _ {A : Type 0} (key : A → ℕ) where
-  -- It is settled.
-  pub once-settled : Settled (addOnce key)
-  once-settled = settle (addOnce key) (λ x l. any (isKey key x) l) left kept still
-    where
-      left : (l : List A) (x : A) → any (isKey key x) (addOnce key l x) ≡ true
-      left l x = go (bool-cases (any (isKey key x) l))
-        where
-          go : (any (isKey key x) l ≡ true) ⊎ (any (isKey key x) l ≡ false) → any (isKey key x) (addOnce key l x) ≡ true
-          go (inl e) = rw (e, e)
-          go (inr e) =
-              rw (e, any-append (isKey key x) l (x ∷ []))
-              (or-right (any (isKey key x) l) _ (or-left _ false (eq-eqb (key x) (key x) refl)))
-
-      kept : (l : List A) (x y : A) → any (isKey key x) l ≡ true → any (isKey key x) (addOnce key l y) ≡ true
-      kept l x y h = go (any (isKey key y) l)
-        where
-          go : (b : Bool) → any (isKey key x) (cond b l (l ++ (y ∷ []))) ≡ true
-          go true = h
-          go false = any-append (isKey key x) l (y ∷ []) ∙ or-left (any (isKey key x) l) _ h
-
-      still : (l : List A) (x : A) → any (isKey key x) l ≡ true → addOnce key l x ≡ l
-      still l x h = rw h

@@ -6,9 +6,8 @@ use mathlib.Core.List.{List, [], _∷_, _++_, map, foldl, List·Memᴰ, List·Me
 use mathlib.Core.Option.{Option, none, some}
 use Prim.Native.Nat.{ℕ, suc}
 use lib.Dec.{eqb}
-use Rattle.base.specs.Lists.{filter}
+use Rattle.base.specs.Lists.{filter, concatMap}
 use Rattle.base.proofs.Laws.Members.{filter-mem}
-use Rattle.base.specs.Lists.{concatMap}
 use Rattle.sheet.specs.declared.Row.{Row}
 use Rattle.sheet.specs.Sheet.{Sheet}
 use Rattle.sheet.specs.Kinds.{isAssign, isColEq}
@@ -18,16 +17,14 @@ use Rattle.scope.specs.Paths.{getExtraArg}
 use Rattle.scope.specs.Statements.{Literal, someVars, someIn, expr, notExpr, every, Stmt}
 use Rattle.scope.specs.Scopes.{Scope, noScope, spanOf, addLocal, addUnscoped, useInput}
 use Rattle.definition.specs.Uses.{define, readsInput, undefinedVar, variablesUsed, indexDefinitions, assignedVars}
-use Rattle.definition.specs.States.{lengths, QuerySchedule, State, setScope, addFirstUses, addDefinitions, fail, inTurn}
+use Rattle.definition.specs.States.{lengths, QuerySchedule, State, setScope, addFirstUses, addDefinitions, fail, inTurn, Way}
 use Rattle.definition.specs.Using.{undefinedAt, gatherUsedVars, checkAssigned, recordOne, recordEach, atLeastOne}
 use Rattle.definition.specs.Comprs.{Mods, propagate, comprsUse, useCompr, allUsed, processCompr, processComprs, useExpr}
 use Rattle.definition.specs.Exprs.{Pairing, pair, mismatch, pairings, assignOneWay, assignPairing, processAssignExpr, processPlainExpr, processExpr, processExtraArg, processCall}
 use Rattle.definition.specs.SomeIn.{someVarsIn, nonVars, failIfSome, processNonVar, processSomeIn}
-use Rattle.definition.specs.Queries.{modsOf, processEvery, processLiteral, processStmt, processStmts}
-use Rattle.definition.specs.Queries.{outputScope, outputCompr, analyzeOutputExpr}
+use Rattle.definition.specs.Queries.{modsOf, processEvery, processLiteral, processStmt, processStmts, outputScope, outputCompr, analyzeOutputExpr}
 use Rattle.original.proofs.Laws.Members.{Among, mem-left, mem-right, within-append, mem-concatMap}
 use Rattle.original.specs.Inner.Places.{pairComprs, exprComprs, callComprs, literalComprs, stmtComprs}
-use Rattle.definition.specs.States.{Way}
 use Rattle.original.proofs.Laws.Steps.{HoldsScope, Safe, good-turn, safe-then, safe-fold, safe-first-uses, safe-definitions, safe-fail, safe-fail-or, safe-scope, safe-one, safe-each, safe-at-least-one, safe-checks, safe-check-assigned, good-fail-if}
 
 -- What is asked of S and of the way, for these statements and outputs.

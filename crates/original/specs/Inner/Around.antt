@@ -10,10 +10,8 @@ use Rattle.scope.specs.Trees.{Tree, rowOf, chain, outputsOf}
 use Rattle.scope.specs.Traverse.{vars, comprs}
 use Rattle.scope.specs.Paths.{getExtraArg}
 use Rattle.scope.specs.Statements.{expr, every, Stmt, stmtsOf}
-use Rattle.scope.specs.Scopes.{elements}
-use Rattle.scope.specs.Scopes.{Scope, noScope, addLocal, addUnscoped, addInput, useInput}
-use Rattle.scope.specs.Gather.{gatherAssignedVars}
-use Rattle.scope.specs.Gather.{gatherLocalVars}
+use Rattle.scope.specs.Scopes.{elements, Scope, noScope, addLocal, addUnscoped, addInput, useInput}
+use Rattle.scope.specs.Gather.{gatherAssignedVars, gatherLocalVars}
 use Rattle.definition.specs.Queries.{outputScope}
 use Rattle.original.specs.Inner.Places.{stmtComprs}
 

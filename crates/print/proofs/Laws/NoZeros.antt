@@ -12,18 +12,15 @@ use borrow.Author.Tests.{lt-ltb}
 use Rattle.base.specs.Limits.{Limits}
 use Rattle.base.specs.Refusals as refusals
 use Rattle.base.proofs.Laws.Truth.{bool-cases, and-intro, and-left, and-right}
-use Rattle.base.specs.Lists.{all}
+use Rattle.base.specs.Lists.{all, concatMap}
 use Rattle.sheet.specs.Text.{bytes}
-use Rattle.answer.specs.Text.{digits, rowLine}
-use Rattle.base.specs.Lists.{concatMap}
-use Rattle.sheet.specs.Sheet.{Sheet}
+use Rattle.answer.specs.Text.{digits, rowLine, section, answerText}
+use Rattle.sheet.specs.Sheet.{Sheet, sheetIn}
 use Rattle.sheet.specs.declared.Outcome.{Outcome}
 use Rattle.sheet.specs.declared.Outcome.the-variants.{Read, NoRoom, TooLong, BadForm, BadName, BadCount, BadField}
 use Rattle.sheet.specs.Verdict.{verdict}
 use Rattle.definition.specs.States.{Fault, sound, undefined, usedBefore, lengths, indexVariable, Run, QuerySchedule}
 use Rattle.definition.specs.RustWay.{analyzeQuerySnippet}
-use Rattle.answer.specs.Text.{section, answerText}
-use Rattle.sheet.specs.Sheet.{sheetIn}
 use Rattle.answer.specs.Call.{Result, refused, answered, fitting, finished, analysed, afterReading, result}
 
 abbrev pub noZeros : List ℕ → Bool

@@ -12,11 +12,10 @@ use borrow.Author.Tests.{ltb-true}
 use Rattle.base.specs.Limits.{Limits}
 use Rattle.base.proofs.Laws.Truth.{bool-cases, lt-cases, and-left, and-right}
 use Rattle.sheet.specs.Text.{newline, bytes}
-use Rattle.answer.specs.Text.{digits, rowLine}
+use Rattle.answer.specs.Text.{digits, rowLine, section, refusalText}
 use Rattle.answer_write.specs.Inner.Writes.{Puts}
 use Rattle.answer_write.proofs.Laws.Writes.{puts-then, starts, fits-whole}
 use Rattle.io.specs.Counts.{Counts}
-use Rattle.answer.specs.Text.{section, refusalText}
 use Rattle.answer.specs.Call.{Result, refused, answered, result, Left, leftBy, left, printed}
 use Rattle.call.specs.declared.replies.Reply.{Reply}
 use Rattle.call.specs.Inner.Replies.{asLeft}

@@ -8,12 +8,10 @@ use Rattle.base.specs.Limits as limits
 use Rattle.base.specs.Limits.{library}
 use Rattle.base.specs.Lists.{all}
 use Rattle.order.specs.Definitions as turns
-use Rattle.order.specs.Call.{definitions}
-use Rattle.order.specs.Call.{within, accepts}
+use Rattle.order.specs.Call.{definitions, within, accepts}
 use Rattle.order_records.specs.declared.Definition.{Definition}
-use Rattle.order_records.specs.Records.{rowsOfRecords, definitionOf}
+use Rattle.order_records.specs.Records.{rowsOfRecords, definitionOf, acceptsRecords}
 use Rattle.order_records.proofs.Laws.RowLaws.{records-rows-length, rows-define}
-use Rattle.order_records.specs.Records.{acceptsRecords}
 use Rattle.order_records.proofs.Laws.Question.{accepts-rows}
 use Rattle.nokchbem.specs.Calls.{ScheduleCall, RecordsCall}
 use Rattle.promises.specs.Scheduler.{Leaves, SameList}
@@ -46,7 +44,3 @@ calls-agree ws ds l n room marks {r} {r′} {o} {o′} {m} {m′} flat records =
     (same-question ws ds n room marks l) (l .define) (flat-leaves n room marks ws flat) in
     let t = records-leave n room marks ds records in
     (s .returned ∙ sym (t .returned), s .ordered ∙ sym (t .ordered), s .marked ∙ sym (t .marked))
-
--- The rows of the records are such words.
-pub rows-same : (ds : List Definition) → SameList (rowsOfRecords ds) ds
-rows-same ds = record { long = records-rows-length ds; define = rows-define ds }

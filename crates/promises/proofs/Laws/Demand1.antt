@@ -16,10 +16,9 @@ use Rattle.sheet.specs.Verdict.{leftTables, verdict}
 use Rattle.sheet_read.proofs.Laws.LineBounds.{line-fits}
 use Rattle.answer.specs.Call.{Result, refused, answered, leftBy, left, result}
 use Rattle.nokchbem.specs.Calls.{AnalyzeCall, ReadCall}
-use Rattle.promises.specs.Demand1.{Position}
+use Rattle.promises.specs.Demand1.{Position, Parts, Analyzed, succeeds, refuses, HasRead}
 use Rattle.promises.specs.Inner.Positions.{Outcomes, refusal-at, a-text}
 use Rattle.promises.proofs.Laws.Positions.{outcomes}
-use Rattle.promises.specs.Demand1.{Parts, Analyzed, succeeds, refuses, HasRead}
 
 parts : (n l c : ℕ) → l ≤ 65535 → c ≤ 65535 → Parts (refusal n l c) n l c
 parts n l c a b = record { the-number = omega arith; the-line = omega arith; the-col = omega arith }

@@ -21,13 +21,11 @@ use Rattle.definition.specs.States.{Fault, sound, undefined, usedBefore, length
 use Rattle.definition.specs.RustWay.{analyzeQuerySnippet}
 use Rattle.answer.specs.Call.{Result, Left, refused, answered, leftBy, left}
 use Rattle.nokchbem.specs.Calls.{leftNumber, readNumber, AnalyzeCall, ReadCall}
-use Rattle.promises.specs.Demand2.{Question, finishes, firstNo, text, questions}
+use Rattle.promises.specs.Demand2.{Question, finishes, firstNo, text, questions, allYes, Equals}
 use Rattle.promises.proofs.Laws.Questions.{asked-in-turn}
-use Rattle.promises.specs.Demand1.{Position, ofTheWhole, ofTheSheet, ofTheWalk, whole, at-line, at-span}
-use Rattle.promises.specs.Demand1.{numberIn}
+use Rattle.promises.specs.Demand1.{Position, ofTheWhole, ofTheSheet, ofTheWalk, whole, at-line, at-span, numberIn}
 use Rattle.promises.proofs.Laws.Demand1.{analyze-refuses-or-succeeds, read-refuses-or-succeeds}
 use Rattle.promises.specs.Demand1 as one
-use Rattle.promises.specs.Demand2.{allYes, Equals}
 
 yes-text : (l : List Question) (t : List ℕ) → allYes l ≡ true → firstNo l t ≡ answered t
 unfolding firstNo

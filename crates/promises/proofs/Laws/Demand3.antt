@@ -20,6 +20,7 @@ use Rattle.order.specs.Turns.{placed, order, mark}
 use Rattle.order.specs.Inner.Shared.{PlainWalks}
 use Rattle.order.proofs.Laws.Shared.{plain-walks}
 use Rattle.sheet.specs.Sheet.{sheetIn, nameBound}
+use Rattle.base.proofs.Laws.ListLaws.{find-some}
 use Rattle.scope.specs.Scopes.{owns}
 use Rattle.definition.specs.States.{QuerySchedule}
 use Rattle.definition.specs.Inner.Queries.{definitionsIn}
@@ -27,15 +28,13 @@ use Rattle.definition.specs.RustWay.{scheduleIn}
 use Rattle.definition_once.specs.Inner.OnceWay.{analyzeQuerySnippetOnce, scheduleOnce, recordedOnce}
 use Rattle.definition_once.specs.Inner.Own.{ownDefinition}
 use Rattle.definition_once.proofs.Laws.OwnNames.{own-names}
-use Rattle.definition_once.proofs.Laws.Named.{found-in, scopes-below, recorded-named}
-use Rattle.answer.specs.Text.{placeRows, allRows}
-use Rattle.answer.specs.Text.{answerText}
+use Rattle.definition_once.proofs.Laws.Named.{scopes-below, recorded-named}
+use Rattle.answer.specs.Text.{placeRows, allRows, answerText}
 use Rattle.nokchbem.specs.Calls.{AnalyzeCall}
 use Rattle.promises.proofs.Laws.Demand2.{analyze-text, analyze-reads}
-use Rattle.promises.specs.Demand3.{orderIn}
+use Rattle.promises.specs.Demand3.{orderIn, Meaning, Demand3}
 use Rattle.promises.proofs.Laws.Listing.{own-listed, by-places, mark-one, mark-none}
 use Rattle.promises.proofs.Laws.ReadSheets.{read-names, read-schedules}
-use Rattle.promises.specs.Demand3.{Meaning, Demand3}
 
 -- ---- the theorem
 
@@ -59,7 +58,7 @@ module _ (v : Width) {s : List ℕ} {tables work room r : ℕ} {t w a : List ℕ
       let read = analyze-reads call zero in
       let names = read-names v s tables work (read .0) in
       let once : scheduleOnce (sheetIn s) q ≡ some b = sym (read-schedules v s tables work (read .0) (read .1) q) ∙ found in
-      let in-table = found-in (analyzeQuerySnippetOnce (sheetIn s) .schedules) q b once in
+      let in-table = find-some _ (analyzeQuerySnippetOnce (sheetIn s) .schedules) once .0 in
       let low = scopes-below nameBound refl (sheetIn s) names b in-table in
       let defs = b .definitions in
       let n = b .count in

@@ -30,7 +30,7 @@ alike-finished : (n room : ℕ) (r o : Run) → Alike r o → finished n room o 
 alike-finished n room r o (stopped e h) = ap (finished n room o) (sym e) ∙ stopped-alike n room o r (r .fault) h
 alike-finished n room r o (same s e) = ap (λ (x : Run). finished n room x (x .fault)) (sym e)
 
--- Of every sheet that is read: with more levels, the answer's text and the fault are the same, and so is what every query recorded.
+-- Of every sheet that is read: with more levels, the answer's text and the fault are the same.
 module _ (v : Width) (s : List ℕ) (tables work : ℕ) (read : verdict (limits v) s tables work ≡ Read) (more : ℕ) where
   pub levels-suffice : (room : ℕ) → analysedTo (nesting + more) (sheetIn s) room ≡ analysed (sheetIn s) room
   unfolding analysed analyzeQuerySnippet

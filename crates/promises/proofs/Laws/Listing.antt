@@ -10,13 +10,11 @@ use lib.ListN.{length, getD}
 use borrow.Author.Tests.{ltb-true}
 use Rattle.base.proofs.Laws.Truth.{not-both, or-cases}
 use Rattle.base.proofs.Laws.Members.{elem-mem, mem-filter}
-use Rattle.base.specs.Lists.{counted, range}
+use Rattle.base.specs.Lists.{counted, range, concatMap, isSome}
 use Rattle.base.proofs.Laws.Ranges.{elem-range}
 use Rattle.order.specs.Turns.{mark}
-use Rattle.base.specs.Lists.{concatMap, isSome}
 use Rattle.sheet.specs.Sheet.{nameBound}
-use Rattle.scope.specs.Scopes.{contains, elements}
-use Rattle.scope.specs.Scopes.{Span, spanIn, isLocal, owns}
+use Rattle.scope.specs.Scopes.{contains, elements, Span, spanIn, isLocal, owns}
 use Rattle.scope.specs.Inner.Below.{Below}
 use Rattle.definition.specs.States.{QuerySchedule}
 use Rattle.original.proofs.Laws.Members.{mem-left, mem-right, mem-concatMap}

@@ -10,24 +10,19 @@ use borrow.Author.Tests.{leb-true}
 use Rattle.base.proofs.Laws.Truth.{and-right}
 use Rattle.base.specs.Limits as limits
 use Rattle.base.specs.Limits.{library}
-use Rattle.base.specs.Lists.{all}
+use Rattle.base.specs.Lists.{all, range}
 use Rattle.base.proofs.Laws.Members.{all-mem}
-use Rattle.base.specs.Lists.{range}
 use Rattle.order.specs.Definitions as turns
 use Rattle.order.specs.Definitions.{Named}
 use Rattle.order.specs.Turns.{placed, mark}
 use Rattle.order.proofs.Laws.Shared.{plain-walks}
-use Rattle.order.specs.Call.{rowCount, definitions}
-use Rattle.order.specs.Call.{within, accepts}
-use Rattle.order.specs.Call.{scheduleNumber, outcome}
+use Rattle.order.specs.Call.{rowCount, definitions, within, accepts, scheduleNumber, outcome}
 use Rattle.order_records.specs.declared.Definition.{Definition}
-use Rattle.order_records.specs.Records.{definitionOf}
-use Rattle.order_records.specs.Records.{acceptsRecords}
+use Rattle.order_records.specs.Records.{definitionOf, acceptsRecords}
 use Rattle.nokchbem.specs.Calls.{ScheduleCall, RecordsCall}
-use Rattle.promises.specs.Scheduler.{Leaves}
+use Rattle.promises.specs.Scheduler.{Leaves, Refused, ListMeaning}
 use Rattle.promises.proofs.Laws.Agree.{flat-leaves, records-leave}
 use Rattle.promises.proofs.Laws.Listing.{mark-one, mark-none}
-use Rattle.promises.specs.Scheduler.{Refused, ListMeaning}
 
 -- ---- of any list
 

@@ -14,8 +14,7 @@ use Rattle.scope.specs.Trees.{Tree}
 use Rattle.scope.specs.Statements.{Stmt}
 use Rattle.scope.proofs.Laws.TreeRows.{rowsPass}
 use Rattle.scope.proofs.Laws.StatementRows.{stmtRows}
-use Rattle.scope.specs.Scopes.{NameSet, empty, contains, insert, remove}
-use Rattle.scope.specs.Scopes.{Span, Scope, noScope, isLocal, owns, addLocal, addUnscoped, addInput, useInput, removeAll, removeShadowed}
+use Rattle.scope.specs.Scopes.{NameSet, empty, contains, insert, remove, Span, Scope, noScope, isLocal, owns, addLocal, addUnscoped, addInput, useInput, removeAll, removeShadowed}
 use Rattle.scope.specs.Gather.{gatherLocalVars}
 use Rattle.scope.proofs.Laws.GatherLaws.{KeptByGathering, gather-kept}
 use Rattle.scope.specs.Inner.Below.{Below, nameBelow}

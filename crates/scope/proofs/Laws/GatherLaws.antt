@@ -16,10 +16,8 @@ use Rattle.scope.specs.Paths.{getExtraArg}
 use Rattle.scope.specs.Statements.{Literal, someVars, someIn, expr, notExpr, every, Stmt}
 use Rattle.scope.proofs.Laws.TreeRows.{rowsPass, chain-rows, traverse-rows, leaves-rows, first-rows, second-rows, vars-rows, extra-rows}
 use Rattle.scope.proofs.Laws.StatementRows.{literalRows, stmtRows}
-use Rattle.scope.specs.Scopes.{contains}
-use Rattle.scope.specs.Scopes.{Scope, noScope, addLocal, addUnscoped, addInput, useInput, removeShadowed, varExists}
-use Rattle.scope.specs.Gather.{assignVar, gatherAssignedVars, inputVar, gatherInputVars, loopVar, gatherLoopVars, gatherRead, gatherVars}
-use Rattle.scope.specs.Gather.{gatherExtraArg, gatherExpr, gatherLiteral, gatherStmt, gatherLocalVars}
+use Rattle.scope.specs.Scopes.{contains, Scope, noScope, addLocal, addUnscoped, addInput, useInput, removeShadowed, varExists}
+use Rattle.scope.specs.Gather.{assignVar, gatherAssignedVars, inputVar, gatherInputVars, loopVar, gatherLoopVars, gatherRead, gatherVars, gatherExtraArg, gatherExpr, gatherLiteral, gatherStmt, gatherLocalVars}
 
 -- Each addition keeps P: of variables that pass the test q, and, of inputs, that exist in the parents.
 pub record KeptByGathering (parents : List Scope) (q : Row → Bool) (P : Scope → Type 0) : Type 0 where

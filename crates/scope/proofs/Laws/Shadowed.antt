@@ -1,13 +1,12 @@
 -- Laws of `Shadowed`.
 use mathlib.Core.Path.{_≡_, refl, sym}
 use mathlib.Core.Bool.{true, false}
-use mathlib.Core.List.{List, [], _∷_}
-use mathlib.Core.Logic.{_⊎_, inl, inr, ⊎-elim}
+use mathlib.Core.List.{List}
+use mathlib.Core.Logic.{⊎-elim}
 use Prim.Native.Nat.{ℕ}
 use lib.Dec.{eqb}
-use borrow.Author.Tests.{eqb-true, eq-eqb}
+use borrow.Author.Tests.{eqb-true}
 use Rattle.base.proofs.Laws.Truth.{bool-cases, not-both, or-cases}
-use Rattle.base.specs.Lists.{isSome}
 use Rattle.base.proofs.Laws.ListLaws.{all-always}
 use Rattle.sheet.specs.declared.Row.{Row}
 use Rattle.sheet.specs.Sheet.{Sheet}
@@ -15,8 +14,7 @@ use Rattle.scope.specs.Trees.{Tree}
 use Rattle.scope.specs.Statements.{Stmt}
 use Rattle.scope.proofs.Laws.TreeRows.{rowsPass, any-rows}
 use Rattle.scope.proofs.Laws.StatementRows.{stmtRows, any-stmt}
-use Rattle.scope.specs.Scopes.{NameSet, empty, contains, insert, remove}
-use Rattle.scope.specs.Scopes.{Span, spanIn, Scope, noScope, isLocal, addLocal, addUnscoped, addInput, useInput, removeAll, removeShadowed, varExists}
+use Rattle.scope.specs.Scopes.{NameSet, empty, contains, insert, Span, Scope, noScope, addLocal, addUnscoped, addInput, useInput, removeAll, removeShadowed, varExists}
 use Rattle.scope.specs.Gather.{gatherLocalVars}
 use Rattle.scope.proofs.Laws.GatherLaws.{KeptByGathering, gather-kept}
 use Rattle.scope.proofs.Laws.Below.{removed-from}
@@ -28,33 +26,6 @@ not-again : (spans : List Span) (u : NameSet) (x : ℕ) → contains u x ≡ fal
 not-again spans u x h =
     ⊎-elim (λ (p : contains (removeAll u spans) x ≡ true). absurd (not-both (removed-from spans u x p) h)) (λ p. p)
     (bool-cases (contains (removeAll u spans) x))
-
--- Names of spans are gone.
-removed : (spans : List Span) (u : NameSet) (x : ℕ) → isSome (spanIn spans x) ≡ true → contains (removeAll u spans) x ≡ false
-unfolding removeAll contains remove
-removed [] u x h = absurd (not-both h refl)
-removed (p ∷ spans) u x h = go (bool-cases (eqb (p .name) x)) (λ g. removed spans (remove u (p .name)) x g)
-  where
-    go : (eqb (p .name) x ≡ true) ⊎ (eqb (p .name) x ≡ false)
-        → (isSome (spanIn spans x) ≡ true → contains (removeAll (remove u (p .name)) spans) x ≡ false)
-        → contains (removeAll (remove u (p .name)) spans) x ≡ false
-    go (inl e) ih =
-        let q : eqb x (p .name) ≡ true = eq-eqb x (p .name) (sym (eqb-true (p .name) x e)) in
-        not-again spans (remove u (p .name)) x (rw q)
-    go (inr e) ih = ih (rw e at h)
-
--- The last step of the gathering, and so all of it, leaves no local among the inputs or the unscoped names.
-shadowed-out : (s : Scope) (x : ℕ) → isLocal (removeShadowed s) x ≡ true
-    → (contains (removeShadowed s .inputs) x ≡ false) × (contains (removeShadowed s .unscoped) x ≡ false)
-unfolding removeShadowed
-shadowed-out s x h = (removed (s .locals) (s .inputs) x h, removed (s .locals) (s .unscoped) x h)
-
-pub locals-apart : (sheet : Sheet) (parents : List Scope) (stmts : List Stmt) (outputs : List Tree) (x : ℕ)
-    → isLocal (gatherLocalVars sheet parents stmts outputs) x ≡ true
-    → (contains (gatherLocalVars sheet parents stmts outputs .inputs) x ≡ false)
-    × (contains (gatherLocalVars sheet parents stmts outputs .unscoped) x ≡ false)
-unfolding gatherLocalVars
-locals-apart sheet parents stmts outputs x h = shadowed-out _ x h
 
 input-found : (parents : List Scope) (s : Scope) (w : Row) → varExists parents w ≡ true → InputsFound parents s → InputsFound parents (addInput s (w .name))
 unfolding addInput contains insert

@@ -7,11 +7,11 @@ use Prim.Native.Nat.{ℕ, zero, suc, _+_}
 use lib.Dec.{eqb}
 use lib.ListN.{length, getD}
 use Rattle.base.proofs.Laws.Truth.{and-intro, and-left, and-right}
-use Rattle.base.specs.Lists.{all}
+use Rattle.base.specs.Lists.{all, last}
+use Rattle.base.proofs.Laws.Members.{all-getD}
 use Rattle.sheet.specs.declared.Builtin.{Builtin}
-use Rattle.base.specs.Lists.{last}
 use Rattle.base.proofs.Laws.Mapping.{toList}
-use Rattle.base.proofs.Laws.ListLaws.{all-append, all-last, all-getD, all-concatMap}
+use Rattle.base.proofs.Laws.ListLaws.{all-append, all-last, all-concatMap}
 use Rattle.sheet.specs.declared.Row.{Row}
 use Rattle.sheet.specs.Sheet.{Sheet, noRow}
 use Rattle.sheet.specs.Kinds.{isVar, isPattern, isCompr, isCall}
@@ -154,7 +154,7 @@ module _ (q : Row → Bool) where
   decode-rows rows h d (suc n) (suc r) =
       let w = getD rows r noRow in
       whole w (decode n rows (w .first)) (decode n rows (w .second)) (decode n rows (thirdOf w)) (decode n rows (w .next)) (record {
-        row = all-getD q rows r noRow h d;
+        row = all-getD q rows noRow h d r;
         first = decode-rows rows h d n (w .first);
         second = decode-rows rows h d n (w .second);
         third = decode-rows rows h d n (thirdOf w);

@@ -4,8 +4,7 @@ use mathlib.Core.Bool.{Bool, true}
 use Prim.Native.Nat.{ℕ}
 use lib.Dec.{ltb}
 use Rattle.sheet.specs.declared.Row.{Row}
-use Rattle.scope.specs.Scopes.{contains}
-use Rattle.scope.specs.Scopes.{Scope, owns}
+use Rattle.scope.specs.Scopes.{contains, Scope, owns}
 
 -- A row whose name is below n.
 abbrev pub nameBelow : ℕ → Row → Bool

@@ -4,8 +4,7 @@ use mathlib.Core.Bool.{true}
 use mathlib.Core.List.{List}
 use Prim.Native.Nat.{ℕ}
 use Rattle.sheet.specs.declared.Row.{Row}
-use Rattle.scope.specs.Scopes.{contains}
-use Rattle.scope.specs.Scopes.{Scope, varExists}
+use Rattle.scope.specs.Scopes.{contains, Scope, varExists}
 
 -- ---- inputs
 

@@ -1,31 +1,30 @@
 -- Laws of `Queries`.
-use mathlib.Core.Path.{_≡_, refl, sym, ap, _∙_, subst}
-use mathlib.Core.Bool.{Bool, true, false, _&&_, _||_}
+use mathlib.Core.Path.{_≡_, refl, sym, subst}
+use mathlib.Core.Bool.{Bool, true, false, _&&_}
 use mathlib.Core.List.{List, [], _∷_, foldl, foldl-append}
-use mathlib.Core.Logic.{_⊎_, inl, inr, ⊎-elim}
-use Prim.Native.Nat.{ℕ, zero, suc, _+_, _≤_, _<_}
+use mathlib.Core.Logic.{⊎-elim}
+use Prim.Native.Nat.{ℕ, zero, suc, _≤_, _<_}
 use native.Mathlib.Omega.{arith}
 use lib.Dec.{eqb}
-use lib.ListN.{length, getD}
+use lib.ListN.{getD}
 use borrow.Author.Tests.{eqb-true}
 use Rattle.base.proofs.Laws.Truth.{and-left, and-right, or-cases}
 use Rattle.base.specs.Lists.{all}
+use Rattle.base.proofs.Laws.Members.{all-getD}
 use Rattle.sheet.specs.declared.Statement.{Statement}
 use Rattle.sheet.specs.Inner.Records.{statementRowAt, firstAt}
 use Rattle.sheet.specs.declared.Field.{Field}
 use Rattle.sheet.specs.Fields.{exprSection, limitOf, FormFields, noForm, forms, formOf}
-use Rattle.sheet.proofs.Laws.Tables.{getD-passes}
 use Rattle.sheet.specs.Inner.Sheet.{sheetOf}
-use Rattle.sheet.specs.Sheet.{noStatement}
 use Rattle.scope.specs.Trees.{treeAt, chain}
-use Rattle.scope.specs.Statements.{Stmt, literalOf, stmtsFrom, stmtsOf}
+use Rattle.scope.specs.Statements.{Stmt, literalOf, stmtsOf}
+use Rattle.scope.proofs.Laws.StatementWalks as walks
 use Rattle.scope.specs.Scopes.{noScope}
-use Rattle.scope.specs.Gather.{gatherVars}
-use Rattle.scope.specs.Gather.{gatherStmt, gatherLocalVars}
-use Rattle.scope_walk.proofs.Laws.RowTrees.{rows-length, rows-at}
+use Rattle.scope.specs.Gather.{gatherVars, gatherStmt, gatherLocalVars}
+use Rattle.scope_walk.proofs.Laws.RowTrees.{rows-at, partField, statement-is, statements-length, statements-onwards}
 use Rattle.scope_walk.proofs.Laws.Onwards.{left-falls, onward-low}
 use Rattle.scope_state.specs.declared.Scope.{Scope}
-use Rattle.scope_walk.specs.Inner.Sheets.{countsAt, sheetAt, Accepted, exprCount, queryCount, statementCount}
+use Rattle.scope_walk.specs.Inner.Sheets.{countsAt, sheetAt, Accepted, specialAt, exprCount, queryCount, statementCount}
 use Rattle.scope_state.specs.Inner.Agrees.{NoNames, WithoutLocals}
 use Rattle.scope_state.specs.Inner.Spans.{Agrees}
 use Rattle.scope_state.proofs.Laws.Spans.{agrees-none, agrees-without}
@@ -35,27 +34,24 @@ use Rattle.scope_gather.specs.Inner.Queries.{stmtsAtRow, stmtsLeft, Stmt
 
 -- ---- what the table of forms says: the first three fields are expressions
 
-exprField : Field → Bool
-exprField f = eqb (f .section) 0 || eqb (f .section) exprSection
-
 exprFields : FormFields → Bool
-exprFields fs = exprField (fs .first) && (exprField (fs .second) && exprField (fs .third))
+exprFields fs = partField (fs .first) && (partField (fs .second) && partField (fs .third))
 
 forms-have : all exprFields forms ≡ true
-unfolding exprFields exprField forms
+unfolding exprFields partField forms
 forms-have = refl
 
 none-have : exprFields noForm ≡ true
-unfolding exprFields exprField
+unfolding exprFields partField
 none-have = refl
 
 form-has : (form : ℕ) → exprFields (formOf form) ≡ true
 unfolding formOf
-form-has form = getD-passes exprFields forms noForm forms-have none-have form
+form-has form = all-getD exprFields forms noForm forms-have none-have form
 
 module _ (t : List ℕ) where
-  expr-low : (f : Field) (v : ℕ) → exprField f ≡ true → v ≤ limitOf (countsAt t) (f .section) → v ≤ exprCount t
-  unfolding exprField
+  expr-low : (f : Field) (v : ℕ) → partField f ≡ true → v ≤ limitOf (countsAt t) (f .section) → v ≤ exprCount t
+  unfolding partField
   expr-low f v p h = ⊎-elim none-low some-low (or-cases (eqb (f .section) 0) (eqb (f .section) exprSection) p)
     where
       none-low : eqb (f .section) 0 ≡ true → v ≤ exprCount t
@@ -75,56 +71,26 @@ module _ (t : List ℕ) where
         let k = ok .facts .statement row (omega arith) high in
         let fs = formOf (statementRowAt t row .form) in
         let p = form-has (statementRowAt t row .form) in
-        let q = and-right (exprField (fs .first)) _ p in
+        let q = and-right (partField (fs .first)) _ p in
         record {
-          first = expr-low (fs .first) _ (and-left (exprField (fs .first)) _ p) (k .in-first .in-range);
-          second = expr-low (fs .second) _ (and-left (exprField (fs .second)) _ q) (k .in-second .in-range);
-          third = expr-low (fs .third) _ (and-right (exprField (fs .second)) _ q) (k .in-third .in-range);
+          first = expr-low (fs .first) _ (and-left (partField (fs .first)) _ p) (k .in-first .in-range);
+          second = expr-low (fs .second) _ (and-left (partField (fs .second)) _ q) (k .in-second .in-range);
+          third = expr-low (fs .third) _ (and-right (partField (fs .second)) _ q) (k .in-third .in-range);
           with = k .in-with;
         }
 
     -- ---- the chain of statements
 
-    count-is : length (sheetAt t .statements) ≡ statementCount t
-    unfolding sheetAt sheetOf
-    count-is = rows-length (statementRowAt t) (statementCount t)
-
-    statement-is : (i : ℕ) → i < statementCount t → getD (sheetAt t .statements) i noStatement ≡ statementRowAt t (suc i)
-    unfolding sheetAt sheetOf
-    statement-is i h = rows-at (statementRowAt t) (statementCount t) i noStatement h
-
-    -- Is the number d enough from a row on?
-    abbrev Enough : ℕ → ℕ → Type 0
-    Enough d row = (row ≡ 0) ⊎ ((row ≤ statementCount t) × (statementCount t < d + row))
-
-    falls : (d row v : ℕ) → statementCount t < suc d + row → (v ≡ 0) ⊎ ((row < v) × (v ≤ statementCount t)) → Enough d v
-    falls d row v h (inl z) = inl z
-    falls d row v h (inr a) = inr (a .1, omega (arith, a .0))
-
-    stable : (d row : ℕ) → Enough d row → stmtsFrom (sheetAt t) (suc d) row ≡ stmtsFrom (sheetAt t) d row
-    unfolding stmtsFrom
-    stable zero zero e = refl
-    stable (suc d) zero e = refl
-    stable zero (suc i) (inl z) = absurd (omega arith)
-    stable zero (suc i) (inr h) = absurd (omega (arith, h .0, h .1))
-    stable (suc d) (suc i) (inl z) = absurd (omega arith)
-    stable (suc d) (suc i) (inr h) =
-        let on = ok .facts .statement (suc i) (omega arith) (h .0) .next in
-        rw (statement-is i (omega (arith, h .0))) (ap (λ (l : List Stmt). stmtAtRow (suc i) ∷ l) (stable d _ (falls d (suc i) _ (h .1) on)))
-
-    none-from : (d : ℕ) → stmtsFrom (sheetAt t) d 0 ≡ []
-    unfolding stmtsFrom
-    none-from zero = refl
-    none-from (suc d) = refl
-
     pub stmts-at-none : stmtsAtRow t 0 ≡ []
-    stmts-at-none = none-from (length (sheetAt t .statements))
+    unfolding walks.stmtsAt
+    stmts-at-none = walks.stmts-none (sheetAt t)
 
     pub stmts-at-row : (row : ℕ) → (row ≡ 0 → ⊥) → row ≤ statementCount t → stmtsAtRow t row ≡ stmtAtRow row ∷ (stmtsAtRow t) (statementRowAt t row .next)
-    unfolding stmtsFrom
-    stmts-at-row zero there high = absurd (there refl)
-    stmts-at-row (suc i) there high =
-        sym (stable (length (sheetAt t .statements)) (suc i) (inr (high, omega (arith, count-is)))) ∙ rw (statement-is i (omega arith))
+    unfolding sheetAt walks.stmtsAt walks.stmtAt
+    stmts-at-row row there high =
+        rw (statement-is (countsAt t) (specialAt t) t row (omega arith) high) at
+        (walks.stmts-row (sheetAt t) (statements-onwards (countsAt t) (specialAt t) t (ok .facts)) row there
+        (omega (arith, high, statements-length (countsAt t) (specialAt t) t)))
 
     -- The call on the next statement.
     pub next-stmt : (row m : ℕ) → (row ≡ 0 → ⊥) → row ≤ statementCount t → stmtsLeft t row ≡ m → (st : Statement) → st ≡ statementRowAt t row

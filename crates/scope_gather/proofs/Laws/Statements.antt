@@ -15,8 +15,7 @@ use Rattle.scope.specs.Traverse.{traverse, leaves}
 use Rattle.scope.specs.Paths.{getExtraArg}
 use Rattle.scope.specs.Statements.{literalOf}
 use Rattle.scope.specs.Scopes as spec
-use Rattle.scope.specs.Gather.{gatherAssignedVars, gatherInputVars, gatherLoopVars, gatherRead, gatherVars}
-use Rattle.scope.specs.Gather.{gatherExtraArg, gatherExpr, gatherLiteral, gatherStmt}
+use Rattle.scope.specs.Gather.{gatherAssignedVars, gatherInputVars, gatherLoopVars, gatherRead, gatherVars, gatherExtraArg, gatherExpr, gatherLiteral, gatherStmt}
 use Rattle.scope_state.specs.declared.Scope.{Scope}
 use Rattle.scope_walk.specs.Inner.Sheets.{sheetAt, Accepted, exprCount}
 use Rattle.scope_state.specs.Inner.Spans.{Agrees}

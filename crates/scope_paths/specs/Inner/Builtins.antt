@@ -4,10 +4,9 @@ use mathlib.Core.List.{List, map}
 use mathlib.Core.Option.{Option, none, some}
 use Prim.Native.Nat.{ℕ, _+_}
 use lib.Dec.{ltb}
-use Rattle.base.specs.Lists.{range}
+use Rattle.base.specs.Lists.{range, find}
 use Rattle.sheet.specs.declared.Builtin.{Builtin}
 use Rattle.sheet.specs.Inner.Records.{builtinAt}
-use Rattle.base.specs.Lists.{find}
 use Rattle.scope.specs.Paths.{pathOf}
 use Rattle.scope_paths.specs.declared.paths.Path.{Path}
 use Rattle.scope_walk.specs.Inner.Sheets.{builtinCount}

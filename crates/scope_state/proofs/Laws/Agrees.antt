@@ -6,21 +6,16 @@ use mathlib.Core.Logic.{_⊎_, inl, inr}
 use mathlib.Core.Option.{some}
 use Prim.Native.Nat.{ℕ}
 use lib.Dec.{eqb}
-use borrow.Author.Tests.{eqb-true, eq-eqb}
 use Rattle.names.specs.Inner.Sets.{Empty, Inserted, Union, Difference}
-use Rattle.base.proofs.Laws.Truth.{bool-cases, bool-ext}
+use Rattle.base.proofs.Laws.Truth.{bool-cases, eqb-sym}
 use Rattle.base.specs.Lists.{isSome}
 use Rattle.sheet.specs.declared.Row.{Row}
-use Rattle.scope.specs.Scopes.{NameSet, contains, insert, remove, empty}
+use Rattle.scope.specs.Scopes.{NameSet, contains, insert, remove, empty, addLocal, addUnscoped, addInput, useInput, removeAll, removeShadowed, isLocal}
 use Rattle.scope.specs.Scopes as spec
-use Rattle.scope.specs.Scopes.{addLocal, addUnscoped, addInput, useInput, removeAll, removeShadowed, isLocal}
 use Rattle.scope_state.specs.declared.Scope.{Scope}
-use Rattle.scope_state.specs.Inner.Agrees.{WithLocal, WithUnscoped, WithInput, WithFlag, WithoutLocals, Opened, Sets, withInputsOf, NoNames}
+use Rattle.scope_state.specs.Inner.Agrees.{WithLocal, WithUnscoped, WithInput, WithFlag, WithoutLocals, Opened, NoNames}
 
 -- ---- what holds of the definitions' additions
-
-eqb-sym : (a b : ℕ) → eqb a b ≡ eqb b a
-eqb-sym a b = bool-ext _ _ (λ p. eq-eqb b a (sym (eqb-true a b p))) (λ p. eq-eqb a b (sym (eqb-true b a p)))
 
 local-has : (s : spec.Scope) (w : Row) (x : ℕ) → isLocal (addLocal s w) x ≡ (eqb x (w .name) || isLocal s x)
 unfolding addLocal
@@ -131,10 +126,6 @@ module _ (k : Scope) where
         inputs = λ y. ap (λ (names : NameSet). contains names y) (rest .inputs) ∙ a .inputs y;
         flag = rest .flag ∙ a .flag;
       }
-
-  pub with-inputs-of : (j : Scope) (s u : spec.Scope) → Sets k s → Sets j u
-      → Sets (withInputsOf k j) (record { locals = s .locals; unscoped = s .unscoped; inputs = u .inputs; usesInput = u .usesInput })
-  with-inputs-of j s u a b = record { locals = a .locals; unscoped = a .unscoped; inputs = b .inputs; flag = b .flag }
 
 pub no-names : (l : List ℕ) → Empty l
     → NoNames (record { locals = record { words = l }; unscoped = record { words = l }; inputs = record { words = l }; uses = false })

@@ -15,9 +15,8 @@ use Rattle.base.proofs.Laws.Truth.{lt-cases, eq-cases}
 use Rattle.base.specs.Sets.{member}
 use Rattle.sheet.specs.declared.Row.{Row}
 use Rattle.base.specs.Lists.{isSome}
-use Rattle.scope.specs.Scopes.{contains}
+use Rattle.scope.specs.Scopes.{contains, Span, spanIn, notBelow, varExists}
 use Rattle.scope.specs.Scopes as spec
-use Rattle.scope.specs.Scopes.{Span, spanIn, notBelow, varExists}
 use Rattle.scope_state.specs.declared.Scope.{Scope}
 use Rattle.scope_state.specs.Inner.Agrees.{Sets}
 use Rattle.scope_state.specs.Inner.Outers.{Outer}

@@ -6,9 +6,8 @@ use Prim.Native.Nat.{ℕ}
 use Rattle.base.specs.Sets.{member}
 use Rattle.names.specs.declared.Names.{Names}
 use Rattle.sheet.specs.declared.Row.{Row}
-use Rattle.scope.specs.Scopes.{contains}
+use Rattle.scope.specs.Scopes.{contains, noScope, addLocal, addUnscoped, addInput, useInput, removeShadowed, isLocal}
 use Rattle.scope.specs.Scopes as spec
-use Rattle.scope.specs.Scopes.{noScope, addLocal, addUnscoped, addInput, useInput, removeShadowed, isLocal}
 use Rattle.scope_state.specs.declared.Scope.{Scope}
 
 -- The scope k has the sets of the scope s: its locals as names, without their spans.

@@ -1,32 +1,27 @@
 -- Laws of `Assigned`.
-use mathlib.Core.Path.{_≡_, sym, ap, _∙_, subst}
+use mathlib.Core.Path.{_≡_, sym, subst, refl}
 use mathlib.Core.Bool.{Bool, true, false, cond}
-use mathlib.Core.List.{List}
-use mathlib.Core.Logic.{_⊎_, inl, inr}
+use mathlib.Core.List.{List, foldl}
 use Prim.Native.Nat.{ℕ, _≤_, _<_}
-use native.Mathlib.Omega.{arith}
 use lib.ListN.{length, set}
-use lib.Dec.{eqb}
-use borrow.Author.Tests.{eqb-true, eq-eqb, ne-eqb}
-use Rattle.base.proofs.Laws.Truth.{bool-cases, or-cases}
+use borrow.Author.Tests.{eq-eqb, ne-eqb}
 use Rattle.sheet.specs.declared.Row.{Row}
 use Rattle.sheet.specs.Inner.Sheet.{rowAt}
 use Rattle.sheet.specs.Sheet.{isInput, isSpecial}
 use Rattle.sheet.specs.Kinds.{isVar, isPattern}
-use Rattle.scope.specs.Trees.{Tree, rowOf, treeAt}
+use Rattle.scope.specs.Trees.{Tree, rowOf}
 use Rattle.scope.specs.Traverse.{leaves}
 use Rattle.scope.specs.Scopes as spec
 use Rattle.scope.specs.Gather.{assignVar, gatherAssignedVars}
-use Rattle.scope_walk.specs.Inner.Walks.{alone}
-use Rattle.scope_walk.proofs.Laws.Walks.{leavesBy, leavesBy-none, leavesBy-row}
 use Rattle.scope_state.specs.declared.Scope.{Scope}
-use Rattle.scope_walk.specs.Inner.Sheets.{countsAt, specialAt, sheetAt, Accepted, exprCount}
+use Rattle.scope_walk.specs.Inner.Sheets.{sheetAt, Accepted, exprCount}
 use Rattle.scope_state.specs.Inner.Agrees.{WithLocal, WithUnscoped, WithInput, WithFlag}
 use Rattle.scope_state.specs.Inner.Spans.{spanWord, Agrees}
 use Rattle.scope_state.proofs.Laws.Spans.{Short, agrees-local, agrees-unscoped, agrees-input, agrees-flag}
 use Rattle.scope_state.specs.Inner.Outers.{Exists}
 use Rattle.scope_walk.specs.Inner.Exprs.{exprBy}
 use Rattle.scope_vars.proofs.Laws.Inputs.{fold-vars}
+use Rattle.scope_walk.proofs.Laws.Walking.{LeavesWalk, walked-none, walked-turn}
 use Rattle.scope_vars.specs.Inner.Assigned.{AssignVar, AssignStep, AssignWalk}
 
 module _ (t outer : List ℕ) where
@@ -64,66 +59,48 @@ module _ (t outer : List ℕ) where
 
   -- ---- the walk, a row at a time
 
-  -- A pattern is no variable: the step at it does nothing.
-  no-var : (w : Row) → isPattern w ≡ true → isVar w ≡ false
-  no-var w p = go (or-cases (eqb (w .kind) 7) (eqb (w .kind) 9) p)
-    where
-      go : (eqb (w .kind) 7 ≡ true) ⊎ (eqb (w .kind) 9 ≡ true) → eqb (w .kind) 6 ≡ false
-      go (inl e) = let k = eqb-true (w .kind) 7 e in ne-eqb (w .kind) 6 (λ z. omega arith)
-      go (inr e) = let k = eqb-true (w .kind) 9 e in ne-eqb (w .kind) 6 (λ z. omega arith)
+  -- A scope and the words of its locals stand for the definitions' scope, before and after.
+  abbrev Does : (spec.Scope → spec.Scope) → Scope × List ℕ → Scope × List ℕ → Type 0
+  Does f k r = (s : spec.Scope) → Agrees (k .0) (k .1) s → Agrees (r .0) (r .1) (f s)
 
-  module _ (ok : Accepted t) (shadow : Bool) (parents : List spec.Scope) where
-    abbrev step : spec.Scope → Tree → spec.Scope
-    step s e = cond (isVar (rowOf e)) (assignVar (sheetAt t) parents shadow s (rowOf e)) s
+  does-as : (f g : spec.Scope → spec.Scope) (k r : Scope × List ℕ) → ((s : spec.Scope) → f s ≡ g s) → Does f k r → Does g k r
+  does-as f g k r same h s a = subst (Agrees (r .0) (r .1)) (same s) (h s a)
 
-    abbrev overRow : Bool → spec.Scope → ℕ → spec.Scope
-    overRow rest s row = leavesBy (countsAt t) (specialAt t) t step rest s row
+  does-none : (k : Scope × List ℕ) → Does (λ s. s) k k
+  does-none k s a = a
 
-    as-walk : (rest : Bool) (s : spec.Scope) (row : ℕ) → gatherAssignedVars (sheetAt t) parents shadow (exprBy t rest row) s ≡ overRow rest s row
-    unfolding gatherAssignedVars sheetAt
-    as-walk true s row = fold-vars (assignVar (sheetAt t) parents shadow) s (leaves (treeAt (sheetAt t) row))
-    as-walk false s row = fold-vars (assignVar (sheetAt t) parents shadow) s (leaves (alone (treeAt (sheetAt t) row)))
+  does-then : (f g : spec.Scope → spec.Scope) (k m r : Scope × List ℕ) → Does f k m → Does g m r → Does (λ s. g (f s)) k r
+  does-then f g k m r h i s a = i (f s) (h s a)
 
-    -- The row, what it is made of, the rest of its chain.
-    over-row : (rest : Bool) (s : spec.Scope) (row : ℕ) → 1 ≤ row → row ≤ exprCount t
-        → let w = rowAt t row in
-        overRow rest s row
-        ≡ overRow true (overRow true (cond (isVar w) (assignVar (sheetAt t) parents shadow s w) s) (cond (isPattern w) (w .first) 0)) (cond rest (w .next) 0)
-    over-row rest s row low high =
-        leavesBy-row (countsAt t) (specialAt t) t (ok .facts) step rest s row low high
-        ∙ ap (λ (u : spec.Scope). overRow true u (cond rest (rowAt t row .next) 0)) (go (bool-cases (isPattern (rowAt t row))))
-      where
-        here : spec.Scope
-        here = cond (isVar (rowAt t row)) (assignVar (sheetAt t) parents shadow s (rowAt t row)) s
+  module _ (shadow : Bool) (parents : List spec.Scope) where
+    abbrev step : spec.Scope → Row → spec.Scope
+    step s w = cond (isVar w) (assignVar (sheetAt t) parents shadow s w) s
 
-        go : (isPattern (rowAt t row) ≡ true) ⊎ (isPattern (rowAt t row) ≡ false)
-            → cond (isPattern (rowAt t row)) (overRow true s (rowAt t row .first)) here ≡ overRow true here (cond (isPattern (rowAt t row)) (rowAt t row .first) 0)
-        go (inl p) = rw (p, no-var (rowAt t row) p)
-        go (inr p) = rw p (sym (leavesBy-none (countsAt t) (specialAt t) t (ok .facts) step true _))
+    others : (s : spec.Scope) (w : Row) → isVar w ≡ false → step s w ≡ s
+    others s w e = rw e
+
+    abbrev Walks : ℕ → Bool → Scope × List ℕ → Scope × List ℕ → Type 0
+    Walks = LeavesWalk t Does does-as does-none does-then step others
+
+    as-walk : (rest : Bool) (row : ℕ) (s : spec.Scope)
+        → gatherAssignedVars (sheetAt t) parents shadow (exprBy t rest row) s ≡ foldl (λ (u : spec.Scope) (e : Tree). step u (rowOf e)) s (leaves (exprBy t rest row))
+    unfolding gatherAssignedVars
+    as-walk rest row s = fold-vars (assignVar (sheetAt t) parents shadow) s (leaves (exprBy t rest row))
 
   pub assign-walk-none : Accepted t → (rest shadow : Bool) (k : Scope) (l : List ℕ) → AssignWalk t outer 0 rest shadow k l k l
-  assign-walk-none ok rest shadow k l parents o s a =
-      subst (Agrees k l)
-      (sym (as-walk ok shadow parents rest s 0 ∙ leavesBy-none (countsAt t) (specialAt t) t (ok .facts) (step ok shadow parents) rest s)) a
+  assign-walk-none ok rest shadow k l parents o =
+      does-as _ _ (k, l) (k, l) (λ s. sym (as-walk shadow parents rest 0 s))
+      (walked-none t Does does-as does-none does-then (step shadow parents) (others shadow parents) ok 0 refl rest (k, l))
 
-  walk-row : Accepted t → (row : ℕ) → 1 ≤ row → row ≤ exprCount t → (rest shadow : Bool) (k s₀ s₁ s₂ : Scope) (l l₀ l₁ l₂ : List ℕ)
-      → let w = rowAt t row in
-      (AssignStep t outer) w shadow k l s₀ l₀ → AssignWalk t outer (cond (isPattern w) (w .first) 0) true shadow s₀ l₀ s₁ l₁
-      → AssignWalk t outer (cond rest (w .next) 0) true shadow s₁ l₁ s₂ l₂ → AssignWalk t outer row rest shadow k l s₂ l₂
-  walk-row ok row low high rest shadow k s₀ s₁ s₂ l l₀ l₁ l₂ h₀ h₁ h₂ parents o s a =
-      let a₀ = h₀ parents o s a in
-      let a₁ = subst (Agrees s₁ l₁) (as-walk ok shadow parents true _ _) (h₁ parents o _ a₀) in
-      let a₂ = subst (Agrees s₂ l₂) (as-walk ok shadow parents true _ _) (h₂ parents o _ a₁) in
-      subst (Agrees s₂ l₂) (sym (as-walk ok shadow parents rest s row ∙ over-row ok shadow parents rest s row low high)) a₂
-
-  -- The same of the row that was read, as the code has it.
+  -- A row's turn: the row that was read, what is inside, the rest of its chain, as the code has them.
   pub assign-walk-turn : Accepted t → (row : ℕ) → (row ≡ 0 → ⊥) → row ≤ exprCount t → (rest shadow : Bool) (w : Row) → w ≡ rowAt t row
       → (items : ℕ) → items ≡ cond (isPattern w) (w .first) 0 → (next : ℕ) → next ≡ cond rest (w .next) 0
       → (k s₀ s₁ s₂ : Scope) (l l₀ l₁ l₂ : List ℕ)
       → AssignStep t outer w shadow k l s₀ l₀ → AssignWalk t outer items true shadow s₀ l₀ s₁ l₁ → AssignWalk t outer next true shadow s₁ l₁ s₂ l₂
       → AssignWalk t outer row rest shadow k l s₂ l₂
-  assign-walk-turn ok row some high rest shadow w is items ps next ns k s₀ s₁ s₂ l l₀ l₁ l₂ h₀ h₁ h₂ =
-      let parts : items ≡ cond (isPattern (rowAt t row)) (rowAt t row .first) 0 = ps ∙ ap (λ (v : Row). cond (isPattern v) (v .first) 0) is in
-      let after : next ≡ cond rest (rowAt t row .next) 0 = ns ∙ ap (λ (v : Row). cond rest (v .next) 0) is in
-      walk-row ok row (omega arith) high rest shadow k s₀ s₁ s₂ l l₀ l₁ l₂ (subst (λ (v : Row). AssignStep t outer v shadow k l s₀ l₀) is h₀)
-      (subst (λ (n : ℕ). AssignWalk t outer n true shadow s₀ l₀ s₁ l₁) parts h₁) (subst (λ (n : ℕ). AssignWalk t outer n true shadow s₁ l₁ s₂ l₂) after h₂)
+  assign-walk-turn ok row some high rest shadow w is items ps next ns k s₀ s₁ s₂ l l₀ l₁ l₂ h₀ h₁ h₂ parents o =
+      let part : (v : ℕ) (x y : Scope × List ℕ) → AssignWalk t outer v true shadow (x .0) (x .1) (y .0) (y .1) → Walks shadow parents v true x y =
+      λ v x y h. does-as _ _ x y (λ s. as-walk shadow parents true v s) (h parents o) in
+      does-as _ _ (k, l) (s₂, l₂) (λ s. sym (as-walk shadow parents rest row s))
+      (walked-turn t Does does-as does-none does-then (step shadow parents) (others shadow parents) ok row some high rest w is items ps next ns
+      (k, l) (s₀, l₀) (s₁, l₁) (s₂, l₂) (h₀ parents o) (part items (s₀, l₀) (s₁, l₁) h₁) (part next (s₁, l₁) (s₂, l₂) h₂))

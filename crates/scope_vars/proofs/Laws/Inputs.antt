@@ -1,9 +1,8 @@
 -- Laws of `Inputs`.
-use mathlib.Core.Path.{_≡_, refl, sym, ap, _∙_, subst}
+use mathlib.Core.Path.{_≡_, refl, sym, subst}
 use mathlib.Core.Bool.{Bool, true, false, cond}
 use mathlib.Core.List.{List, [], _∷_, _++_, foldl}
 use Prim.Native.Nat.{ℕ, _≤_}
-use native.Mathlib.Omega.{arith}
 use borrow.Author.Tests.{eq-eqb, ne-eqb}
 use Rattle.base.specs.Sets.{member}
 use Rattle.sheet.specs.declared.Row.{Row}
@@ -17,12 +16,13 @@ use Rattle.scope.specs.Gather.{inputVar, gatherInputVars}
 use Rattle.scope_walk.specs.declared.Kids.{Kids}
 use Rattle.scope_walk.specs.Inner.Kids.{kidsOf}
 use Rattle.scope_walk.specs.Inner.Walks.{alone, overBy}
-use Rattle.scope_walk.proofs.Laws.Walks.{overBy-none, overBy-row}
 use Rattle.scope_state.specs.declared.Scope.{Scope}
 use Rattle.scope_walk.specs.Inner.Sheets.{countsAt, specialAt, sheetAt, Accepted, exprCount}
 use Rattle.scope_state.specs.Inner.Agrees.{Sets, WithInput, WithFlag}
-use Rattle.scope_state.specs.Inner.Outers.{Outer, Exists}
+use Rattle.scope_state.specs.Inner.Outers.{Exists}
 use Rattle.scope_walk.specs.Inner.Exprs.{exprBy}
+use Rattle.scope_walk.proofs.Laws.Walking as walking
+use Rattle.scope_walk.specs.Inner.Walking.{Walk}
 use Rattle.scope_vars.specs.Inner.Inputs.{InputVar, InputStep, InputWalk}
 
 -- The definitions' step at any expression.
@@ -74,47 +74,26 @@ module _ (t outer : List ℕ) where
 
   -- ---- the walk, a row at a time
 
-  module _ (ok : Accepted t) (parents : List spec.Scope) where
-    abbrev step : spec.Scope → Tree → spec.Scope
-    step = inputAt (sheetAt t) parents
-
-    abbrev overRow : Bool → spec.Scope → ℕ → spec.Scope
-    overRow rest s row = overBy (countsAt t) (specialAt t) t step rest s row
-
-    -- The gathering of the definitions is a walk over all expressions.
-    as-walk : (rest : Bool) (s : spec.Scope) (row : ℕ) → gatherInputVars (sheetAt t) parents (exprBy t rest row) s ≡ overRow rest s row
-    unfolding gatherInputVars sheetAt
-    as-walk true s row = fold-vars (inputVar (sheetAt t) parents) s (traverse (treeAt (sheetAt t) row))
-    as-walk false s row = fold-vars (inputVar (sheetAt t) parents) s (traverse (alone (treeAt (sheetAt t) row)))
-
-    walked : (row : ℕ) (k r : Scope) → InputWalk t outer row true k r → Outer outer parents → (s : spec.Scope) → Sets k s → Sets r (overRow true s row)
-    walked row k r h o s a = subst (Sets r) (as-walk true s row) (h parents o s a)
+  -- The gathering of the definitions is a walk over all expressions.
+  as-walk : (parents : List spec.Scope) (rest : Bool) (s : spec.Scope) (row : ℕ)
+      → gatherInputVars (sheetAt t) parents (exprBy t rest row) s ≡ overBy (countsAt t) (specialAt t) t (inputAt (sheetAt t) parents) rest s row
+  unfolding gatherInputVars sheetAt
+  as-walk parents true s row = fold-vars (inputVar (sheetAt t) parents) s (traverse (treeAt (sheetAt t) row))
+  as-walk parents false s row = fold-vars (inputVar (sheetAt t) parents) s (traverse (alone (treeAt (sheetAt t) row)))
 
   pub input-walk-none : Accepted t → (rest : Bool) (k : Scope) → InputWalk t outer 0 rest k k
   input-walk-none ok rest k parents o s a =
-      subst (Sets k) (sym (as-walk ok parents rest s 0 ∙ overBy-none (countsAt t) (specialAt t) t (ok .facts) (inputAt (sheetAt t) parents) rest s)) a
+      subst (Sets k) (sym (as-walk parents rest s 0)) (walking.walk-none t Sets (inputAt (sheetAt t) parents) ok 0 refl rest k s a)
 
-  walk-row : Accepted t → (row : ℕ) → 1 ≤ row → row ≤ exprCount t → (rest : Bool) (k s₀ s₁ s₂ s₃ s₄ : Scope)
-      → let w = rowAt t row in
-      (InputStep t outer) w k s₀ → InputWalk t outer (kidsOf w .first) true s₀ s₁ → InputWalk t outer (kidsOf w .second) true s₁ s₂
-      → InputWalk t outer (kidsOf w .third) true s₂ s₃ → InputWalk t outer (cond rest (w .next) 0) true s₃ s₄ → InputWalk t outer row rest k s₄
-  walk-row ok row low high rest k s₀ s₁ s₂ s₃ s₄ h₀ h₁ h₂ h₃ h₄ parents o s a =
-      let a₀ = h₀ parents o s a in
-      let a₁ = walked ok parents _ s₀ s₁ h₁ o _ a₀ in
-      let a₂ = walked ok parents _ s₁ s₂ h₂ o _ a₁ in
-      let a₃ = walked ok parents _ s₂ s₃ h₃ o _ a₂ in
-      let a₄ = walked ok parents _ s₃ s₄ h₄ o _ a₃ in
-      subst (Sets s₄)
-      (sym (as-walk ok parents rest s row ∙ overBy-row (countsAt t) (specialAt t) t (ok .facts) (inputAt (sheetAt t) parents) rest s row low high)) a₄
-
-  -- The same of the row that was read, its parts and the row after it, as the code has them.
+  -- A row's turn: the row that was read, its parts and the row after it, as the code has them.
   pub input-walk-turn : Accepted t → (row : ℕ) → (row ≡ 0 → ⊥) → row ≤ exprCount t → (rest : Bool) (w : Row) → w ≡ rowAt t row
       → (p : Kids) → p ≡ kidsOf w → (next : ℕ) → next ≡ cond rest (w .next) 0 → (k s₀ s₁ s₂ s₃ s₄ : Scope)
       → InputStep t outer w k s₀ → InputWalk t outer (p .first) true s₀ s₁ → InputWalk t outer (p .second) true s₁ s₂ → InputWalk t outer (p .third) true s₂ s₃
       → InputWalk t outer next true s₃ s₄ → InputWalk t outer row rest k s₄
-  input-walk-turn ok row some high rest w is p ps next ns k s₀ s₁ s₂ s₃ s₄ h₀ h₁ h₂ h₃ h₄ =
-      let parts : p ≡ kidsOf (rowAt t row) = ps ∙ ap kidsOf is in
-      let after : next ≡ cond rest (rowAt t row .next) 0 = ns ∙ ap (λ (v : Row). cond rest (v .next) 0) is in
-      walk-row ok row (omega arith) high rest k s₀ s₁ s₂ s₃ s₄ (subst (λ (v : Row). InputStep t outer v k s₀) is h₀)
-      (subst (λ (q : Kids). InputWalk t outer (q .first) true s₀ s₁) parts h₁) (subst (λ (q : Kids). InputWalk t outer (q .second) true s₁ s₂) parts h₂)
-      (subst (λ (q : Kids). InputWalk t outer (q .third) true s₂ s₃) parts h₃) (subst (λ (n : ℕ). InputWalk t outer n true s₃ s₄) after h₄)
+  input-walk-turn ok row some high rest w is p ps next ns k s₀ s₁ s₂ s₃ s₄ h₀ h₁ h₂ h₃ h₄ parents o s a =
+      let part : (v : ℕ) (x y : Scope) → InputWalk t outer v true x y → Walk t Sets (inputAt (sheetAt t) parents) v true x y =
+      λ v x y h u b. subst (Sets y) (as-walk parents true u v) (h parents o u b) in
+      subst (Sets s₄) (sym (as-walk parents rest s row))
+      (walking.walk-turn t Sets (inputAt (sheetAt t) parents) ok (λ u v. cond (isVar v) (inputVar (sheetAt t) parents u v) u) (λ u v. refl)
+      row some high rest w is p ps next ns k s₀ s₁ s₂ s₃ s₄ (h₀ parents o)
+      (part (p .first) s₀ s₁ h₁) (part (p .second) s₁ s₂ h₂) (part (p .third) s₂ s₃ h₃) (part next s₃ s₄ h₄) s a)

@@ -3,7 +3,6 @@ use mathlib.Core.Path.{_≡_, refl, sym, ap, _∙_, subst}
 use mathlib.Core.Bool.{Bool, true, false, cond}
 use mathlib.Core.List.{List, [], _∷_, foldl}
 use Prim.Native.Nat.{ℕ, _≤_}
-use native.Mathlib.Omega.{arith}
 use borrow.Author.Tests.{eq-eqb, ne-eqb}
 use Rattle.sheet.specs.declared.Row.{Row}
 use Rattle.base.specs.Lists.{isSome}
@@ -16,7 +15,7 @@ use Rattle.scope.specs.Scopes.{addUnscoped, addInput, useInput, varExists}
 use Rattle.scope.specs.Gather.{assignVar, gatherAssignedVars, loopVar, gatherLoopVars}
 use Rattle.scope_walk.specs.declared.Kids.{Kids}
 use Rattle.scope_walk.specs.Inner.Kids.{kidsOf}
-use Rattle.scope_walk.proofs.Laws.Walks.{aloneAt, overBy-none, overBy-row}
+use Rattle.scope_walk.proofs.Laws.Walks.{aloneAt}
 use Rattle.scope_walk.specs.Inner.Walks.{overBy}
 use Rattle.scope_state.specs.declared.Scope.{Scope}
 use Rattle.scope_walk.specs.Inner.Sheets.{countsAt, specialAt, sheetAt, Accepted, exprCount}
@@ -24,6 +23,8 @@ use Rattle.scope_state.specs.Inner.Agrees.{WithFlag}
 use Rattle.scope_state.specs.Inner.Spans.{Agrees}
 use Rattle.scope_state.proofs.Laws.Spans.{agrees-flag}
 use Rattle.scope_walk.specs.Inner.Exprs.{exprBy}
+use Rattle.scope_walk.proofs.Laws.Walking as walking
+use Rattle.scope_walk.specs.Inner.Walking.{Walk}
 use Rattle.scope_vars.specs.Inner.Assigned.{AssignWalk}
 use Rattle.scope_vars.specs.Inner.Loops.{scopeOfWords, LoopStep, stepAt, LoopWalk}
 
@@ -82,45 +83,35 @@ module _ (t outer : List ℕ) where
 
   -- ---- the walk, a row at a time
 
-  module _ (ok : Accepted t) (parents : List spec.Scope) where
-    abbrev overRow : Bool → spec.Scope → ℕ → spec.Scope
-    overRow rest s row = overBy (countsAt t) (specialAt t) t (loopVar (sheetAt t) parents) rest s row
+  as-walk : (parents : List spec.Scope) (rest : Bool) (s : spec.Scope) (row : ℕ)
+      → gatherLoopVars (sheetAt t) parents (exprBy t rest row) s ≡ overBy (countsAt t) (specialAt t) t (loopVar (sheetAt t) parents) rest s row
+  unfolding gatherLoopVars sheetAt
+  as-walk parents true s row = refl
+  as-walk parents false s row = refl
 
-    as-walk : (rest : Bool) (s : spec.Scope) (row : ℕ) → gatherLoopVars (sheetAt t) parents (exprBy t rest row) s ≡ overRow rest s row
-    unfolding gatherLoopVars sheetAt
-    as-walk true s row = refl
-    as-walk false s row = refl
+  as-step : (parents : List spec.Scope) (s : spec.Scope) (row : ℕ)
+      → loopVar (sheetAt t) parents s (aloneAt (countsAt t) (specialAt t) t row) ≡ stepAt t outer parents s (rowAt t row)
+  unfolding loopVar sheetAt
+  as-step parents s row = refl
 
-    as-step : (s : spec.Scope) (row : ℕ) → stepAt t outer parents s (rowAt t row) ≡ loopVar (sheetAt t) parents s (aloneAt (countsAt t) (specialAt t) t row)
-    unfolding loopVar sheetAt
-    as-step s row = refl
+  -- A scope and the words of its locals stand for the definitions' scope.
+  abbrev Stands : Scope × List ℕ → spec.Scope → Type 0
+  Stands k = Agrees (k .0) (k .1)
 
   pub loop-walk-none : Accepted t → (rest : Bool) (k : Scope) (l : List ℕ) → LoopWalk t outer 0 rest k l k l
   loop-walk-none ok rest k l parents o s a =
-      subst (Agrees k l)
-      (sym (as-walk ok parents rest s 0 ∙ overBy-none (countsAt t) (specialAt t) t (ok .facts) (loopVar (sheetAt t) parents) rest s)) a
+      subst (Agrees k l) (sym (as-walk parents rest s 0)) (walking.walk-none t Stands (loopVar (sheetAt t) parents) ok 0 refl rest (k, l) s a)
 
-  walk-row : Accepted t → (row : ℕ) → 1 ≤ row → row ≤ exprCount t → (rest : Bool) (k s₀ s₁ s₂ s₃ s₄ : Scope) (l l₀ l₁ l₂ l₃ l₄ : List ℕ)
-      → let w = rowAt t row in
-      (LoopStep t outer) w k l s₀ l₀ → LoopWalk t outer (kidsOf w .first) true s₀ l₀ s₁ l₁ → LoopWalk t outer (kidsOf w .second) true s₁ l₁ s₂ l₂
-      → LoopWalk t outer (kidsOf w .third) true s₂ l₂ s₃ l₃ → LoopWalk t outer (cond rest (w .next) 0) true s₃ l₃ s₄ l₄ → LoopWalk t outer row rest k l s₄ l₄
-  walk-row ok row low high rest k s₀ s₁ s₂ s₃ s₄ l l₀ l₁ l₂ l₃ l₄ h₀ h₁ h₂ h₃ h₄ parents o s a =
-      let a₀ = subst (Agrees s₀ l₀) (as-step ok parents s row) (h₀ parents o s a) in
-      let a₁ = subst (Agrees s₁ l₁) (as-walk ok parents true _ _) (h₁ parents o _ a₀) in
-      let a₂ = subst (Agrees s₂ l₂) (as-walk ok parents true _ _) (h₂ parents o _ a₁) in
-      let a₃ = subst (Agrees s₃ l₃) (as-walk ok parents true _ _) (h₃ parents o _ a₂) in
-      let a₄ = subst (Agrees s₄ l₄) (as-walk ok parents true _ _) (h₄ parents o _ a₃) in
-      subst (Agrees s₄ l₄)
-      (sym (as-walk ok parents rest s row ∙ overBy-row (countsAt t) (specialAt t) t (ok .facts) (loopVar (sheetAt t) parents) rest s row low high)) a₄
-
-  -- The same of the row that was read, its parts and the row after it, as the code has them.
+  -- A row's turn: the row that was read, its parts and the row after it, as the code has them.
   pub loop-walk-turn : Accepted t → (row : ℕ) → (row ≡ 0 → ⊥) → row ≤ exprCount t → (rest : Bool) (w : Row) → w ≡ rowAt t row
       → (p : Kids) → p ≡ kidsOf w → (next : ℕ) → next ≡ cond rest (w .next) 0 → (k s₀ s₁ s₂ s₃ s₄ : Scope) (l l₀ l₁ l₂ l₃ l₄ : List ℕ)
       → LoopStep t outer w k l s₀ l₀ → LoopWalk t outer (p .first) true s₀ l₀ s₁ l₁ → LoopWalk t outer (p .second) true s₁ l₁ s₂ l₂ → LoopWalk t outer (p .third) true s₂ l₂ s₃ l₃
       → LoopWalk t outer next true s₃ l₃ s₄ l₄ → LoopWalk t outer row rest k l s₄ l₄
-  loop-walk-turn ok row some high rest w is p ps next ns k s₀ s₁ s₂ s₃ s₄ l l₀ l₁ l₂ l₃ l₄ h₀ h₁ h₂ h₃ h₄ =
-      let parts : p ≡ kidsOf (rowAt t row) = ps ∙ ap kidsOf is in
-      let after : next ≡ cond rest (rowAt t row .next) 0 = ns ∙ ap (λ (v : Row). cond rest (v .next) 0) is in
-      walk-row ok row (omega arith) high rest k s₀ s₁ s₂ s₃ s₄ l l₀ l₁ l₂ l₃ l₄ (subst (λ (v : Row). LoopStep t outer v k l s₀ l₀) is h₀)
-      (subst (λ (q : Kids). LoopWalk t outer (q .first) true s₀ l₀ s₁ l₁) parts h₁) (subst (λ (q : Kids). LoopWalk t outer (q .second) true s₁ l₁ s₂ l₂) parts h₂)
-      (subst (λ (q : Kids). LoopWalk t outer (q .third) true s₂ l₂ s₃ l₃) parts h₃) (subst (λ (n : ℕ). LoopWalk t outer n true s₃ l₃ s₄ l₄) after h₄)
+  loop-walk-turn ok row some high rest w is p ps next ns k s₀ s₁ s₂ s₃ s₄ l l₀ l₁ l₂ l₃ l₄ h₀ h₁ h₂ h₃ h₄ parents o s a =
+      let part : (v : ℕ) (x y : Scope × List ℕ) → LoopWalk t outer v true (x .0) (x .1) (y .0) (y .1) → Walk t Stands (loopVar (sheetAt t) parents) v true x y =
+      λ v x y h u b. subst (Stands y) (as-walk parents true u v) (h parents o u b) in
+      subst (Agrees s₄ l₄) (sym (as-walk parents rest s row))
+      (walking.walk-turn t Stands (loopVar (sheetAt t) parents) ok (stepAt t outer parents) (as-step parents)
+      row some high rest w is p ps next ns (k, l) (s₀, l₀) (s₁, l₁) (s₂, l₂) (s₃, l₃) (s₄, l₄) (h₀ parents o)
+      (part (p .first) (s₀, l₀) (s₁, l₁) h₁) (part (p .second) (s₁, l₁) (s₂, l₂) h₂) (part (p .third) (s₂, l₂) (s₃, l₃) h₃)
+      (part next (s₃, l₃) (s₄, l₄) h₄) s a)

@@ -11,9 +11,8 @@ use Rattle.sheet.specs.Inner.Sheet.{rowAt}
 use Rattle.sheet.specs.Kinds.{isAssign, isColEq}
 use Rattle.scope.specs.Trees.{Tree}
 use Rattle.scope.specs.Traverse.{traverse, leaves, vars}
-use Rattle.scope.specs.Scopes.{contains}
+use Rattle.scope.specs.Scopes.{contains, varExists, addInput, useInput}
 use Rattle.scope.specs.Scopes as spec
-use Rattle.scope.specs.Scopes.{varExists, addInput, useInput}
 use Rattle.scope.specs.Gather.{inputVar, gatherInputVars, gatherAssignedVars, gatherRead, gatherVars}
 use Rattle.scope_state.specs.declared.Scope.{Scope}
 use Rattle.scope_walk.specs.Inner.Sheets.{sheetAt, Accepted, exprCount}

@@ -1,6 +1,6 @@
 -- The tree at a row is the node of that row over the trees at the rows that it names, where each of these is a later row or none: the depth that
 -- `treeAt` counts down is always enough.
-use mathlib.Core.Path.{_≡_, refl, sym, ap}
+use mathlib.Core.Path.{_≡_, refl, sym}
 use mathlib.Core.List.{List}
 use mathlib.Core.Logic.{_⊎_, inl, inr}
 use Prim.Native.Nat.{ℕ, zero, suc, _+_, _≤_, _<_}
@@ -8,7 +8,7 @@ use native.Mathlib.Omega.{arith}
 use lib.ListN.{length, getD}
 use Rattle.sheet.specs.declared.Row.{Row}
 use Rattle.sheet.specs.Sheet.{noRow}
-use Rattle.scope.specs.Trees.{Tree, nil, node, thirdOf, decode}
+use Rattle.scope.specs.Trees.{nil, node, thirdOf, decode}
 
 -- Row r names row v of n rows: a later one, or none.
 abbrev pub OnwardTo : ℕ → ℕ → ℕ → Type 0

@@ -24,6 +24,11 @@ use Rattle.scope_walk.proofs.Laws.Kids.{compr-enters-nothing}
 use Rattle.sheet.specs.Inner.Rows.{inTables}
 use Rattle.scope_walk.specs.Inner.Onwards.{rowsLeft}
 
+pub left-most : (n v : ℕ) → rowsLeft n v ≤ suc n
+unfolding rowsLeft
+left-most n zero = omega arith
+left-most n (suc v) = omega arith
+
 pub left-falls : (n r v : ℕ) → 1 ≤ r → r ≤ n → OnwardTo n r v → rowsLeft n v < rowsLeft n r
 unfolding rowsLeft
 left-falls n zero v a b h = absurd (omega arith)

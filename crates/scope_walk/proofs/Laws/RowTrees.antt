@@ -1,31 +1,34 @@
 -- The trees of a sheet in the tables.
-use mathlib.Core.Path.{_≡_, refl, sym, ap, _∙_}
+use mathlib.Core.Path.{_≡_, refl, ap, _∙_}
 use mathlib.Core.Bool.{Bool, true, false, cond, _&&_, _||_}
 use mathlib.Core.List.{List, [], _∷_, map}
-use mathlib.Core.Logic.{_⊎_, inl, inr, ⊎-elim}
+use mathlib.Core.Logic.{inl, inr, ⊎-elim, _⊎_}
 use Prim.Native.Nat.{ℕ, zero, suc, _+_, _-_, _≤_, _<_}
 use native.Mathlib.Omega.{arith}
 use lib.Dec.{eqb, leb}
-use lib.ListN.{length, getD}
+use lib.ListN.{length, getD, length-map}
 use borrow.Author.Tests.{eqb-true}
 use Rattle.base.proofs.Laws.Truth.{and-left, and-right, or-cases}
 use Rattle.base.specs.Lists.{counted, range}
+use Rattle.base.proofs.Laws.Ranges.{length-counted, counted-at}
 use Rattle.sheet.specs.declared.Counts.{Counts}
-use Rattle.sheet.specs.Inner.Records.{exprAt}
+use Rattle.sheet.specs.Inner.Records.{exprAt, statementRowAt}
 use Rattle.sheet.specs.declared.Special.{Special}
 use Rattle.sheet.specs.declared.Field.{Field}
 use Rattle.sheet.specs.Fields.{exprSection, limitOf, KindFields, noKind, kinds, kindOf}
-use Rattle.sheet_facts.specs.Inner.Facts.{Part, ExprFacts, SheetFacts}
+use Rattle.sheet_facts.specs.Inner.Facts.{Part, SheetFacts}
 use Rattle.sheet.specs.declared.Row.{Row}
-use Rattle.sheet.specs.Sheet.{Sheet, noRow}
 use Rattle.sheet.specs.Inner.Sheet.{rowAt, rowsTo, sheetOf}
-use Rattle.scope.specs.Trees.{Tree, nil, node, thirdOf, decode, treeAt}
+use Rattle.sheet.specs.Sheet.{noRow, noStatement}
+use Rattle.scope.specs.Trees.{nil, node, thirdOf, treeAt}
 use Rattle.scope_walk.proofs.Laws.Descent.{OnwardTo, Descends, decode-none, decode-row}
 use Rattle.sheet.specs.Inner.Rows.{inTables}
+use Rattle.sheet.specs.declared.Statement.{Statement}
+use Rattle.scope.proofs.Laws.StatementWalks.{statementIn, StatementsOnward}
 
 -- ---- what the table of kinds says: a part is an expression, and so is a third that is no comprehension's
 
-partField : Field → Bool
+unfoldable pub partField : Field → Bool
 partField f = eqb (f .section) 0 || eqb (f .section) exprSection
 
 parts : ℕ → KindFields → Bool
@@ -98,24 +101,15 @@ module _ (c : Counts) (t : List ℕ) (facts : SheetFacts c (inTables t)) where
 -- ---- rows as a list
 
 module _ {A : Type 0} (at : ℕ → A) where
-  counted-at : (n a i : ℕ) (d : A) → i < n → getD (map at (counted a n)) i d ≡ at (a + i)
-  counted-at zero a i d h = absurd (omega arith)
-  counted-at (suc n) a zero d h = ap at (omega arith)
-  counted-at (suc n) a (suc i) d h = counted-at n (suc a) i d (omega arith) ∙ ap at (omega arith)
-
-  counted-length : (n a : ℕ) → length (map at (counted a n)) ≡ n
-  counted-length zero a = refl
-  counted-length (suc n) a = ap suc (counted-length n (suc a))
-
   pub rows-length : (n : ℕ) → length (rowsTo at n) ≡ n
   unfolding rowsTo range
-  rows-length n = let e : n + 1 - 1 ≡ n = omega arith in ap (λ (k : ℕ). length (map at (counted 1 k))) e ∙ counted-length n 1
+  rows-length n = let e : n + 1 - 1 ≡ n = omega arith in ap (λ (k : ℕ). length (map at (counted 1 k))) e ∙ length-map (counted 1 n) at ∙ length-counted 1 n
 
   pub rows-at : (n i : ℕ) (d : A) → i < n → getD (rowsTo at n) i d ≡ at (suc i)
   unfolding rowsTo range
   rows-at n i d h =
       let e : n + 1 - 1 ≡ n = omega arith in
-      ap (λ (k : ℕ). getD (map at (counted 1 k)) i d) e ∙ counted-at n 1 i d h ∙ ap at (omega arith)
+      ap (λ (k : ℕ). getD (map at (counted 1 k)) i d) e ∙ counted-at at n 1 i d h ∙ ap at (omega arith)
 
 -- ---- the trees
 
@@ -143,3 +137,31 @@ module _ (c : Counts) (x : Special) (t : List ℕ) (facts : SheetFacts c (inTabl
   tree-row (suc r) a b =
       let h : r < length rows = omega (arith, rows-length (rowAt t) (c .exprs)) in
       rw (row-is r h) at (decode-row rows descends r h)
+
+-- ---- the statements
+
+module _ (c : Counts) (x : Special) (t : List ℕ) where
+  pub statements-length : length (sheetOf c x t .statements) ≡ c .statements
+  unfolding sheetOf
+  statements-length = rows-length (statementRowAt t) (c .statements)
+
+  -- Statement s of the sheet is that of the tables.
+  pub statement-is : (s : ℕ) → 1 ≤ s → s ≤ c .statements → statementIn (sheetOf c x t .statements) s ≡ statementRowAt t s
+  unfolding sheetOf
+  statement-is zero a b = absurd (omega arith)
+  statement-is (suc s) a b = rows-at (statementRowAt t) (c .statements) s noStatement b
+
+  -- A statement's `next` is a later one, or none.
+  pub statements-onwards : SheetFacts c (inTables t) → StatementsOnward (sheetOf c x t .statements)
+  statements-onwards facts zero l n = absurd (n refl)
+  statements-onwards facts (suc s) l n =
+      let high : suc s ≤ c .statements = omega (arith, statements-length) in
+      let e = statement-is (suc s) (omega arith) high in
+      let same : statementIn (sheetOf c x t .statements) (suc s) .next ≡ statementRowAt t (suc s) .next = ap (λ (st : Statement). st .next) e in
+      go (facts .statement (suc s) (omega arith) high .next) same
+    where
+      go : (statementRowAt t (suc s) .next ≡ 0) ⊎ ((suc s < statementRowAt t (suc s) .next) × (statementRowAt t (suc s) .next ≤ c .statements))
+          → statementIn (sheetOf c x t .statements) (suc s) .next ≡ statementRowAt t (suc s) .next
+          → (suc s < statementIn (sheetOf c x t .statements) (suc s) .next) × (statementIn (sheetOf c x t .statements) (suc s) .next ≤ length (sheetOf c x t .statements))
+      go (inl z) same = absurd (n (same ∙ z))
+      go (inr h) same = (omega (arith, h .0), omega (arith, h .1, statements-length))

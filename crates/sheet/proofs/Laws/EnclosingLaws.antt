@@ -1,18 +1,15 @@
 -- Laws of `EnclosingLaws`.
 use mathlib.Core.Path.{_≡_, sym, _∙_}
 use mathlib.Core.Bool.{Bool, true, false, cond}
-use mathlib.Core.List.{List, [], _∷_, _++_}
-use mathlib.Core.Logic.{_⊎_, inl, inr, ⊎-elim}
+use mathlib.Core.List.{List, [], _∷_}
 use Prim.Native.Nat.{ℕ, zero, suc, _≤_, _<_}
 use native.Mathlib.Omega.{arith}
 use lib.ListN.{getD}
 use borrow.Author.Tests.{le-leb, lt-leb}
 use Rattle.base.specs.Limits as limits
-use Rattle.base.proofs.Laws.Truth.{lt-cases}
 use Rattle.sheet.specs.declared.Counts.{Counts}
 use Rattle.sheet.specs.Sheet.{Rows}
-use Rattle.sheet.specs.Naming.{exprRow}
-use Rattle.sheet.specs.Naming.{Naming, namers, upwards, namings}
+use Rattle.sheet.specs.Naming.{exprRow, Naming, namers, upwards, namings}
 use Rattle.sheet.specs.Nesting.{grown, lying, enclosingOf, enclosing}
 use Rattle.sheet.proofs.Laws.GrownLaws.{grown-at, grown-before}
 use Rattle.sheet.specs.Inner.Enclosing.{enclosingQuery}
@@ -46,30 +43,3 @@ module _ (c : Counts) (t : Rows) where
       go true = h (x .place)
       go false = omega arith
   lying-small l k (x ∷ y ∷ xs) h = omega arith
-
-  here-small : (l : List ℕ) (k : ℕ) → ((j : ℕ) → getD l j 0 ≤ limits.mostQueries) → enclosingOf (namings c t) l k ≤ limits.mostQueries
-  here-small l k h =
-      ⊎-elim (λ (q : k ≤ limits.mostQueries). rw (le-leb k limits.mostQueries q) q) (λ (q : limits.mostQueries < k). rw (lt-leb k limits.mostQueries q) (lying-small l k (namers k (namings c t)) h)) (le-cases k)
-    where
-      le-cases : (k : ℕ) → (k ≤ limits.mostQueries) ⊎ (limits.mostQueries < k)
-      le-cases k = ⊎-elim (λ (p : limits.mostQueries < k). inr p) (λ (p : k ≤ limits.mostQueries). inl p) (lt-cases limits.mostQueries k)
-
-  bounded-append : (l m : List ℕ) → ((j : ℕ) → getD l j 0 ≤ limits.mostQueries) → ((j : ℕ) → getD m j 0 ≤ limits.mostQueries) → (j : ℕ) → getD (l ++ m) j 0 ≤ limits.mostQueries
-  bounded-append [] m a b j = b j
-  bounded-append (x ∷ l) m a b zero = a 0
-  bounded-append (x ∷ l) m a b (suc j) = bounded-append l m (λ i. a (suc i)) b j
-
-  bounded-one : (x : ℕ) → x ≤ limits.mostQueries → (j : ℕ) → getD (x ∷ []) j 0 ≤ limits.mostQueries
-  bounded-one x h zero = h
-  bounded-one x h (suc j) = omega arith
-
-  small-to : (k j : ℕ) → getD (queriesTo k) j 0 ≤ limits.mostQueries
-  unfolding grown
-  small-to zero j = bounded-one 0 (omega arith) j
-  small-to (suc k) j =
-      bounded-append (queriesTo k) (enclosingOf (namings c t) (queriesTo k) (suc k) ∷ []) (small-to k)
-      (bounded-one _ (here-small (queriesTo k) (suc k) (small-to k))) j
-
-  pub enclosing-small : (k : ℕ) → enclosingQuery c t k ≤ limits.mostQueries
-  unfolding enclosing
-  enclosing-small k = small-to (exprRow (c .exprs)) k

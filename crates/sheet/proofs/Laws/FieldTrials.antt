@@ -2,7 +2,6 @@
 use mathlib.Core.Path.{_≡_, refl}
 use mathlib.Core.Bool.{true}
 use mathlib.Core.List.{List, [], _∷_}
-use Prim.Native.Nat.{ℕ}
 use Prim.Native.String.{String, _++_}
 use Rattle.base.specs.Lists.{all}
 use Rattle.sheet.proofs.Laws.Trials.{FormTrial}

@@ -9,12 +9,10 @@ use lib.Dec.{eqb}
 use lib.ListN.{length, getD, drop}
 use Rattle.base.proofs.Laws.Truth.{bool-cases, not-both, and-left, and-right}
 use Rattle.base.specs.Lists.{all}
-use Rattle.sheet.specs.Text.{newline}
-use Rattle.sheet.specs.Text.{Text, rest, line, lines}
+use Rattle.sheet.specs.Text.{newline, Text, rest, line, lines}
 use Rattle.sheet.specs.Inner.Lines.{headLine, after, isLine}
 use Rattle.sheet.proofs.Laws.LineLaws.{behind-line}
-use Rattle.sheet.specs.Form.{Section}
-use Rattle.sheet.specs.Form.{isRow, Block, stops, ends, more, block, Whole, faulty, formed, also, filled, same, wholeFrom, faultOf}
+use Rattle.sheet.specs.Form.{Section, isRow, Block, stops, ends, more, block, Whole, faulty, formed, also, filled, same, wholeFrom, faultOf}
 use Rattle.sheet.specs.Inner.Headings.{hasLine}
 
 same-length : (l h : List ℕ) → same l h ≡ true → length l ≡ length h

@@ -1,27 +1,16 @@
 -- Laws of namings: those of one row, as the list of all grows.
 use mathlib.Core.Path.{_≡_, refl, sym, ap, _∙_}
-use mathlib.Core.Bool.{Bool, true, false, cond, _&&_, _||_, or-assoc, or-false, and-false}
-use mathlib.Core.List.{List, [], _∷_, _++_, List·Memᴰ, List·Memᴰ·not-nil, List·Memᴰ·eq-of-singleton}
+use mathlib.Core.Bool.{true, false, _&&_, _||_, or-assoc, and-false}
+use mathlib.Core.List.{List, [], _∷_, _++_, List·Memᴰ, List·Memᴰ·eq-of-singleton}
 use mathlib.Core.Logic.{_⊎_, inl, inr}
 use Prim.Native.Nat.{ℕ, _≤_, _<_}
-use native.Mathlib.Omega.{arith}
 use lib.Dec.{eqb}
 use borrow.Author.Tests.{le-ltb, lt-leb}
 use Rattle.base.specs.Limits as limits
 use Rattle.base.proofs.Laws.Truth.{bool-cases, not-both}
-use Rattle.base.specs.Lists.{filter}
+use Rattle.base.proofs.Laws.Lists.{filter-append}
 use Rattle.sheet.specs.declared.Counts.{Counts}
-use Rattle.sheet.specs.Naming.{Entry, target}
-use Rattle.sheet.specs.Naming.{Naming, namers, upwards, namedSo, inChain, entryNaming, rowNamings}
-
-filter-append : {A : Type 0} (f : A → Bool) (xs ys : List A) → filter f (xs ++ ys) ≡ filter f xs ++ filter f ys
-filter-append f [] ys = refl
-filter-append {A} f (x ∷ xs) ys = go (f x) (filter-append f xs ys)
-  where
-    go : (b : Bool) → filter f (xs ++ ys) ≡ filter f xs ++ filter f ys
-        → cond b (x ∷ filter f (xs ++ ys)) (filter f (xs ++ ys)) ≡ cond b (x ∷ filter f xs) (filter f xs) ++ filter f ys
-    go true e = ap (λ (l : List A). x ∷ l) e
-    go false e = e
+use Rattle.sheet.specs.Naming.{Entry, target, Naming, namers, upwards, namedSo, inChain, entryNaming, rowNamings}
 
 pub namers-append : (k : ℕ) (xs ys : List Naming) → namers k (xs ++ ys) ≡ namers k xs ++ namers k ys
 unfolding namers

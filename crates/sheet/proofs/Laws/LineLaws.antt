@@ -11,8 +11,7 @@ use lib.ListN.{length, getD, drop, drop-of-length-le}
 use lib.Seq.{drop-cons}
 use borrow.Author.Tests.{eqb-true, ne-eqb, not-true}
 use Rattle.base.proofs.Laws.Truth.{bool-cases, lt-cases, not-both, and-left, and-right}
-use Rattle.sheet.specs.Text.{newline}
-use Rattle.sheet.specs.Text.{Text, rest, line, push, lines}
+use Rattle.sheet.specs.Text.{newline, Text, rest, line, push, lines}
 use Rattle.sheet.specs.Inner.Lines.{headLine, after, isLine}
 use Rattle.sheet.specs.Inner.LineBytes.{noNewline}
 

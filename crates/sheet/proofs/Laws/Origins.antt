@@ -1,8 +1,7 @@
 -- Which namings there are: those of the fields that name a row, and no others.
 use mathlib.Core.Path.{_≡_, refl, sym, ap, _∙_, subst}
-use mathlib.Core.Bool.{Bool, true, false, cond, _||_, or-false}
-use mathlib.Core.List.{List, [], _∷_, _++_, List·Memᴰ, List·Memᴰ·head, List·Memᴰ·cases-cons, List·Memᴰ·not-nil, List·Memᴰ·eq-of-singleton}
-use mathlib.Core.List.{List·Memᴰ·tail, List·Memᴰ·append-cases, Memᴰ·append-left, Memᴰ·append-right}
+use mathlib.Core.Bool.{Bool, true, false, _||_, or-false}
+use mathlib.Core.List.{List, [], _∷_, _++_, List·Memᴰ, List·Memᴰ·head, List·Memᴰ·cases-cons, List·Memᴰ·not-nil, List·Memᴰ·eq-of-singleton, List·Memᴰ·tail, List·Memᴰ·append-cases, Memᴰ·append-left, Memᴰ·append-right}
 use mathlib.Core.Logic.{_⊎_, inl, inr, ⊎-elim}
 use Prim.Native.Nat.{ℕ, zero, suc, _+_, _-_, _≤_, _<_}
 use native.Mathlib.Omega.{arith}
@@ -12,8 +11,7 @@ use Rattle.base.specs.Limits as limits
 use Rattle.base.proofs.Laws.Truth.{bool-cases}
 use Rattle.sheet.specs.declared.Counts.{Counts}
 use Rattle.sheet.specs.Sheet.{Rows}
-use Rattle.sheet.specs.Naming.{Entry, queryRow, statementRow, exprRow, target, exprEntries, statementEntries, queryEntries}
-use Rattle.sheet.specs.Naming.{Naming, namers, inChain, entryNaming, rowNamings, byQueries, byStatements, byExprs, namings}
+use Rattle.sheet.specs.Naming.{Entry, queryRow, statementRow, exprRow, target, exprEntries, statementEntries, queryEntries, Naming, namers, inChain, entryNaming, rowNamings, byQueries, byStatements, byExprs, namings}
 use Rattle.sheet.specs.Faults.{isMember}
 use Rattle.sheet.proofs.Laws.Laws.{namers-append, in-chain-append, row-late}
 use Rattle.sheet.proofs.Laws.Stages.{first-in, step-in, step-of}

@@ -3,9 +3,9 @@ use mathlib.Core.Path.{_≡_, refl, sym, ap, _∙_, subst}
 use mathlib.Core.Bool.{Bool, true, false, cond, _&&_}
 use mathlib.Core.List.{List, [], _∷_, List·Memᴰ, List·Memᴰ·cases-cons, List·Memᴰ·not-nil}
 use mathlib.Core.Logic.{_⊎_, inl, inr, ⊎-elim}
-use Prim.Native.Nat.{ℕ, _+_, _≤_, _<_}
+use Prim.Native.Nat.{ℕ, _≤_}
 use native.Mathlib.Omega.{arith}
-use lib.Dec.{eqb, leb, ltb}
+use lib.Dec.{leb, ltb}
 use borrow.Author.Tests.{leb-true}
 use Rattle.base.specs.Inner.Sizes as sizes
 use Rattle.base.proofs.Laws.Truth.{bool-cases, and-right}
@@ -14,9 +14,8 @@ use Rattle.sheet.specs.Inner.Records.{Within}
 use Rattle.sheet.specs.Sheet.{Rows}
 use Rattle.sheet.specs.declared.Field.{Field}
 use Rattle.sheet.specs.Fields.{aQuery}
-use Rattle.sheet.specs.Naming.{Entry, queryRow, statementRow, exprRow, inRange, target, placeOf, exprEntries, statementEntries, queryEntries}
-use Rattle.sheet.specs.Naming.{Naming}
-use Rattle.sheet.proofs.Laws.Origins.{Made, Origin, by-query, by-statement, by-expr}
+use Rattle.sheet.specs.Naming.{Entry, queryRow, statementRow, exprRow, target, placeOf, exprEntries, statementEntries, queryEntries, Naming}
+use Rattle.sheet.proofs.Laws.Origins.{Origin, by-query, by-statement, by-expr}
 
 -- What holds of each element of a list, one after the other.
 abbrev pub EachEntry : (Entry → Type 0) → List Entry → Type 0

@@ -8,26 +8,17 @@ use lib.Dec.{eqb}
 use lib.ListN.{take}
 use Rattle.base.specs.Limits as limits
 use Rattle.base.specs.Limits.{Limits, library, printing}
-use Rattle.base.specs.Lists.{all}
-use Rattle.sheet.specs.Text.{bytes}
-use Rattle.sheet.specs.Text.{lines}
+use Rattle.base.specs.Lists.{all, concatMap}
+use Rattle.sheet.specs.Text.{bytes, lines}
 use Rattle.sheet.specs.Text as numbers
-use Rattle.sheet.specs.Form.{sections, lineOf}
-use Rattle.sheet.specs.Form.{block, wholeFrom, form, faultOf, rowsIn}
-use Rattle.sheet.specs.Questions.{before, nameFault, nameRow}
-use Rattle.sheet.specs.Questions.{overLine, noQueryLine, countFault}
-use Rattle.sheet.specs.Questions.{formFault, sectionRows, namesFault, rowOfName, countsFault}
+use Rattle.sheet.specs.Form.{sections, lineOf, block, wholeFrom, form, faultOf, rowsIn}
+use Rattle.sheet.specs.Questions.{before, nameFault, nameRow, overLine, noQueryLine, countFault, formFault, sectionRows, namesFault, rowOfName, countsFault}
 use Rattle.sheet.proofs.Laws.Trials.{FormTrial}
-use Rattle.sheet.specs.Tables.{areas, areasFrom}
-use Rattle.sheet.specs.Tables.{tables, putSections, putRows}
+use Rattle.sheet.specs.Tables.{areas, areasFrom, tables, putSections, putRows}
 use Rattle.sheet.specs.Fields.{kinds, kindOf, forms, formOf}
-use Rattle.sheet.specs.Naming.{target, placeOf, exprEntries, statementEntries, queryEntries}
-use Rattle.sheet.specs.Naming.{namers, inChain, entryNaming, rowNamings, byQueries, byStatements, byExprs, namings}
-use Rattle.sheet.specs.Nesting.{grown, enclosing, parent, levelIn, level}
-use Rattle.sheet.specs.Nesting.{varsIn, endsIn, allVars, endsOdd}
-use Rattle.sheet.specs.Faults.{fieldFault, entriesFault, isNamedSo, isMember, exprFault, statementFault, queryFault, pathBefore, builtinFault}
-use Rattle.sheet.specs.Faults.{firstAtFault, firstLine}
-use Rattle.base.specs.Lists.{concatMap}
+use Rattle.sheet.specs.Naming.{target, placeOf, exprEntries, statementEntries, queryEntries, namers, inChain, entryNaming, rowNamings, byQueries, byStatements, byExprs, namings}
+use Rattle.sheet.specs.Nesting.{grown, enclosing, parent, levelIn, level, varsIn, endsIn, allVars, endsOdd}
+use Rattle.sheet.specs.Faults.{fieldFault, entriesFault, isNamedSo, isMember, exprFault, statementFault, queryFault, pathBefore, builtinFault, firstAtFault, firstLine}
 use Rattle.sheet.specs.Sheet.{sheetIn}
 use Rattle.sheet.specs.declared.Outcome.{Outcome}
 use Rattle.sheet.specs.Verdict.{number, faultLine, emptyTables, readTables, fieldsFault, asked, verdict}

@@ -14,9 +14,8 @@ use Rattle.base.specs.Lists.{all}
 use Rattle.sheet.specs.Text.{words, value, areNumbers, isNumber, values}
 use Rattle.sheet.specs.Form.{isRow}
 use Rattle.sheet.specs.declared.Area.{Area}
-use Rattle.sheet.specs.Tables.{rowPlace, areaEnd}
+use Rattle.sheet.specs.Tables.{rowPlace, areaEnd, rowValues, putRow, putRows}
 use Rattle.sheet.proofs.Laws.LayoutLaws.{rows-apart, row-inside}
-use Rattle.sheet.specs.Tables.{rowValues, putRow, putRows}
 
 -- ---- a run of values
 

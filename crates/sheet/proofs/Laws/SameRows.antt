@@ -7,31 +7,20 @@ use native.Mathlib.Omega.{arith}
 use lib.Dec.{eqb, leb, ltb}
 use lib.ListN.{getD}
 use borrow.Author.Tests.{eqb-true, eqb-false, leb-true, ltb-true, ltb-false}
-use Rattle.base.proofs.Laws.Truth.{not-both, and-left, and-right, or-left, or-right}
+use Rattle.base.proofs.Laws.Truth.{not-both, and-left, and-right, or-left, or-right, and-on, or-on}
+use Rattle.base.proofs.Laws.Members.{all-getD}
 use Rattle.sheet.specs.declared.Counts.{Counts}
 use Rattle.sheet.specs.declared.Builtin.{Builtin}
 use Rattle.sheet.specs.declared.Row.{Row}
 use Rattle.sheet.specs.Sheet.{Rows}
 use Rattle.sheet.specs.declared.Field.{Field}
 use Rattle.sheet.specs.Fields.{exprSection, limitOf, KindFields, noKind, kinds, kindOf, FormFields, noForm, forms, formOf}
-use Rattle.sheet.proofs.Laws.Tables.{getD-passes}
-use Rattle.sheet.specs.Naming.{Entry, queryRow, statementRow, exprRow, nextField, exprEntries, statementEntries, queryEntries}
-use Rattle.sheet.specs.Naming.{Naming, namers, inChain, rowNamings, byQueries, byStatements, byExprs, namings}
-use Rattle.sheet.specs.Nesting.{enclosing, parent, deeper, levelIn, level}
-use Rattle.sheet.specs.Nesting.{isVarAt, goesOn, varsIn, endsIn, allVars, endsOdd}
-use Rattle.sheet.specs.Faults.{notVar, unpaired, misnested, fieldFault, entriesFault, isNamedSo, isMember, exprFault, statementFault, queryFault, pathBefore, builtinFault}
-use Rattle.sheet.specs.Faults.{firstAtFault, firstLine}
+use Rattle.sheet.specs.Naming.{Entry, queryRow, statementRow, exprRow, nextField, exprEntries, statementEntries, queryEntries, Naming, namers, inChain, rowNamings, byQueries, byStatements, byExprs, namings}
+use Rattle.sheet.specs.Nesting.{enclosing, parent, deeper, levelIn, level, isVarAt, goesOn, varsIn, endsIn, allVars, endsOdd}
+use Rattle.sheet.specs.Faults.{notVar, unpaired, misnested, fieldFault, entriesFault, isNamedSo, isMember, exprFault, statementFault, queryFault, pathBefore, builtinFault, firstAtFault, firstLine}
 use Rattle.sheet.specs.Inner.SameRows.{SameRows}
 
 -- ---- what is asked only where something else holds
-
-or-on : (g a b : Bool) → (g ≡ true → a ≡ b) → (not g || a) ≡ (not g || b)
-or-on true a b h = h refl
-or-on false a b h = refl
-
-and-on : (g a b : Bool) → (g ≡ true → a ≡ b) → (g && a) ≡ (g && b)
-and-on true a b h = h refl
-and-on false a b h = refl
 
 unless : (g a b : Bool) → (g ≡ false → a ≡ b) → (g || a) ≡ (g || b)
 unless true a b h = refl
@@ -57,11 +46,11 @@ formHolds f = holdsExpr (f .query) && (holdsExpr (f .first) && (holdsExpr (f .se
 
 kinds-hold : (k : ℕ) → kindHolds (kindOf k) ≡ true
 unfolding kindOf kinds kindHolds holdsExpr
-kinds-hold k = getD-passes kindHolds kinds noKind refl refl k
+kinds-hold k = all-getD kindHolds kinds noKind refl refl k
 
 forms-hold : (k : ℕ) → formHolds (formOf k) ≡ true
 unfolding formOf forms formHolds holdsExpr
-forms-hold k = getD-passes formHolds forms noForm refl refl k
+forms-hold k = all-getD formHolds forms noForm refl refl k
 
 -- Fields of which that holds.
 abbrev Hold : Field → Type 0

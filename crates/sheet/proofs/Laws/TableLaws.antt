@@ -7,18 +7,14 @@ use native.Mathlib.Omega.{arith}
 use lib.ListN.{length, getD}
 use Rattle.base.specs.Limits as limits
 use Rattle.base.specs.Limits.{library}
-use Rattle.sheet.specs.Text.{lines}
-use Rattle.sheet.specs.Text.{values}
-use Rattle.sheet.specs.Form.{Section, sections}
-use Rattle.sheet.specs.Questions.{mostRows}
-use Rattle.sheet.specs.Form.{form, rowsIn}
+use Rattle.sheet.specs.Text.{lines, values}
+use Rattle.sheet.specs.Form.{Section, sections, form, rowsIn}
+use Rattle.sheet.specs.Questions.{mostRows, formFault, sectionRows}
 use Rattle.sheet.proofs.Laws.FormLaws.{Shaped, none, next, sheet-formed}
-use Rattle.sheet.specs.Questions.{formFault, sectionRows}
 use Rattle.sheet.specs.declared.Area.{Area}
-use Rattle.sheet.specs.Tables.{rowPlace, areaEnd, areaOf, areasFrom, areas}
+use Rattle.sheet.specs.Tables.{rowPlace, areaEnd, areaOf, areasFrom, areas, rowValues, putRows, putSections, tables}
 use Rattle.sheet.specs.Inner.Layout.{builtinStart, exprStart, statementStart, queryStart}
 use Rattle.sheet.proofs.Laws.LayoutLaws.{row-inside}
-use Rattle.sheet.specs.Tables.{rowValues, putRows, putSections, tables}
 use Rattle.sheet.proofs.Laws.RowLaws.{length-putRows, putRows-other, putRows-at}
 
 -- Where the areas of sections end.
@@ -81,19 +77,10 @@ stored at (s ∷ ss) (m ∷ most) (ls ∷ rs) d (next w sh) fits (suc k) n f h b
 abbrev pub fieldOf : List ℕ → ℕ → ℕ → ℕ → ℕ
 fieldOf s k r f = getD (values (getD (getD (sectionRows s) k []) (r - 1) [])) f 0
 
-pub length-tables : (s d : List ℕ) → length (tables s d) ≡ length d
-unfolding tables
-length-tables s d = length-putSections areas (sectionRows s) d
-
 module _ (s d : List ℕ) (formed : formFault s ≡ 0) where
   shaped : Shaped sections (sectionRows s)
   unfolding formFault sectionRows form rowsIn
   shaped = let r = sheet-formed sections 1 (lines s) (omega arith) formed in rw (r .is) (r .shaped)
-
-  -- The entries for counts stay.
-  pub tables-front : (i : ℕ) → i < 8 → getD (tables s d) i 0 ≡ getD d i 0
-  unfolding tables areas
-  tables-front i h = front 8 sections (mostRows library) (sectionRows s) d shaped i h
 
   module _ (fits : limits.tableEntries ≤ length d) (r : ℕ) (from : 1 ≤ r) where
     at : (k f : ℕ) → r ≤ length (getD (sectionRows s) k []) → r ≤ getD areas k nowhere .rows → f < getD areas k nowhere .width

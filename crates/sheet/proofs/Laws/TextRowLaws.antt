@@ -9,11 +9,9 @@ use lib.Seq.{drop-cons}
 use borrow.Author.Tests.{ne-eqb}
 use Rattle.base.proofs.Laws.Truth.{lt-cases, eq-cases}
 use Rattle.base.specs.Lists.{all}
-use Rattle.sheet.specs.Text.{newline, space}
-use Rattle.sheet.specs.Text.{lines}
+use Rattle.sheet.specs.Text.{newline, space, lines, words, digit, value, isNumber, areNumbers, values}
 use Rattle.sheet.specs.Inner.Lines.{headLine, after, isLine}
 use Rattle.sheet.proofs.Laws.LineLaws.{Prefixed, prefixed, lines-newline}
-use Rattle.sheet.specs.Text.{words, digit, value, isNumber, areNumbers, values}
 use Rattle.sheet.specs.Inner.Digits.{digitsOf}
 use Rattle.sheet.proofs.Laws.DigitLaws.{digitsOf-digits, digitsOf-next, digitsOf-split, number-digits}
 use Rattle.sheet.proofs.Laws.WordLaws.{digits-noNewline, words-one, words-space, words-odd, words-some}

@@ -7,14 +7,9 @@ use Prim.Native.String.{String, _++_}
 use lib.Dec.{eqb}
 use Rattle.base.specs.Limits.{Limits, library, printing}
 use Rattle.base.specs.Lists.{all}
-use Rattle.sheet.specs.Text.{bytes}
-use Rattle.sheet.specs.Text.{lines}
-use Rattle.sheet.specs.Text.{words, value, isNumber, areNumbers, values}
-use Rattle.sheet.specs.Form.{sections, exprsAt, lineOf}
-use Rattle.sheet.specs.Form.{block, wholeFrom, form, faultOf, rowsIn}
-use Rattle.sheet.specs.Questions.{before, nameFault, nameRow}
-use Rattle.sheet.specs.Questions.{overLine, noQueryLine, countFault}
-use Rattle.sheet.specs.Questions.{shortEnough, formFault, sectionRows, namesFault, rowOfName, countsFault}
+use Rattle.sheet.specs.Text.{bytes, lines, words, value, isNumber, areNumbers, values}
+use Rattle.sheet.specs.Form.{sections, exprsAt, lineOf, block, wholeFrom, form, faultOf, rowsIn}
+use Rattle.sheet.specs.Questions.{before, nameFault, nameRow, overLine, noQueryLine, countFault, shortEnough, formFault, sectionRows, namesFault, rowOfName, countsFault}
 
 -- A text, the question that it fails, or 0, and the line.
 pub record FormTrial : Type 0 where

@@ -9,9 +9,8 @@ use borrow.Author.Tests.{leb-true, ne-eqb}
 use Rattle.base.proofs.Laws.Truth.{and-left, and-right}
 use Rattle.base.specs.Lists.{all}
 use Rattle.base.proofs.Laws.Subsets.{all-mono}
-use Rattle.sheet.specs.Text.{newline, space}
+use Rattle.sheet.specs.Text.{newline, space, join, words, digit, areNumbers}
 use Rattle.sheet.specs.Inner.LineBytes.{noNewline}
-use Rattle.sheet.specs.Text.{join, words, digit, areNumbers}
 
 -- A digit is neither a newline nor a space.
 pub digits-noNewline : (ds : List ℕ) → all digit ds ≡ true → noNewline ds ≡ true

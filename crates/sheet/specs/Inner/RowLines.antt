@@ -3,9 +3,8 @@ use mathlib.Core.Path.{_≡_}
 use mathlib.Core.Bool.{Bool, true, _&&_}
 use mathlib.Core.List.{List, [], _∷_}
 use Prim.Native.Nat.{ℕ, suc}
-use Rattle.sheet.specs.Text.{Text, lines}
+use Rattle.sheet.specs.Text.{Text, lines, words, areNumbers, values}
 use Rattle.sheet.specs.Inner.Lines.{headLine, after, isLine}
-use Rattle.sheet.specs.Text.{words, areNumbers, values}
 
 -- Is the first line of a text a row of k numbers?
 unfoldable pub lineFits : ℕ → Text → Bool

@@ -1,12 +1,12 @@
 -- Laws of `Members`.
 use mathlib.Core.Path.{_≡_, refl, ap, _∙_}
-use mathlib.Core.Bool.{Bool, true, false, not, cond, _&&_, _||_}
+use mathlib.Core.Bool.{Bool, true, not, cond, _&&_, _||_}
 use mathlib.Core.List.{List}
 use Prim.Native.Nat.{ℕ, zero, suc, _+_, _-_, _≤_, _<_}
 use native.Mathlib.Omega.{arith}
 use lib.Dec.{eqb, leb, ltb}
 use borrow.Author.Tests.{ltb-true, leb-true}
-use Rattle.base.proofs.Laws.Truth.{and-left, and-right}
+use Rattle.base.proofs.Laws.Truth.{and-left, and-right, and-on, or-on}
 use Rattle.sheet.specs.declared.Counts.{Counts}
 use Rattle.sheet.specs.Inner.Records.{exprAt}
 use Rattle.sheet.specs.Nesting.{isVarAt, goesOn, varsIn, endsIn, allVars, endsOdd}
@@ -23,15 +23,6 @@ restVars c t r = not (goesOn c (inTables t) r) || allVars c (inTables t) (exprAt
 
 abbrev pub restEnds : Counts → List ℕ → Bool → ℕ → Bool
 restEnds c t odd r = cond (eqb (exprAt t r .next) 0) odd (goesOn c (inTables t) r && endsSo c t (not odd) (exprAt t r .next))
-
--- What is asked only where g holds.
-or-on : (g a b : Bool) → (g ≡ true → a ≡ b) → (not g || a) ≡ (not g || b)
-or-on true a b h = h refl
-or-on false a b h = refl
-
-and-on : (g a b : Bool) → (g ≡ true → a ≡ b) → (g && a) ≡ (g && b)
-and-on true a b h = h refl
-and-on false a b h = refl
 
 module _ (c : Counts) (t : List ℕ) where
   pub later : (r : ℕ) → goesOn c (inTables t) r ≡ true → r < exprAt t r .next

@@ -1,19 +1,17 @@
 -- A sheet without a line at fault has no row at fault.
-use mathlib.Core.Path.{_≡_, refl, subst}
-use mathlib.Core.Bool.{Bool, true, false, cond}
-use mathlib.Core.List.{List}
+use mathlib.Core.Path.{_≡_, subst}
+use mathlib.Core.Bool.{Bool, true, false}
 use mathlib.Core.Logic.{_⊎_, inl, inr, ⊎-elim}
 use Prim.Native.Nat.{ℕ, zero, suc, _+_, _≤_, _<_}
 use native.Mathlib.Omega.{arith}
 use lib.Dec.{eqb}
-use borrow.Author.Tests.{eqb-true, eqb-false}
+use borrow.Author.Tests.{eqb-true}
 use Rattle.base.proofs.Laws.Truth.{bool-cases, eq-cases}
 use Rattle.sheet.specs.Form.{builtInsAt, exprsAt, statementsAt, queriesAt, lineOf, lineOr}
 use Rattle.sheet.proofs.Laws.SectionLaws.{line-some}
 use Rattle.sheet.specs.declared.Counts.{Counts}
 use Rattle.sheet.specs.Sheet.{Rows}
-use Rattle.sheet.specs.Faults.{builtinFault, exprFault, statementFault, queryFault}
-use Rattle.sheet.specs.Faults.{firstAtFault, listed, firstLine}
+use Rattle.sheet.specs.Faults.{builtinFault, exprFault, statementFault, queryFault, firstAtFault, listed, firstLine}
 
 pub record FineRows (c : Counts) (t : Rows) : Type 0 where
   pub fine-builtin : (r : ℕ) → 1 ≤ r → r ≤ c .builtins → builtinFault c t r ≡ false

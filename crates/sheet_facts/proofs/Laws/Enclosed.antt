@@ -1,28 +1,24 @@
 -- Every row of an accepted sheet lies in a query of the sheet.
 use mathlib.Core.Path.{_≡_, refl, sym, ap, _∙_, subst}
-use mathlib.Core.Bool.{Bool, true, false, cond, _||_}
+use mathlib.Core.Bool.{true, false}
 use mathlib.Core.List.{List, [], _∷_, List·Memᴰ, List·Memᴰ·head}
 use mathlib.Core.Logic.{_⊎_, inl, inr, ⊎-elim}
 use Prim.Native.Nat.{ℕ, zero, suc, _+_, _-_, _≤_, _<_}
 use native.Mathlib.Omega.{arith}
-use lib.Dec.{eqb, leb, ltb}
-use lib.ListN.{getD}
-use borrow.Author.Tests.{eqb-true, le-leb, lt-leb, ltb-true}
+use lib.Dec.{eqb}
+use borrow.Author.Tests.{eqb-true, lt-leb, ltb-true}
 use Rattle.base.specs.Limits as limits
 use Rattle.base.proofs.Laws.Truth.{lt-cases, bool-cases, not-both}
-use Rattle.base.proofs.Laws.Members.{filter-mem, mem-filter}
+use Rattle.base.proofs.Laws.Members.{filter-mem}
 use Rattle.sheet.specs.declared.Counts.{Counts}
 use Rattle.sheet.specs.Inner.Records.{Within}
 use Rattle.sheet.specs.Sheet.{Rows}
-use Rattle.sheet.specs.Naming.{Entry, queryRow, statementRow, exprRow}
-use Rattle.sheet.specs.Naming.{Naming, namers, upwards, namedSo, namings}
-use Rattle.sheet.specs.Nesting.{grown, enclosingOf, enclosing}
+use Rattle.sheet.specs.Naming.{statementRow, exprRow, Naming, namers, upwards, namedSo, namings}
 use Rattle.sheet.specs.Faults.{isNamedSo}
-use Rattle.sheet.proofs.Laws.Laws.{only-naming}
 use Rattle.sheet.specs.Inner.Enclosing.{enclosingQuery}
 use Rattle.sheet.proofs.Laws.EnclosingLaws.{enclosing-before, enclosing-query, enclosing-row}
 use Rattle.sheet_facts.proofs.Laws.Accepted.{FineRows}
-use Rattle.sheet.proofs.Laws.Origins.{Made, Origin, by-query, by-statement, by-expr, origin}
+use Rattle.sheet.proofs.Laws.Origins.{Origin, by-query, by-statement, by-expr, origin}
 use Rattle.sheet_facts.proofs.Laws.Rows.{fine-expr-row, fine-statement-row}
 use Rattle.sheet_facts.proofs.Laws.Places.{expr-place}
 use Rattle.sheet.proofs.Laws.PlaceLaws.{query-place, statement-place}

@@ -11,8 +11,7 @@ use Rattle.sheet.specs.Sheet.{Rows}
 use Rattle.sheet.specs.declared.Field.{Field}
 use Rattle.sheet.specs.Fields.{exprSection, limitOf, aChain, aStatement, or0}
 use Rattle.sheet.specs.Naming.{Entry, queryRow, statementRow, exprRow, nextField, exprEntry, statementEntry, exprEntries, statementEntries, queryEntries}
-use Rattle.sheet.specs.Faults.{isMember}
-use Rattle.sheet.specs.Faults.{firstLine}
+use Rattle.sheet.specs.Faults.{isMember, firstLine}
 use Rattle.sheet_facts.proofs.Laws.Accepted.{FineRows, fine-rows}
 use Rattle.sheet_facts.proofs.Laws.Rows.{fine-expr-row, fine-statement-row, fine-query-row}
 use Rattle.sheet_facts.proofs.Laws.Enclosed.{enclosed}

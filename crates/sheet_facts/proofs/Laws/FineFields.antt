@@ -7,7 +7,7 @@ use Prim.Native.Nat.{ℕ}
 use native.Mathlib.Omega.{arith}
 use lib.Dec.{eqb, leb, ltb}
 use borrow.Author.Tests.{eqb-true, eqb-false, eq-eqb, leb-false, ltb-false, not-false}
-use Rattle.base.proofs.Laws.Truth.{bool-cases, not-both}
+use Rattle.base.proofs.Laws.Truth.{bool-cases, not-both, neither-left, neither-right}
 use Rattle.sheet.specs.declared.Counts.{Counts}
 use Rattle.base.specs.Limits.{nesting}
 use Rattle.sheet.specs.Sheet.{Rows}
@@ -15,7 +15,7 @@ use Rattle.sheet.specs.Fields.{querySection, limitOf}
 use Rattle.sheet.specs.Naming.{Entry}
 use Rattle.sheet.specs.Nesting.{level}
 use Rattle.sheet.specs.Faults.{notVar, unpaired, misnested, fieldFault, entriesFault}
-use Rattle.sheet_facts.proofs.Laws.Neither.{neither-left, neither-right, not-second}
+use Rattle.sheet_facts.proofs.Laws.Neither.{not-second}
 use Rattle.sheet_facts.specs.Inner.FineFields.{Fine, Nests}
 
 module _ (c : Counts) (t : Rows) (q : ℕ) where

@@ -1,15 +1,14 @@
 -- What the table of kinds has in common: a comprehension's terms come with its query.
-use mathlib.Core.Path.{_≡_, refl, ap, _∙_}
-use mathlib.Core.Bool.{Bool, true, false, not, cond, _&&_, _||_}
-use mathlib.Core.Logic.{_⊎_, inl, inr, ⊎-elim}
+use mathlib.Core.Path.{_≡_, refl, ap}
+use mathlib.Core.Bool.{Bool, true, false, not, _&&_, _||_}
 use Prim.Native.Nat.{ℕ}
 use lib.Dec.{eqb}
 use borrow.Author.Tests.{eq-eqb}
-use Rattle.base.proofs.Laws.Truth.{not-both, and-left, and-right, or-cases}
+use Rattle.base.proofs.Laws.Truth.{not-both, and-left, and-right}
 use Rattle.base.specs.Lists.{all}
+use Rattle.base.proofs.Laws.Members.{all-getD}
 use Rattle.sheet.specs.declared.Field.{Field}
 use Rattle.sheet.specs.Fields.{querySection, KindFields, noKind, kinds, kindOf}
-use Rattle.sheet.proofs.Laws.Tables.{getD-passes}
 use Rattle.sheet_fields.proofs.Laws.Tables.{HoldsQuery, holdsQuery, holds-query}
 
 -- A term is no query, and stands in a row whose third is one.
@@ -26,7 +25,7 @@ terms-in-kinds = refl
 module _ (kind : ℕ) where
   terms-in-kind : terms (kindOf kind) ≡ true
   unfolding kindOf terms termWith
-  terms-in-kind = getD-passes terms kinds noKind terms-in-kinds refl kind
+  terms-in-kind = all-getD terms kinds noKind terms-in-kinds refl kind
 
   -- What holds of a field of the kind.
   pub record Termed (f : Field) : Type 0 where

@@ -1,25 +1,22 @@
 -- In an accepted sheet a row names larger rows of its section alone.
-use mathlib.Core.Path.{_≡_, refl, sym, ap, _∙_, subst}
-use mathlib.Core.Bool.{Bool, true, false, cond, _&&_, _||_}
-use mathlib.Core.List.{List, List·Memᴰ}
-use Prim.Native.Nat.{ℕ, zero, suc, _+_, _-_, _≤_, _<_}
+use mathlib.Core.Path.{_≡_, refl, ap, _∙_, subst}
+use mathlib.Core.Bool.{true}
+use mathlib.Core.List.{List·Memᴰ}
+use Prim.Native.Nat.{ℕ, zero, suc, _≤_, _<_}
 use native.Mathlib.Omega.{arith}
-use lib.Dec.{eqb, leb, ltb}
-use borrow.Author.Tests.{eq-eqb, ne-eqb, le-leb, lt-ltb}
+use lib.Dec.{eqb}
+use borrow.Author.Tests.{eq-eqb, le-leb, lt-ltb}
 use Rattle.base.specs.Limits as limits
 use Rattle.base.proofs.Laws.Members.{mem-filter}
 use Rattle.sheet.specs.declared.Counts.{Counts}
 use Rattle.sheet.specs.Inner.Records.{Within}
 use Rattle.sheet.specs.Sheet.{Rows}
 use Rattle.sheet.specs.Fields.{exprSection, statementSection, limitOf}
-use Rattle.sheet.specs.Naming.{Entry, statementRow, exprRow, rowIn, target, exprEntries, statementEntries}
-use Rattle.sheet.specs.Naming.{Naming, namers, upwards, namings}
+use Rattle.sheet.specs.Naming.{Entry, statementRow, exprRow, rowIn, target, exprEntries, statementEntries, Naming, namers, namings}
 use Rattle.sheet.specs.Faults.{isNamedSo, isMember}
 use Rattle.sheet.proofs.Laws.Laws.{only-naming}
 use Rattle.sheet_facts.proofs.Laws.Accepted.{FineRows}
 use Rattle.sheet.proofs.Laws.Origins.{targetOf, namingOf, statement-names, expr-names}
-use Rattle.sheet_facts.specs.Inner.FineFields.{Fine}
-use Rattle.sheet.specs.Inner.Enclosing.{enclosingQuery}
 use Rattle.sheet_facts.proofs.Laws.Rows.{fine-expr-row, fine-statement-row}
 use Rattle.sheet_facts.proofs.Laws.Enclosed.{up-below}
 

@@ -14,8 +14,7 @@ use Rattle.sheet.specs.Inner.Records.{Within}
 use Rattle.base.specs.Limits.{nesting}
 use Rattle.sheet.specs.Sheet.{Rows}
 use Rattle.sheet.specs.Fields.{exprSection, statementSection, querySection}
-use Rattle.sheet.specs.Naming.{Entry, statementRow, exprRow, rowIn, inRange, target, queryEntries}
-use Rattle.sheet.specs.Naming.{Naming, namings}
+use Rattle.sheet.specs.Naming.{Entry, statementRow, exprRow, rowIn, inRange, target, queryEntries, Naming, namings}
 use Rattle.sheet.specs.Nesting.{parent, levelIn, level, deeper}
 use Rattle.sheet.specs.Faults.{isNamedSo}
 use Rattle.sheet_facts.proofs.Laws.Accepted.{FineRows}

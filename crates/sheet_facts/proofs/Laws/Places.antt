@@ -1,24 +1,18 @@
 -- Where the namings of an accepted sheet put their rows.
-use mathlib.Core.Path.{_≡_, refl, sym, ap, _∙_, subst}
-use mathlib.Core.Bool.{Bool, true, false, cond, _&&_}
-use mathlib.Core.List.{List, [], _∷_, List·Memᴰ, List·Memᴰ·head, List·Memᴰ·tail, List·Memᴰ·cases-cons, List·Memᴰ·not-nil}
-use mathlib.Core.Logic.{_⊎_, inl, inr, ⊎-elim}
-use Prim.Native.Nat.{ℕ, _+_, _≤_, _<_}
-use native.Mathlib.Omega.{arith}
-use lib.Dec.{eqb, leb, ltb}
+use mathlib.Core.Path.{_≡_, refl, subst}
+use mathlib.Core.Bool.{Bool, true, false}
+use mathlib.Core.List.{List·Memᴰ, List·Memᴰ·head, List·Memᴰ·tail}
+use Prim.Native.Nat.{ℕ, _≤_}
 use borrow.Author.Tests.{le-leb, lt-ltb}
-use Rattle.base.proofs.Laws.Truth.{bool-cases, not-both}
+use Rattle.base.proofs.Laws.Truth.{not-both}
 use Rattle.sheet.specs.declared.Counts.{Counts}
-use Rattle.sheet.specs.declared.Statement.{Statement}
 use Rattle.sheet.specs.Sheet.{Rows}
 use Rattle.sheet.specs.declared.Field.{Field}
 use Rattle.sheet.specs.Fields.{querySection, limitOf, aQuery, kindOf}
 use Rattle.sheet_fields.proofs.Laws.Tables.{HoldsQuery}
-use Rattle.sheet.specs.Naming.{Entry, queryRow, statementRow, exprRow, target, placeOf, nextField, exprEntry, exprEntries, statementEntries, queryEntries}
+use Rattle.sheet.specs.Naming.{Entry, exprRow, target, placeOf, nextField, exprEntry, exprEntries}
 use Rattle.sheet.specs.Faults.{isMember}
 use Rattle.sheet.proofs.Laws.PlaceLaws.{each}
-use Rattle.sheet_facts.specs.Inner.FineFields.{Fine}
-use Rattle.sheet.specs.Inner.Enclosing.{enclosingQuery}
 use Rattle.sheet_facts.proofs.Laws.Rows.{FineExpr}
 use Rattle.sheet_facts.proofs.Laws.Kinds.{Termed, termed-name, termed-first, termed-second, termed-third}
 

@@ -1,17 +1,18 @@
 -- Rows that are not at fault.
-use mathlib.Core.Path.{_≡_, refl, sym, ap, _∙_}
-use mathlib.Core.Bool.{Bool, true, false, not, _&&_, _||_}
-use mathlib.Core.List.{List, List·Memᴰ}
-use Prim.Native.Nat.{ℕ, _≤_, _<_}
+use mathlib.Core.Path.{_≡_, ap}
+use mathlib.Core.Bool.{true, false, not, _&&_, _||_}
+use mathlib.Core.List.{List·Memᴰ}
+use Prim.Native.Nat.{ℕ, _≤_}
 use native.Mathlib.Omega.{arith}
 use lib.Dec.{eqb, ltb}
 use borrow.Author.Tests.{eqb-false, ne-eqb, ltb-false, not-false}
+use Rattle.base.proofs.Laws.Truth.{neither-left, neither-right}
 use Rattle.sheet.specs.declared.Counts.{Counts}
 use Rattle.sheet.specs.Sheet.{Rows}
 use Rattle.sheet.specs.Naming.{Entry, queryRow, statementRow, exprRow, exprEntries, statementEntries, queryEntries}
 use Rattle.sheet.specs.Inner.Enclosing.{enclosingQuery}
-use Rattle.sheet.specs.Faults.{entriesFault, isNamedSo, isMember, exprFault, statementFault, queryFault}
-use Rattle.sheet_facts.proofs.Laws.Neither.{neither-left, neither-right, not-second}
+use Rattle.sheet.specs.Faults.{isNamedSo, isMember, exprFault, statementFault, queryFault}
+use Rattle.sheet_facts.proofs.Laws.Neither.{not-second}
 use Rattle.sheet_facts.specs.Inner.FineFields.{Fine}
 use Rattle.sheet_facts.proofs.Laws.FineFields.{fine-fields}
 

@@ -7,8 +7,7 @@ use Rattle.base.specs.Limits.{nesting}
 use Rattle.sheet.specs.Sheet.{Rows}
 use Rattle.sheet.specs.Fields.{querySection, limitOf}
 use Rattle.sheet.specs.Naming.{Entry}
-use Rattle.sheet.specs.Nesting.{level}
-use Rattle.sheet.specs.Nesting.{isVarAt, allVars, endsOdd}
+use Rattle.sheet.specs.Nesting.{level, isVarAt, allVars, endsOdd}
 
 -- The query v is nested in query q.
 pub record Nests (c : Counts) (t : Rows) (q v : ℕ) : Type 0 where

@@ -9,8 +9,7 @@ use Rattle.base.specs.Limits as limits
 use Rattle.base.specs.Inner.Sizes as sizes
 use Rattle.sheet.specs.declared.Counts.{Counts}
 use Rattle.sheet.specs.Inner.Records.{Within}
-use Rattle.sheet.specs.Naming.{exprRow}
-use Rattle.sheet.specs.Naming.{namers, namedSo, inChain, namings}
+use Rattle.sheet.specs.Naming.{exprRow, namers, namedSo, inChain, namings}
 use Rattle.sheet.specs.Nesting.{enclosing}
 use Rattle.sheet_marks.specs.Inner.Codes.{codeOf}
 use Rattle.sheet_marks.proofs.Laws.Codes.{code-so, code-member}

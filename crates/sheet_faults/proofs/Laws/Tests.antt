@@ -18,8 +18,7 @@ use Rattle.sheet.specs.declared.Field.{Field}
 use Rattle.sheet.specs.Fields.{limitOf}
 use Rattle.sheet_fields.specs.Inner.Packed.{fieldFrom, first, second, third, kindFields, formFields, chainOrNone, statementOrNone}
 use Rattle.sheet_fields.proofs.Laws.Packed.{kind-name, kind-first, kind-second, kind-third, form-first, form-second, form-third, form-query, chain-held, statement-held}
-use Rattle.sheet.specs.Naming.{exprEntries, statementEntries, queryEntries}
-use Rattle.sheet.specs.Naming.{namers, inChain, namings}
+use Rattle.sheet.specs.Naming.{exprEntries, statementEntries, queryEntries, namers, inChain, namings}
 use Rattle.sheet.specs.Nesting.{enclosing}
 use Rattle.sheet.specs.Faults.{notVar, unpaired, misnested, fieldFault, entriesFault, isNamedSo, isMember, exprFault, statementFault, queryFault, pathBefore, builtinFault}
 use Rattle.sheet_marks.proofs.Laws.Rows.{next-held}
@@ -129,9 +128,9 @@ module _ (c : Counts) (t : List ℕ) where
           parts-are (getD (enclosing c (inTables t)) (160 + r) 0) (inChain (160 + r) (namers (160 + r) (namings c (inTables t)))) r,
         )
 
-    pub statement-is : (r : ℕ) → 1 ≤ r → r ≤ c .statements → statementBy c t (getD w (limits.mostQueries + r) 0) (statementRowAt t r) ≡ statementFault c (inTables t) r
+    pub statement-fault-is : (r : ℕ) → 1 ≤ r → r ≤ c .statements → statementBy c t (getD w (limits.mostQueries + r) 0) (statementRowAt t r) ≡ statementFault c (inTables t) r
     unfolding statementBy statementFault isNamedSo
-    statement-is r l h =
+    statement-fault-is r l h =
         let b = known .within .few-statements in
         rw (
           so-is c t w known (limits.mostQueries + r) (omega arith),

@@ -1,10 +1,9 @@
 -- The first row at fault is among those that are left.
 use borrow.Author.Needs.{needs}
 use mathlib.Core.Path.{_≡_, sym, _∙_}
-use Prim.Native.Nat.{ℕ, _+_, _-_, _≤_}
+use Prim.Native.Nat.{_+_, _-_, _≤_}
 use native.Mathlib.Omega.{arith}
-use Rattle.sheet.specs.Faults.{statementFault}
-use Rattle.sheet.specs.Faults.{firstAtFault}
+use Rattle.sheet.specs.Faults.{statementFault, firstAtFault}
 use Rattle.sheet_faults.proofs.Laws.Firsts.{first-start, first-here, first-next, first-done}
 use Rattle.sheet_faults.proofs.first_statement.Statement.{statement}
 use Rattle.sheet_faults.proofs.first_statement.Tie as tie

@@ -5,8 +5,7 @@ use lib.ListN.{length}
 use Rattle.base.specs.Limits as limits
 use Rattle.sheet.specs.declared.Counts.{Counts}
 use Rattle.sheet.specs.Inner.Records.{Within}
-use Rattle.sheet.specs.Naming.{exprRow}
-use Rattle.sheet.specs.Naming.{namings}
+use Rattle.sheet.specs.Naming.{exprRow, namings}
 use Rattle.sheet_marks.specs.Inner.Homes.{SettledHomes}
 use Rattle.sheet_chains.specs.Inner.Numbers.{Chained}
 use Rattle.sheet.specs.Inner.Rows.{inTables}

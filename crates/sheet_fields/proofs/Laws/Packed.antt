@@ -3,8 +3,8 @@ use mathlib.Core.Path.{_≡_, refl, sym, ap, _∙_}
 use mathlib.Core.List.{List, map}
 use Prim.Native.Nat.{ℕ, _/_}
 use lib.ListN.{getD, List·getD-map}
-use Rattle.sheet.specs.Fields.{absent, aChain, aStatement, aQuery, or0, KindFields, noKind, kinds, kindOf, FormFields, noForm, forms, formOf}
-use Rattle.sheet_fields.specs.Inner.Packed.{fieldFrom, first, second, third, packedKind, packedForm, kindFields, formFields, chainOrNone, statementOrNone, packed}
+use Rattle.sheet.specs.Fields.{absent, aChain, aStatement, or0, KindFields, noKind, kinds, kindOf, FormFields, noForm, forms, formOf}
+use Rattle.sheet_fields.specs.Inner.Packed.{fieldFrom, first, second, third, packedKind, packedForm, kindFields, formFields, chainOrNone, statementOrNone}
 
 -- ---- it is read as it was made
 
@@ -79,7 +79,3 @@ chain-held = refl
 pub statement-held : fieldFrom statementOrNone ≡ or0 aStatement
 unfolding fieldFrom
 statement-held = refl
-
-pub query-held : fieldFrom (packed aQuery) ≡ aQuery
-unfolding fieldFrom
-query-held = refl

@@ -10,9 +10,9 @@ use lib.ListN.{length, getD, List·getD-eq-default}
 use borrow.Author.Tests.{eqb-true}
 use Rattle.base.proofs.Laws.Truth.{and-left, and-right, or-cases}
 use Rattle.base.specs.Lists.{all}
+use Rattle.base.proofs.Laws.Members.{all-getD}
 use Rattle.sheet.specs.declared.Field.{Field}
 use Rattle.sheet.specs.Fields.{nameSection, querySection, KindFields, noKind, kinds, kindOf}
-use Rattle.sheet.proofs.Laws.Tables.{getD-passes}
 
 -- ---- a `match` that has an arm for each number of a table from 1 on
 
@@ -35,6 +35,8 @@ left-over l n (suc k) short z h =
     let p = past n k h in
     sym (List·getD-eq-default l 0 {n = suc k} (omega arith))
 
+-- ---- what all numbers of a table have in common
+
 nameOrNothing : KindFields → Bool
 nameOrNothing k = eqb (k .name .section) nameSection || eqb (k .name .section) 0
 
@@ -48,7 +50,7 @@ unfolding kindOf nameOrNothing
 name-in-kind kind =
     let section = kindOf kind .name .section in
     ⊎-elim (λ p. inl (eqb-true section nameSection p)) (λ p. inr (eqb-true section 0 p))
-    (or-cases (eqb section nameSection) (eqb section 0) (getD-passes nameOrNothing kinds noKind names-in-kinds refl kind))
+    (or-cases (eqb section nameSection) (eqb section 0) (all-getD nameOrNothing kinds noKind names-in-kinds refl kind))
 
 -- ---- a query, and set
 

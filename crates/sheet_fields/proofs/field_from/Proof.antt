@@ -1,6 +1,5 @@
 -- The code reads the bits as the definition does.
 use mathlib.Core.Path.{refl}
-use borrow.Author.Needs.{needs}
 use Rattle.sheet_fields.specs.Inner.Packed.{fieldFrom}
 use Rattle.sheet_fields.proofs.field_from.Statement.{statement}
 use Rattle.sheet_fields.proofs.field_from.Tie as tie

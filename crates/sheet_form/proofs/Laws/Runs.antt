@@ -9,16 +9,13 @@ use lib.Dec.{eqb}
 use lib.ListN.{length, getD, drop}
 use lib.Seq.{drop-length}
 use Rattle.base.proofs.Laws.Truth.{bool-cases, eq-cases}
-use Rattle.sheet.specs.Text.{newline}
-use Rattle.sheet.specs.Text.{Text, rest, line, push, lines}
+use Rattle.sheet.specs.Text.{newline, Text, rest, line, push, lines}
 use Rattle.sheet.proofs.Laws.LineLaws.{drop-next}
-use Rattle.sheet.specs.Form.{Section, sections}
-use Rattle.sheet.specs.Form.{Whole, faulty, formed, also, wholeFrom, form, faultOf, rowsIn}
+use Rattle.sheet.specs.Form.{Section, sections, Whole, faulty, formed, also, wholeFrom, form, faultOf, rowsIn}
 use Rattle.sheet.proofs.Laws.FormLaws.{also-fault}
 use Rattle.sheet.specs.Questions.{formFault, sectionRows}
 use Rattle.sheet.specs.declared.Area.{Area}
-use Rattle.sheet.specs.Tables.{areas}
-use Rattle.sheet.specs.Tables.{putSections, tables}
+use Rattle.sheet.specs.Tables.{areas, putSections, tables}
 use Rattle.sheet_sections.specs.declared.Progress.{Progress}
 use Rattle.sheet_sections.specs.Inner.Sections.{SoundProgress, remaining, SectionRead}
 use Rattle.sheet_form.specs.declared.Read.{Read}

@@ -2,23 +2,22 @@
 use mathlib.Core.Path.{_≡_, refl, sym, ap, _∙_, subst}
 use mathlib.Core.Bool.{Bool, true, false, cond}
 use mathlib.Core.List.{List, [], _∷_}
-use mathlib.Core.Logic.{_⊎_, inl, inr, ⊎-elim}
+use mathlib.Core.Logic.{_⊎_, inl, inr}
 use Prim.Native.Nat.{ℕ, zero, suc, _+_, _-_, _/_, _%_, _≤_, _<_}
 use native.Mathlib.Omega.{arith}
-use lib.Dec.{eqb, leb}
-use lib.ListN.{length, getD, List·getD-eq-default}
-use borrow.Author.Tests.{eq-eqb, ne-eqb, le-leb, lt-leb, leb-true}
+use lib.Dec.{eqb}
+use lib.ListN.{getD, List·getD-eq-default}
+use borrow.Author.Tests.{eq-eqb, ne-eqb, le-leb, lt-leb}
 use Rattle.base.specs.Limits as limits
-use Rattle.base.proofs.Laws.Truth.{bool-cases, lt-cases}
+use Rattle.base.proofs.Laws.Truth.{lt-cases}
 use Rattle.sheet.specs.declared.Counts.{Counts}
-use Rattle.sheet.specs.Naming.{exprRow}
-use Rattle.sheet.specs.Naming.{Naming, namers, upwards, inChain, namings}
+use Rattle.sheet.specs.Naming.{exprRow, Naming, namers, upwards, inChain, namings}
 use Rattle.sheet.specs.Nesting.{grown, lying, enclosingOf, enclosing, parent, deeper, levelIn, level}
 use Rattle.sheet.proofs.Laws.GrownLaws.{grown-length, grown-at, grown-before}
 use Rattle.sheet_marks.specs.Inner.Codes.{onceOf, codeOf}
 use Rattle.sheet_marks.proofs.Laws.Codes.{once-so}
 use Rattle.sheet_marks.specs.Inner.Homes.{homeOf, SettledHomes}
-use Rattle.sheet_marks.proofs.Laws.Homes.{home-is}
+use Rattle.sheet_marks.proofs.Laws.Homes.{home-is, once-place}
 use Rattle.sheet_levels.specs.Inner.Levels.{parentBy, levelBy}
 use Rattle.sheet_levels.proofs.Laws.Levels.{levelAfter}
 use Rattle.sheet.specs.Inner.Rows.{inTables}
@@ -61,11 +60,6 @@ module _ (ns : List Naming) where
           (step-small (grown (enclosingOf ns) n) (suc n) ih))
 
 -- ---- the query above
-
-once-place : (up chain : Bool) (p : ℕ) → onceOf up chain p / 8 ≡ cond up p 0
-once-place true true p = omega arith
-once-place true false p = omega arith
-once-place false chain p = refl
 
 many : (b : Bool) (h : ℕ) → cond (eqb (cond b 6 2 % 4) 1) h 0 ≡ 0
 many true h = refl

@@ -1,9 +1,9 @@
 -- The level of q is that of the query that the loop came to, some steps up.
 use borrow.Author.Needs.{needs}
-use mathlib.Core.Path.{_≡_, sym, ap, _∙_}
+use mathlib.Core.Path.{_≡_, ap, _∙_}
 use Prim.Native.Nat.{ℕ, _+_, _-_, _≤_}
 use native.Mathlib.Omega.{arith}
-use Rattle.sheet_levels.specs.Inner.Levels.{parentBy, levelBy}
+use Rattle.sheet_levels.specs.Inner.Levels.{levelBy}
 use Rattle.sheet_levels.proofs.Laws.Levels.{levelAfter}
 use Rattle.sheet_levels.proofs.Laws.Laws.{walk-start, walk-found, walk-on, walk-done}
 use Rattle.sheet_levels.proofs.level.Statement.{statement}

@@ -1,6 +1,5 @@
 -- The code tests what the definition tests.
 use Prim.Native.Nat.{_%_}
-use mathlib.Core.Path.{_≡_, _∙_}
 use lib.ListN.{getD}
 use borrow.Author.Tests.{eq-eqb, ne-eqb, le-leb, lt-leb}
 use Rattle.sheet_levels.specs.Inner.Levels.{parentBy}

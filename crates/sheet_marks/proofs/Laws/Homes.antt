@@ -48,7 +48,7 @@ once-home true true p h = rw (once-so true true p) (omega arith)
 once-home true false p h = rw (once-so true false p) (omega arith)
 once-home false chain p h = refl
 
-once-place : (up chain : Bool) (p : ℕ) → onceOf up chain p / 8 ≡ cond up p 0
+pub once-place : (up chain : Bool) (p : ℕ) → onceOf up chain p / 8 ≡ cond up p 0
 once-place true true p = omega arith
 once-place true false p = omega arith
 once-place false chain p = refl

@@ -15,8 +15,7 @@ use Rattle.sheet.specs.declared.Counts.{Counts}
 use Rattle.sheet.specs.Inner.Records.{Within}
 use Rattle.sheet.specs.declared.Field.{Field}
 use Rattle.sheet.specs.Fields.{limitOf}
-use Rattle.sheet.specs.Naming.{Entry, rowIn, inRange, target}
-use Rattle.sheet.specs.Naming.{Naming, namers, upwards, entryNaming, rowNamings}
+use Rattle.sheet.specs.Naming.{Entry, rowIn, inRange, target, Naming, namers, upwards, entryNaming, rowNamings}
 use Rattle.sheet.proofs.Laws.Laws.{namers-append}
 use Rattle.sheet_marks.specs.Inner.Codes.{codeOf, nextCode}
 use Rattle.sheet_marks.proofs.Laws.Codes.{code-snoc}

@@ -21,8 +21,7 @@ use Rattle.sheet.specs.Fields.{aQuery, kindOf}
 use Rattle.sheet_fields.specs.Inner.Packed.{fieldFrom, first, second, third, kindFields, formFields, chainOrNone, statementOrNone}
 use Rattle.sheet_fields.proofs.Laws.Packed.{kind-first, kind-second, kind-third, form-first, form-second, form-third, form-query, nothing-held, chain-held, statement-held}
 use Rattle.sheet_fields.proofs.Laws.Tables.{name-in-kind}
-use Rattle.sheet.specs.Naming.{queryRow, statementRow, exprRow, placeOf, nextField, exprEntries, statementEntries, queryEntries}
-use Rattle.sheet.specs.Naming.{namers, inChain, byQueries, byStatements, byExprs}
+use Rattle.sheet.specs.Naming.{queryRow, statementRow, exprRow, placeOf, nextField, exprEntries, statementEntries, queryEntries, namers, inChain, byQueries, byStatements, byExprs}
 use Rattle.sheet_marks.proofs.Laws.Codes.{code-member}
 use Rattle.sheet_marks.specs.Inner.Marks.{Marks, nameWork, rowWork}
 use Rattle.sheet_marks.proofs.Laws.Marks.{marks-row, target-bound}

@@ -1,21 +1,19 @@
 -- The definitions as the code tests them.
-use mathlib.Core.Path.{_≡_, refl, sym, ap, ap₂, _∙_, subst}
-use mathlib.Core.Bool.{Bool, true, false, cond, _&&_}
-use mathlib.Core.List.{List, [], _∷_, _++_}
+use mathlib.Core.Path.{_≡_, refl, sym, ap, _∙_, subst}
+use mathlib.Core.Bool.{Bool, true, false}
+use mathlib.Core.List.{List}
 use mathlib.Core.Logic.{_⊎_, inl, inr}
 use Prim.Native.Nat.{ℕ, _+_, _/_, _≤_, _<_}
 use native.Mathlib.Omega.{arith}
-use lib.Dec.{eqb}
 use lib.ListN.{getD, set}
 use borrow.Author.Tests.{eq-eqb, ne-eqb, le-leb, lt-leb, lt-ltb, le-ltb}
 use Rattle.base.proofs.Laws.Truth.{bool-cases}
 use Rattle.sheet.specs.declared.Counts.{Counts}
 use Rattle.sheet.specs.declared.Field.{Field}
 use Rattle.sheet.specs.Fields.{nameSection, limitOf}
-use Rattle.sheet.specs.Naming.{Entry, rowIn, inRange, target}
-use Rattle.sheet.specs.Naming.{upwards}
+use Rattle.sheet.specs.Naming.{Entry, rowIn, inRange, target, upwards}
 use Rattle.sheet_marks.specs.Inner.Codes.{nextCode}
-use Rattle.sheet_marks.specs.Inner.Marks.{nameWork, rowWork}
+use Rattle.sheet_marks.specs.Inner.Marks.{nameWork}
 use Rattle.sheet_marks.specs.Inner.Homes.{homeOf, settled, settleNext}
 
 -- ---- the row that a field names

@@ -7,8 +7,7 @@ use lib.Dec.{eqb}
 use lib.ListN.{length, getD, set}
 use Rattle.base.specs.Inner.Sizes as sizes
 use Rattle.sheet.specs.declared.Counts.{Counts}
-use Rattle.sheet.specs.Naming.{Entry, target}
-use Rattle.sheet.specs.Naming.{Naming, namers, upwards}
+use Rattle.sheet.specs.Naming.{Entry, target, Naming, namers, upwards}
 use Rattle.sheet_marks.specs.Inner.Codes.{codeOf, nextCode}
 
 -- The marks of the rows, and of none, by these namings.

@@ -7,13 +7,11 @@ use native.Mathlib.Numerals.{add-one}
 use native.Mathlib.Omega.{arith}
 use lib.ListN.{getD, drop}
 use borrow.Author.Tests.{ne-eqb}
-use Rattle.sheet.specs.Text.{newline}
-use Rattle.sheet.specs.Text.{lines}
+use Rattle.sheet.specs.Text.{newline, lines}
 use Rattle.sheet.specs.Inner.Lines.{isLine, lineAt}
 use Rattle.sheet.proofs.Laws.LineLaws.{text-newline}
-use Rattle.sheet.specs.Questions.{isName, before, nameFault}
+use Rattle.sheet.specs.Questions.{isName, before, nameFault, formFault, rowCounts, sheetNames, namesFault}
 use Rattle.sheet.specs.Form.{namesAt, lineOf, lineOr}
-use Rattle.sheet.specs.Questions.{formFault, rowCounts, sheetNames, namesFault}
 use Rattle.sheet_values.specs.declared.Line.{Line}
 use Rattle.sheet_names.specs.Inner.Names.{NameRead}
 use Rattle.sheet_names.proofs.Laws.FirstSection.{Names, names-line, names-end, others, names-first, names-next, headed}

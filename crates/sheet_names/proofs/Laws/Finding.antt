@@ -10,13 +10,11 @@ use lib.Dec.{eqb}
 use lib.ListN.{length, getD, drop}
 use borrow.Author.Tests.{eq-eqb, ne-eqb}
 use Rattle.base.proofs.Laws.Truth.{bool-cases, eq-cases}
-use Rattle.sheet.specs.Text.{newline, bytes}
-use Rattle.sheet.specs.Text.{lines}
+use Rattle.sheet.specs.Text.{newline, bytes, lines}
 use Rattle.sheet.specs.Inner.Lines.{after, isLine, lineAt}
 use Rattle.sheet.specs.Form.{same}
 use Rattle.sheet.specs.Inner.Headings.{hasLine}
-use Rattle.sheet.specs.Questions.{nameRow}
-use Rattle.sheet.specs.Questions.{formFault, rowOfName}
+use Rattle.sheet.specs.Questions.{nameRow, formFault, rowOfName}
 use Rattle.sheet_values.specs.declared.Line.{Line}
 use Rattle.sheet_sections.specs.Inner.Lines.{LineEnd}
 use Rattle.sheet.specs.declared.Special.{Special}

@@ -7,12 +7,10 @@ use Prim.Native.Nat.{ℕ, suc, _+_, _<_}
 use native.Mathlib.Omega.{arith}
 use lib.ListN.{length, getD, drop}
 use Rattle.base.proofs.Laws.Truth.{bool-cases}
-use Rattle.sheet.specs.Text.{newline, bytes}
-use Rattle.sheet.specs.Text.{Text, rest, line, lines}
+use Rattle.sheet.specs.Text.{newline, bytes, Text, rest, line, lines}
 use Rattle.sheet.specs.Inner.Lines.{headLine, after, isLine, lineAt}
 use Rattle.sheet.proofs.Laws.LineLaws.{text-newline, line-inside, passes-byte}
-use Rattle.sheet.specs.Form.{Section, sections}
-use Rattle.sheet.specs.Form.{Block, stops, ends, more, block, filled, wholeFrom, form, faultOf, rowsIn}
+use Rattle.sheet.specs.Form.{Section, sections, Block, stops, ends, more, block, filled, wholeFrom, form, faultOf, rowsIn}
 use Rattle.sheet.specs.Inner.Headings.{hasLine}
 use Rattle.sheet.proofs.Laws.FormLaws.{behind-heading, sheet-none, sheet-some, also-fault, sheet-formed}
 use Rattle.sheet.specs.Questions.{formFault, sectionRows, sheetNames}

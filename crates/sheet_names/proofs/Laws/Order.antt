@@ -7,8 +7,7 @@ use native.Mathlib.Omega.{arith}
 use lib.Dec.{eqb, ltb}
 use lib.ListN.{length, getD, drop}
 use borrow.Author.Tests.{le-ltb, eq-eqb, ne-eqb}
-use Rattle.sheet.specs.Text.{newline}
-use Rattle.sheet.specs.Text.{Text, lines}
+use Rattle.sheet.specs.Text.{newline, Text, lines}
 use Rattle.sheet.specs.Inner.Lines.{headLine, isLine, lineAt}
 use Rattle.sheet.proofs.Laws.LineLaws.{text-newline, line-inside, passes-byte}
 use Rattle.sheet.specs.Questions.{before}

@@ -10,8 +10,7 @@ use lib.ListN.{length, getD, drop}
 use Rattle.base.specs.Limits as limits
 use Rattle.base.proofs.Laws.Truth.{not-both, eq-cases}
 use Rattle.base.specs.Lists.{all}
-use Rattle.sheet.specs.Text.{newline}
-use Rattle.sheet.specs.Text.{lines}
+use Rattle.sheet.specs.Text.{newline, lines}
 use Rattle.sheet.specs.Inner.Lines.{headLine, after, isLine, lineAt}
 use Rattle.sheet.proofs.Laws.LineLaws.{text-newline, line-inside, passes-byte}
 use Rattle.sheet.specs.Questions.{letter, letterOrDigit, isName}

@@ -5,11 +5,9 @@ use mathlib.Core.List.{List}
 use Prim.Native.Nat.{ℕ, _≤_, _<_}
 use lib.Dec.{eqb}
 use lib.ListN.{length, drop}
-use Rattle.sheet.specs.Text.{bytes}
-use Rattle.sheet.specs.Text.{lines}
+use Rattle.sheet.specs.Text.{bytes, lines}
 use Rattle.sheet.specs.Inner.Lines.{after, lineAt}
-use Rattle.sheet.specs.Questions.{isName}
-use Rattle.sheet.specs.Questions.{rowOfName}
+use Rattle.sheet.specs.Questions.{isName, rowOfName}
 use Rattle.sheet_values.specs.declared.Line.{Line}
 use Rattle.sheet.specs.declared.Special.{Special}
 

@@ -16,12 +16,9 @@ use Rattle.names_width.specs.declared.Width.{Width}
 use Rattle.names_width.specs.Widths.{limits}
 use Rattle.names_width.proofs.Laws.Laws as widths
 use Rattle.sheet.specs.Text.{bytes}
-use Rattle.sheet.specs.Form.{lineOf}
+use Rattle.sheet.specs.Form.{lineOf, same}
 use Rattle.sheet.proofs.Laws.SectionLaws.{line-some}
-use Rattle.sheet.specs.Questions.{nameRow}
-use Rattle.sheet.specs.Form.{same}
-use Rattle.sheet.specs.Questions.{mostRows, overLine, noQueryLine, countFault}
-use Rattle.sheet.specs.Questions.{formFault, namesFault, countsFault, sectionRows, rowCounts, rowOfName, sheetNames}
+use Rattle.sheet.specs.Questions.{nameRow, mostRows, overLine, noQueryLine, countFault, formFault, namesFault, countsFault, sectionRows, rowCounts, rowOfName, sheetNames}
 use Rattle.sheet.specs.Tables.{tables}
 use Rattle.sheet_form.specs.declared.Read as read-of
 use Rattle.sheet_form.specs.Inner.Reads.{counts, SheetRead}

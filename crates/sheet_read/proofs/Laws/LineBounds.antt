@@ -16,13 +16,11 @@ use Rattle.names_width.specs.Inner.Widths.{work}
 use Rattle.names_width.proofs.Laws.Laws.{few-names}
 use Rattle.sheet.specs.Form.{builtInsAt, exprsAt, statementsAt, queriesAt, lineOf, lineOr}
 use Rattle.sheet.proofs.Laws.SectionLaws.{line-row, line-next}
-use Rattle.sheet.specs.Questions.{mostRows, overLine, noQueryLine, countFault}
-use Rattle.sheet.specs.Questions.{formFault, namesFault, countsFault, shortEnough, rowCounts}
+use Rattle.sheet.specs.Questions.{mostRows, overLine, noQueryLine, countFault, formFault, namesFault, countsFault, shortEnough, rowCounts}
 use Rattle.sheet.specs.declared.Counts.{Counts}
 use Rattle.sheet.specs.Inner.Records.{Within}
 use Rattle.sheet.specs.Sheet.{Rows}
-use Rattle.sheet.specs.Faults.{builtinFault, exprFault, statementFault, queryFault}
-use Rattle.sheet.specs.Faults.{firstAtFault, listed, firstLine}
+use Rattle.sheet.specs.Faults.{builtinFault, exprFault, statementFault, queryFault, firstAtFault, listed, firstLine}
 use Rattle.sheet.specs.declared.Outcome.{Outcome}
 use Rattle.sheet.specs.declared.Outcome.the-variants.{Read, NoRoom, TooLong, BadForm, BadName, BadCount, BadField}
 use Rattle.sheet.specs.Verdict as Verdict

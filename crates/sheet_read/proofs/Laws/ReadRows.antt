@@ -8,22 +8,18 @@ use lib.ListN.{length, getD, length-map, length-replicate, List·getD-map}
 use Rattle.base.specs.Limits as limits
 use Rattle.base.specs.Lists.{counted, range}
 use Rattle.sheet.specs.Text.{words, value, values}
-use Rattle.sheet.specs.Questions.{formFault, sectionRows, rowCounts, sheetNames}
+use Rattle.sheet.specs.Questions.{formFault, sectionRows, rowCounts}
 use Rattle.sheet.specs.Tables.{tables}
 use Rattle.sheet.proofs.Laws.RowLaws.{sets-other}
 use Rattle.sheet.proofs.Laws.TableLaws.{fieldOf, builtIn-at, expression-at, statement-at, query-at}
 use Rattle.sheet.specs.declared.Counts.{Counts}
-use Rattle.sheet.specs.declared.Builtin.{Builtin}
-use Rattle.sheet.specs.declared.Row.{Row}
-use Rattle.sheet.specs.declared.Statement.{Statement}
 use Rattle.sheet.specs.Inner.Layout.{builtinStart, exprStart, statementStart, queryStart}
 use Rattle.sheet.specs.Inner.Records.{Within}
-use Rattle.sheet.specs.Sheet.{Rows}
 use Rattle.sheet.specs.Inner.Rows.{inTables}
 use Rattle.sheet.specs.Faults.{firstLine}
 use Rattle.sheet.specs.Inner.SameRows.{SameRows}
 use Rattle.sheet.proofs.Laws.SameRows.{first-line-same}
-use Rattle.sheet.specs.Sheet.{Sheet, sheetIn, builtinOf, exprOf, statementOf, queryOf, noBuiltin, noRow, noStatement, row, countsOf, rowsOf}
+use Rattle.sheet.specs.Sheet.{sheetIn, builtinOf, exprOf, statementOf, queryOf, noBuiltin, noRow, noStatement, row, countsOf, rowsOf}
 use Rattle.sheet.specs.Inner.Sheet.{rowAt, rowsTo, sheetOf}
 use Rattle.sheet.specs.Verdict.{emptyTables, headOf, readCounts, readSpecial, readTables, fieldsFault}
 

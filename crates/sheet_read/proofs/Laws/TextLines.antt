@@ -8,12 +8,10 @@ use native.Mathlib.Omega.{arith}
 use lib.Dec.{eqb}
 use lib.ListN.{length, getD}
 use Rattle.base.proofs.Laws.Truth.{bool-cases}
-use Rattle.sheet.specs.Text.{newline}
-use Rattle.sheet.specs.Text.{Text, rest, line, push, add, lines}
-use Rattle.sheet.specs.Form.{Section, sections, namesAt, lineOf, lineOr}
-use Rattle.sheet.specs.Form.{Block, stops, ends, more, isRow, block, Whole, faulty, formed, also, filled, same, wholeFrom, form, faultOf, rowsIn}
-use Rattle.sheet.specs.Questions.{isName, before, nameFault}
-use Rattle.sheet.specs.Questions.{formFault, namesFault, sheetNames, sectionRows, rowCounts}
+use Rattle.sheet.specs.Text.{newline, Text, rest, line, push, add, lines}
+use Rattle.sheet.specs.Form.{Section, sections, namesAt, lineOf, lineOr, Block, stops, ends, more, isRow, block, Whole, faulty, formed, also, filled, same, wholeFrom, form, faultOf, rowsIn}
+use Rattle.sheet.specs.Questions.{isName, before, nameFault, formFault, namesFault, sheetNames, sectionRows, rowCounts}
+use Rattle.sheet.proofs.Laws.FormLaws.{also-fault}
 
 -- ---- how many lines a text has
 
@@ -57,16 +55,11 @@ block-taken k (line (b ∷ l) t) = go (bool-cases (isRow k (b ∷ l))) (taken-mo
     go (inl p) h = rw p h
     go (inr p) h = rw p (omega arith)
 
-fault-also : (ls : List (List ℕ)) (x : Whole) → faultOf (also ls x) ≡ faultOf x
-unfolding faultOf
-fault-also ls (faulty n) = refl
-fault-also ls (formed rs) = refl
-
 filled-low : (n m : ℕ) (f : ℕ → Text → Whole) (b : Block) → Taken m b
     → ((k : ℕ) (t : Text) → faultOf (f k t) ≤ k + height t) → faultOf (filled n f b) ≤ n + 1 + m
 unfolding faultOf
 filled-low n m f (stops k) taken low = omega arith
-filled-low n m f (ends ls t) taken low = omega (arith, fault-also ls (f (n + length ls + 2) t), low (n + length ls + 2) t)
+filled-low n m f (ends ls t) taken low = omega (arith, also-fault ls (f (n + length ls + 2) t), low (n + length ls + 2) t)
 
 sheet-low : (ss : List Section) (n : ℕ) (t : Text) → faultOf (wholeFrom ss n t) ≤ n + height t
 unfolding wholeFrom faultOf

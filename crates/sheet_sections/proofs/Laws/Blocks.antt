@@ -6,8 +6,7 @@ use Prim.Native.Nat.{ℕ, suc, _+_, _≤_, _<_}
 use native.Mathlib.Omega.{arith}
 use lib.ListN.{length, getD, drop, length-append}
 use Rattle.base.proofs.Laws.Truth.{not-both}
-use Rattle.sheet.specs.Text.{newline}
-use Rattle.sheet.specs.Text.{Text, rest, line, lines}
+use Rattle.sheet.specs.Text.{newline, Text, rest, line, lines}
 use Rattle.sheet.specs.Inner.Lines.{headLine, lineAt}
 use Rattle.sheet.proofs.Laws.LineLaws.{text-end, text-newline, passes-byte}
 use Rattle.sheet.specs.Form.{Block, stops, ends, more, block}

@@ -9,8 +9,7 @@ use lib.ListN.{length, getD, drop, drop-of-length-le}
 use lib.Seq.{drop-length}
 use borrow.Author.Tests.{eqb-true, eqb-false, ne-eqb, eq-eqb, not-true}
 use Rattle.base.proofs.Laws.Truth.{and-left, and-right}
-use Rattle.sheet.specs.Text.{newline}
-use Rattle.sheet.specs.Text.{Text, rest, line, push, lines}
+use Rattle.sheet.specs.Text.{newline, Text, rest, line, push, lines}
 use Rattle.sheet.specs.Inner.Lines.{headLine, isLine}
 use Rattle.sheet.specs.Inner.LineBytes.{noNewline}
 use Rattle.sheet.proofs.Laws.LineLaws.{drop-next}

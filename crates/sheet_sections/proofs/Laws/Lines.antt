@@ -7,8 +7,7 @@ use native.Mathlib.Omega.{arith}
 use lib.ListN.{length, getD, drop}
 use borrow.Author.Tests.{le-leb, lt-leb}
 use Rattle.base.proofs.Laws.Truth.{not-both}
-use Rattle.sheet.specs.Text.{newline}
-use Rattle.sheet.specs.Text.{Text, line, lines}
+use Rattle.sheet.specs.Text.{newline, Text, line, lines}
 use Rattle.sheet.specs.Inner.Lines.{after, isLine, lineAt}
 use Rattle.sheet.proofs.Laws.LineLaws.{whole-line, text-end, text-newline, passes-byte}
 use Rattle.sheet.specs.Inner.RowLines.{lineFits}

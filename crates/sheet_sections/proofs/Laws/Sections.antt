@@ -9,8 +9,7 @@ use lib.Seq.{drop-drop}
 use Rattle.base.proofs.Laws.Truth.{not-both}
 use Rattle.sheet.specs.Text.{lines}
 use Rattle.sheet.specs.Inner.Lines.{after}
-use Rattle.sheet.specs.Form.{Section}
-use Rattle.sheet.specs.Form.{block, faulty, filled, wholeFrom}
+use Rattle.sheet.specs.Form.{Section, block, faulty, filled, wholeFrom}
 use Rattle.sheet.specs.Inner.Headings.{hasLine}
 use Rattle.sheet.proofs.Laws.FormLaws.{behind-heading, sheet-none, sheet-some}
 use Rattle.sheet.specs.declared.Area.{Area}

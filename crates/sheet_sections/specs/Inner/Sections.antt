@@ -5,8 +5,7 @@ use mathlib.Core.List.{List, _∷_}
 use Prim.Native.Nat.{ℕ, _+_, _≤_, _<_}
 use lib.ListN.{length, drop}
 use Rattle.sheet.specs.Text.{lines}
-use Rattle.sheet.specs.Form.{Section}
-use Rattle.sheet.specs.Form.{Whole, faulty, also, wholeFrom}
+use Rattle.sheet.specs.Form.{Section, Whole, faulty, also, wholeFrom}
 use Rattle.sheet.specs.declared.Area.{Area}
 use Rattle.sheet.specs.Tables.{putRows}
 use Rattle.sheet_sections.specs.declared.Progress.{Progress}

@@ -7,9 +7,7 @@ use native.Mathlib.Omega.{arith}
 use lib.ListN.{length, getD, drop, length-drop}
 use lib.Seq.{getD-drop, drop-drop}
 use Rattle.base.proofs.Laws.Truth.{not-both}
-use Rattle.sheet.specs.Text.{newline, space}
-use Rattle.sheet.specs.Text.{lines}
-use Rattle.sheet.specs.Text.{isNumber}
+use Rattle.sheet.specs.Text.{newline, space, lines, isNumber}
 use Rattle.sheet.specs.Inner.Digits.{digitsOf}
 use Rattle.sheet.specs.Inner.RowLines.{lineFits}
 use Rattle.sheet.proofs.Laws.TextRowLaws.{starts-spaced, starts-ended, no-more, no-space, no-newline, no-number}

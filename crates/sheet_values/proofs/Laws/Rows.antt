@@ -7,11 +7,9 @@ use native.Mathlib.Omega.{arith}
 use lib.ListN.{length, drop, set, length-append}
 use lib.Seq.{sets}
 use Rattle.base.proofs.Laws.Truth.{not-both, and-left}
-use Rattle.sheet.specs.Text.{newline, space}
-use Rattle.sheet.specs.Text.{Text, line, lines}
+use Rattle.sheet.specs.Text.{newline, space, Text, line, lines, values}
 use Rattle.sheet.specs.Inner.Lines.{headLine, after}
 use Rattle.sheet.proofs.Laws.LineLaws.{whole-line}
-use Rattle.sheet.specs.Text.{values}
 use Rattle.sheet.specs.Inner.RowLines.{lineFits}
 use Rattle.sheet_values.specs.declared.Field.{Field}
 use Rattle.sheet_values.specs.declared.Line.{Line}

@@ -4,8 +4,7 @@ use mathlib.Core.Bool.{true, false}
 use mathlib.Core.List.{List}
 use Prim.Native.Nat.{ℕ, suc, _≤_, _<_}
 use lib.ListN.{length, drop}
-use Rattle.sheet.specs.Text.{newline, space}
-use Rattle.sheet.specs.Text.{lines}
+use Rattle.sheet.specs.Text.{newline, space, lines}
 use Rattle.sheet.specs.Inner.RowLines.{lineFits, Spaced, LineEnded}
 use Rattle.sheet_values.specs.declared.Field.{Field}
 

@@ -5,9 +5,8 @@ use mathlib.Core.List.{List}
 use Prim.Native.Nat.{ℕ, _≤_, _<_}
 use lib.ListN.{length, drop}
 use lib.Seq.{sets}
-use Rattle.sheet.specs.Text.{line, lines}
+use Rattle.sheet.specs.Text.{line, lines, values}
 use Rattle.sheet.specs.Inner.Lines.{headLine}
-use Rattle.sheet.specs.Text.{values}
 use Rattle.sheet.specs.Inner.RowLines.{lineFits}
 use Rattle.sheet_values.specs.declared.Line.{Line}
 

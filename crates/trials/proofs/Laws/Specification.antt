@@ -3,8 +3,7 @@ use mathlib.Core.Path.{_≡_, refl}
 use mathlib.Core.Bool.{Bool, true}
 use mathlib.Core.List.{List, _++_, map}
 use Rattle.base.specs.Limits.{printing}
-use Rattle.base.specs.Lists.{all}
-use Rattle.base.specs.Lists.{range}
+use Rattle.base.specs.Lists.{all, range}
 use Rattle.order.specs.Definitions.{resolves}
 use Rattle.order.specs.Turns.{round, placements}
 use Rattle.order.proofs.Laws.Trials as schedules

@@ -6,15 +6,12 @@ use Prim.Native.String.{String, _++_}
 use lib.ListN.{length}
 use Rattle.base.specs.Limits as limits
 use Rattle.base.specs.Limits.{Limits, library}
-use Rattle.base.specs.Lists.{all}
-use Rattle.base.specs.Lists.{range}
+use Rattle.base.specs.Lists.{all, range, any, concatMap}
 use Rattle.order.specs.Definitions.{Definition}
 use Rattle.sheet.specs.Text.{bytes}
-use Rattle.base.specs.Lists.{any, concatMap}
 use Rattle.sheet.specs.Form.{same}
-use Rattle.sheet.specs.Sheet.{Sheet}
+use Rattle.sheet.specs.Sheet.{Sheet, sheetIn}
 use Rattle.definition.proofs.Laws.RustWay.{recorded}
-use Rattle.sheet.specs.Sheet.{sheetIn}
 use Rattle.answer.specs.Call.{Result, refused, answered, result, printed}
 
 -- A sheet, the definitions that its queries record, and the text that is printed.

@@ -1,5 +1,4 @@
 -- The loop's invariant: the places below k are written.
-use mathlib.Core.Path.{refl}
 use Prim.Native.Nat.{_+_, _-_, _≤_, _<_}
 use native.Mathlib.Omega.{arith}
 use lib.ListN.{length}

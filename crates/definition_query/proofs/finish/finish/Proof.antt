@@ -16,7 +16,8 @@ conclude-requires : tie.Need-conclude-requires
 conclude-requires c κs =
     let pre = c .before .before .before .before .before .before .before .pre in
     let fine = sym (c .before .before .before .is-sound .ensures) ∙ c .before .before .if1 .taken in
-    (pre .0, (pre .1, pre .2 fine))
+    let asked = pre .0 in
+    (asked .0, ((asked .1, asked .2 fine), pre .1 fine))
 
 same-length : tie.Need-same-length
 same-length c = search needs

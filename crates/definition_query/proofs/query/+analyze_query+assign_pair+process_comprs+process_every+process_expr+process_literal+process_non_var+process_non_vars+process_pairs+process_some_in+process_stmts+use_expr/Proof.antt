@@ -12,7 +12,6 @@ mod ProcessPairs
 mod ProcessSomeIn
 mod ProcessStmts
 mod UseExpr
-use Prim.Native.Nat.{ℕ}
 use Rattle.definition_query.proofs.query.+analyze_query+assign_pair+process_comprs+process_every+process_expr+process_literal+process_non_var+process_non_vars+process_pairs+process_some_in+process_stmts+use_expr.{statement}
 use Rattle.definition_query.proofs.query.+analyze_query+assign_pair+process_comprs+process_every+process_expr+process_literal+process_non_var+process_non_vars+process_pairs+process_some_in+process_stmts+use_expr.Tie.{close}
 use Rattle.definition_query.proofs.query.analyze_query.Reads as analyze-query

@@ -10,7 +10,7 @@ use borrow.Fn.PlainCycle.{Measures, is, falls, and}
 use Rattle.sheet.specs.Inner.Sheet.{rowAt}
 use Rattle.sheet.proofs.Laws.Sheet.{row-fields}
 use Rattle.scope_walk.specs.Inner.Walking.{remains}
-use Rattle.scope_walk.proofs.Laws.Walking.{row-low, low-name, guarded-list}
+use Rattle.scope_walk.proofs.Laws.Walking.{row-low, low-name, past-guard-list}
 use Rattle.definition_walk.proofs.Laws.Assigned.{LeafCalls, leaf-calls}
 use Rattle.definition_walk.specs.Inner.Index.{IndexDefined}
 use Rattle.definition_walk.proofs.Laws.Index.{index-none, leaf-fits, inner-fits, next-fits, index-turn}
@@ -111,7 +111,7 @@ inner-walk : (m : ℕ) (c : lts.Joined2 (known m) (here m) define-index.Post)
 inner-walk m c =
     let start = c .before .before .before .before .before .before .before .before .before .before .before in
     let a = start .args in
-    guarded-list (λ i x l y r. IndexDefined (a .tables .now) (a .width) (a .scope) (a .statement) i (a .used) l r x y) (λ x l. index-none _ _ _ (start .pre .1 .0) _ refl _ _ l x) _ _ _ _ _
+    past-guard-list (λ i x l y r. IndexDefined (a .tables .now) (a .width) (a .scope) (a .statement) i (a .used) l r x y) (λ x l. index-none _ _ _ (start .pre .1 .0) _ refl _ _ l x) _ _ _ _ _
     (λ w. (_, _, w .2 .ensures, w .2 .kept .1 .1 .1 .1 .1 .1 .0, w .5, w .6)) (λ w. (w .0 .left, w .1, w .2)) (c .if2 .came)
 
 kept : (m : ℕ) (c : lts.Joined2 (known m) (here m) define-index.Post)

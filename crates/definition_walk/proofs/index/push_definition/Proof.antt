@@ -1,11 +1,11 @@
 -- The statement, the name, and the words of the set that the width has.
-use mathlib.Core.Path.{_≡_, sym, ap, _∙_, subst}
+use mathlib.Core.Path.{sym, _∙_, subst}
 use Prim.Native.Nat.{ℕ, _+_, _*_, _≤_}
 use native.Mathlib.Omega.{arith}
 use lib.ListN.{length, set, length-set}
 use borrow.Author.Needs.{needs}
-use Rattle.names_width.specs.Inner.Widths.{setWords, rowWords, Put}
-use Rattle.names_width.proofs.Laws.Laws.{row-words, row-two}
+use Rattle.names_width.specs.Inner.Widths.{setWords, Put}
+use Rattle.names_width.proofs.Laws.Laws.{row-words}
 use Rattle.definition_walk.proofs.Laws.Appended.{row-pushed}
 use Rattle.definition_walk.proofs.index.push_definition.Statement.{statement}
 use Rattle.definition_walk.proofs.index.push_definition.Tie as tie

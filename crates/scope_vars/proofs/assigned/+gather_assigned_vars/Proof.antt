@@ -12,7 +12,7 @@ use Rattle.sheet.specs.Inner.Sheet.{rowAt}
 use Rattle.sheet.proofs.Laws.Sheet.{row-fields}
 use Rattle.scope_state.specs.declared.Scope.{Scope}
 use Rattle.scope_walk.specs.Inner.Walking.{remains}
-use Rattle.scope_walk.proofs.Laws.Walking.{Falls, row-low, low-name, pattern-calls, guarded-list}
+use Rattle.scope_walk.proofs.Laws.Walking.{Falls, row-low, low-name, pattern-calls, past-guard-list}
 use Rattle.scope_vars.specs.Inner.Assigned.{AssignWalk}
 use Rattle.scope_vars.proofs.Laws.Assigned.{assign-walk-none, assign-walk-turn}
 use Rattle.scope_vars.proofs.assigned.gather_assigned_vars.Reads as gather-assigned-vars
@@ -112,7 +112,7 @@ items-walk : (m : ℕ) (c : lts.Joined2 (known m) (here m) gather-assigned-vars.
 items-walk m c =
     let start = c .before .before .before .before .before .before .before .before .before .before .before .before in
     let a = start .args in
-    guarded-list (λ n. AssignWalk (a .tables .now) (a .outer .now) n true (a .can-shadow)) (assign-walk-none _ _ (start .pre .1 .accepted) true (a .can-shadow)) _ _ _ _ _
+    past-guard-list (λ n. AssignWalk (a .tables .now) (a .outer .now) n true (a .can-shadow)) (assign-walk-none _ _ (start .pre .1 .accepted) true (a .can-shadow)) _ _ _ _ _
     (λ w. (_, _, w .2 .ensures, w .2 .kept .1 .1 .1 .1 .1 .1 .0, w .5, w .6)) (λ w. (w .0 .left, w .1, w .2)) (c .if2 .came)
 
 kept : (m : ℕ) (c : lts.Joined2 (known m) (here m) gather-assigned-vars.Post) → length (c .if2 .spans) ≡ length (c .before .before .before .before .before .before .before .before .before .before .before .before .args .spans .now)

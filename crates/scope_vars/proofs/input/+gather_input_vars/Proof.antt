@@ -12,7 +12,7 @@ use Rattle.sheet.specs.Inner.Sheet.{rowAt}
 use Rattle.sheet.proofs.Laws.Sheet.{row-fields}
 use Rattle.scope_state.specs.Inner.Agrees.{scopeOf}
 use Rattle.scope_walk.specs.Inner.Walking.{remains}
-use Rattle.scope_walk.proofs.Laws.Walking.{Calls, row-low, low-name, calls, guarded-list}
+use Rattle.scope_walk.proofs.Laws.Walking.{Calls, row-low, low-name, calls, past-guard-list}
 use Rattle.scope_vars.specs.Inner.Inputs.{InputWalk}
 use Rattle.scope_vars.proofs.Laws.Inputs.{input-walk-none, input-walk-turn}
 use Rattle.scope_vars.proofs.input.gather_input_vars.Reads as gather-input-vars
@@ -125,7 +125,7 @@ first-walk : (m : ℕ) (c : lts.Joined2 (known m) (here m) gather-input-vars.Pos
 first-walk m c =
     let start = c .before .before .before .before .before .before .before .before .before .before in
     let a = start .args in
-    guarded-list (Walked (a .tables .now) (a .outer .now) (a .unscoped .now)) (λ f i l. input-walk-none _ _ (start .pre .1 .accepted) true _) _ _ _ _ _
+    past-guard-list (Walked (a .tables .now) (a .outer .now) (a .unscoped .now)) (λ f i l. input-walk-none _ _ (start .pre .1 .accepted) true _) _ _ _ _ _
     (λ w. (_, _, w .2 .ensures .done, w .2 .ensures .long, w .3, w .4)) (λ w. (w .0 .left, w .1, w .2)) (c .if2 .came)
 
 first-long : (m : ℕ) (c : lts.Joined2 (known m) (here m) gather-input-vars.Post) → length (c .if2 .inputs) ≡ 8
@@ -148,7 +148,7 @@ second-walk : (m : ℕ) (c : lts.Joined3 (known m) (here m) gather-input-vars.Po
 second-walk m c =
     let start = c .before .before .before .before .before .before .before .before .before .before .before .before in
     let a = start .args in
-    guarded-list (Walked (a .tables .now) (a .outer .now) (a .unscoped .now)) (λ f i l. input-walk-none _ _ (start .pre .1 .accepted) true _) _ _ _ _ _
+    past-guard-list (Walked (a .tables .now) (a .outer .now) (a .unscoped .now)) (λ f i l. input-walk-none _ _ (start .pre .1 .accepted) true _) _ _ _ _ _
     (λ w. (_, _, w .2 .ensures .done, w .2 .ensures .long, w .3, w .4)) (λ w. (w .0 .left, w .1, w .2)) (c .if3 .came)
 
 second-long : (m : ℕ) (c : lts.Joined3 (known m) (here m) gather-input-vars.Post) → length (c .if3 .inputs) ≡ 8
@@ -171,7 +171,7 @@ third-walk : (m : ℕ) (c : lts.Joined4 (known m) (here m) gather-input-vars.Pos
 third-walk m c =
     let start = c .before .before .before .before .before .before .before .before .before .before .before .before .before .before in
     let a = start .args in
-    guarded-list (Walked (a .tables .now) (a .outer .now) (a .unscoped .now)) (λ f i l. input-walk-none _ _ (start .pre .1 .accepted) true _) _ _ _ _ _
+    past-guard-list (Walked (a .tables .now) (a .outer .now) (a .unscoped .now)) (λ f i l. input-walk-none _ _ (start .pre .1 .accepted) true _) _ _ _ _ _
     (λ w. (_, _, w .2 .ensures .done, w .2 .ensures .long, w .3, w .4)) (λ w. (w .0 .left, w .1, w .2)) (c .if4 .came)
 
 third-long : (m : ℕ) (c : lts.Joined4 (known m) (here m) gather-input-vars.Post) → length (c .if4 .inputs) ≡ 8

@@ -1,5 +1,5 @@
 -- The row that was read.
-use mathlib.Core.Path.{_≡_, ap, _∙_}
+use mathlib.Core.Path.{ap, _∙_}
 use Prim.Native.Nat.{_-_}
 use Rattle.sheet_faults.specs.Inner.Tests.{builtinBy}
 use Rattle.sheet_faults.proofs.Laws.Tests.{builtin-is}

@@ -1,7 +1,7 @@
 -- The built-ins that are left have the path if the first n have it.
 use borrow.Author.Needs.{needs}
 use mathlib.Core.Path.{_≡_, refl, sym, _∙_}
-use Prim.Native.Nat.{ℕ, _-_, _≤_}
+use Prim.Native.Nat.{_≤_}
 use native.Mathlib.Omega.{arith}
 use Rattle.sheet_faults.specs.Inner.Tests.{pathBy}
 use Rattle.sheet_faults.proofs.Laws.Tests.{path-here, path-before, path-none}

@@ -1,6 +1,5 @@
 -- The field is what the byte says, and its tests are made in order. A number up to the limit is a row of the tables.
-use mathlib.Core.Path.{_≡_, ap, sym, _∙_, subst}
-use mathlib.Core.Bool.{Bool}
+use mathlib.Core.Path.{ap, sym, _∙_, subst}
 use Prim.Native.Nat.{ℕ, _≤_}
 use Rattle.sheet.specs.declared.Field.{Field}
 use Rattle.sheet_faults.specs.Inner.Tests.{faultIn}

@@ -1,5 +1,5 @@
 -- The row that was read, with its mark.
-use mathlib.Core.Path.{_≡_, ap, _∙_}
+use mathlib.Core.Path.{ap, _∙_}
 use lib.ListN.{getD}
 use native.Mathlib.Omega.{arith}
 use Rattle.sheet_faults.specs.Inner.Tests.{queryBy}

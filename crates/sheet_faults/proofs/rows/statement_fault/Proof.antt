@@ -1,9 +1,9 @@
 -- The row that was read, with its mark.
-use mathlib.Core.Path.{_≡_, ap, _∙_}
+use mathlib.Core.Path.{ap, _∙_}
 use lib.ListN.{getD}
 use Prim.Native.Nat.{_+_}
 use Rattle.sheet_faults.specs.Inner.Tests.{statementBy}
-use Rattle.sheet_faults.proofs.Laws.Tests.{statement-is}
+use Rattle.sheet_faults.proofs.Laws.Tests.{statement-fault-is}
 use borrow.Author.Needs.{needs}
 use Rattle.sheet_faults.proofs.rows.statement_fault.Statement.{statement}
 use Rattle.sheet_faults.proofs.rows.statement_fault.Tie as tie
@@ -26,7 +26,7 @@ judge-statement-requires c κs = search needs
 returns : tie.Need-returns
 returns c =
     let a = c .before .before .before .before .before .args in c .judge-statement .ensures ∙ ap (statementBy (a .counts) (a .tables .now) (getD (a .work .now) (32 + a .row) 0)) (c .before .before .statement-at .ensures)
-    ∙ statement-is (a .counts) (a .tables .now) (a .work .now) (c .before .before .before .before .before .pre .0) (a .row) (c .before .before .before .before .before .pre .1) (c .before .before .before .before .before .pre .2)
+    ∙ statement-fault-is (a .counts) (a .tables .now) (a .work .now) (c .before .before .before .before .before .pre .0) (a .row) (c .before .before .before .before .before .pre .1) (c .before .before .before .before .before .pre .2)
 
 pub statement-fault-spec : {M : Type 1} → statement M
 statement-fault-spec =

@@ -1,11 +1,9 @@
 -- Zeros as far as the loop came.
 use borrow.Author.Needs.{needs}
-use mathlib.Core.Path.{_≡_, refl, _∙_, subst, sym}
-use mathlib.Core.List.{List, []}
-use mathlib.Core.Logic.{⊎-elim}
+use mathlib.Core.Path.{_≡_, refl, _∙_}
 use Prim.Native.Nat.{ℕ, _≤_, _<_, _-_}
 use native.Mathlib.Omega.{arith}
-use lib.ListN.{length, getD, set, length-set}
+use lib.ListN.{length, getD, length-set}
 use Rattle.sheet.specs.Naming.{namers}
 use Rattle.sheet_marks.proofs.Laws.Rows.{zeros-more}
 use Rattle.sheet_marks.proofs.rows.clear.Statement.{statement}

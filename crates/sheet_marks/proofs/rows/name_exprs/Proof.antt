@@ -7,8 +7,7 @@ use native.Mathlib.Omega.{arith}
 use lib.Dec.{eqb}
 use lib.ListN.{length, getD}
 use Rattle.sheet.specs.declared.Row.{Row}
-use Rattle.sheet.specs.Naming.{exprRow}
-use Rattle.sheet.specs.Naming.{byExprs, namings}
+use Rattle.sheet.specs.Naming.{exprRow, byExprs, namings}
 use Rattle.sheet_marks.specs.Inner.Marks.{Marks, rowWork}
 use Rattle.sheet_marks.specs.Inner.Rows.{partsOf}
 use Rattle.sheet_marks.proofs.Laws.Rows.{next-expr}

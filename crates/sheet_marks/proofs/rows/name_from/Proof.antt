@@ -1,5 +1,5 @@
 -- A 0 names nothing. The field is what the byte says.
-use mathlib.Core.Path.{_≡_, ap, _∙_}
+use mathlib.Core.Path.{ap, _∙_}
 use Rattle.sheet.specs.declared.Field.{Field}
 use Rattle.sheet_marks.specs.Inner.Marks.{nameWork}
 use Rattle.sheet_marks.proofs.Laws.Steps.{name-zero}

@@ -1,9 +1,9 @@
 -- A 0 names nothing. The place is one of the rows.
-use mathlib.Core.Path.{_≡_, ap, _∙_}
-use Prim.Native.Nat.{ℕ, _≤_}
+use mathlib.Core.Path.{ap, _∙_}
+use Prim.Native.Nat.{ℕ}
 use native.Mathlib.Omega.{arith}
 use Rattle.sheet.specs.declared.Field.{Field}
-use Rattle.sheet.specs.Naming.{exprRow, placeOf}
+use Rattle.sheet.specs.Naming.{exprRow}
 use Rattle.sheet_marks.specs.Inner.Marks.{nameWork}
 use Rattle.sheet_marks.proofs.Laws.Steps.{name-zero}
 use Rattle.sheet_marks.specs.Inner.Rows.{partOf}

@@ -1,5 +1,5 @@
 -- One field.
-use mathlib.Core.Path.{_≡_, ap, _∙_}
+use mathlib.Core.Path.{ap, _∙_}
 use Prim.Native.Nat.{ℕ}
 use Rattle.sheet_fields.specs.Inner.Packed.{fieldFrom, statementOrNone}
 use Rattle.sheet.specs.Naming.{queryEntries}

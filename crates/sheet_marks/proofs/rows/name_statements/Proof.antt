@@ -6,8 +6,7 @@ use Prim.Native.Nat.{ℕ, _+_, _≤_, _-_}
 use native.Mathlib.Omega.{arith}
 use lib.ListN.{length}
 use Rattle.sheet.specs.declared.Statement.{Statement}
-use Rattle.sheet.specs.Naming.{statementRow}
-use Rattle.sheet.specs.Naming.{byStatements}
+use Rattle.sheet.specs.Naming.{statementRow, byStatements}
 use Rattle.sheet_marks.specs.Inner.Marks.{Marks, rowWork}
 use Rattle.sheet_marks.specs.Inner.Rows.{fieldsOf}
 use Rattle.sheet_marks.proofs.Laws.Rows.{next-statement}

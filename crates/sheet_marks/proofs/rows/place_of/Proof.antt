@@ -1,6 +1,5 @@
 -- By cases.
 use Rattle.sheet.specs.Naming.{placeOf, target}
-use Rattle.sheet.specs.declared.Counts.{Counts}
 use mathlib.Core.Path.{ap, _∙_}
 use Rattle.sheet.specs.declared.Field.{Field}
 use Rattle.sheet_fields.specs.Inner.Packed.{fieldFrom}

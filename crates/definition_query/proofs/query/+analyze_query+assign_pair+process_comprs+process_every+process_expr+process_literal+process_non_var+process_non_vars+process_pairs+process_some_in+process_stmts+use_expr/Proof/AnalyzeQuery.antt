@@ -12,7 +12,7 @@ use Rattle.scope_walk.specs.Inner.Exprs.{exprBy}
 use Rattle.definition_cycle.specs.Inner.Asks.{Begun}
 use Rattle.definition_cycle.specs.Inner.Does.{DoesComprs}
 use Rattle.definition_cycle.proofs.Laws.Guards.{KeepsLengths, walked-comprs, last-comprs}
-use Rattle.definition_cycle.proofs.Laws.OneQuery.{stmts-below, comprs-below, does-none, does-nothing, begun-of, Started, row-high, asks-stmts, Enclosed, asks-key, asks-value, room-last, based-last, does-query}
+use Rattle.definition_cycle.proofs.Laws.OneQuery.{stmts-below, comprs-below, does-none, does-nothing, begun-of, Started, row-high, asks-stmts, Enclosed, asks-key, asks-value, room-last, based-last, takes-last, does-query}
 use Rattle.definition_query.proofs.finish.begun.Reads as begun-reads
 use Rattle.definition_query.proofs.finish.finish.Reads as finish-reads
 use Rattle.definition_query.proofs.finish.opened.Reads as opened-reads
@@ -244,14 +244,17 @@ finish-requires m c κs =
     let x = encloses m e in
     let key = key-walk m (j4 .before) .0 in
     let value = value-walk m j4 .1 in (
-      record {
-        accepted = some .before .before .before .before .before .pre .1 .0;
-        from = b .from;
-        to = b .to;
-        spans-room = omega (arith, e .before .before .before .before .before .before .before .before .before .before .before .before .before .before .gather-local-vars .kept .1 .1 .1 .1 .1 .0);
-      },
-      room-last _ _ _ _ _ _ _ _ _ _ _ _ _ _ x _ _ _ key _ _ _ value,
-      based-last _ _ _ _ _ _ _ _ _ _ _ _ _ _ x _ _ _ key _ _ _ value,
+      (
+        record {
+          accepted = some .before .before .before .before .before .pre .1 .0;
+          from = b .from;
+          to = b .to;
+          spans-room = omega (arith, e .before .before .before .before .before .before .before .before .before .before .before .before .before .before .gather-local-vars .kept .1 .1 .1 .1 .1 .0);
+        },
+        room-last _ _ _ _ _ _ _ _ _ _ _ _ _ _ x _ _ _ key _ _ _ value,
+        based-last _ _ _ _ _ _ _ _ _ _ _ _ _ _ x _ _ _ key _ _ _ value,
+      ),
+      takes-last _ _ _ _ _ _ _ _ _ _ _ _ _ _ x _ _ _ key _ _ _ value,
     )
 
 pub same-length : (m : ℕ) → analyze-query-lts.Need-same-length (known m) (analyze-query-at m) analyze-query.Post

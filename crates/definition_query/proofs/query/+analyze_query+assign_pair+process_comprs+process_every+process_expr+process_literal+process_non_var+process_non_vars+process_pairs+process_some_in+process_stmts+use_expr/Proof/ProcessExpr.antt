@@ -15,7 +15,7 @@ use Rattle.scope_state.proofs.enclose.enclose.Reads as enclose-reads
 use Rattle.definition_literal.proofs.extra.bind_extras.Reads as bind-extras-reads
 use Rattle.definition_literal.proofs.extra.extra_arg.Reads as extra-arg-reads
 use Rattle.definition_literal.proofs.extra.extra_vars.Reads as extra-vars-reads
-use Rattle.definition_literal.proofs.kinds.is_assign.Reads as is-assign-reads
+use Rattle.scope_vars.proofs.vars.is_assign.Reads as is-assign-reads
 use Rattle.definition_literal.proofs.kinds.is_col_eq.Reads as is-col-eq-reads
 use Rattle.definition_record.proofs.record.record_each.Reads as record-each-reads
 use Rattle.sheet_rows.proofs.row_at.Reads as row-at-reads

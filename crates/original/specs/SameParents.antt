@@ -1,0 +1,1 @@
+-- A query analysed under other parents with the same locals and unscoped comes to the same run: the same schedules and the same fault.
