@@ -52,6 +52,10 @@ mostQueries = 32
 abbrev pub mostDefinitions : ℕ
 mostDefinitions = 640
 
+-- The parameters of a built-in.
+abbrev pub mostArity : ℕ
+mostArity = 255
+
 -- The level of a query. Row 1 is level 1.
 abbrev pub nesting : ℕ
 nesting = 8

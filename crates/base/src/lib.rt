@@ -20,6 +20,9 @@ pub const SHEET_BYTES: usize = 32768;
 
 pub const NAME_BYTES: usize = 32;
 
+// A value.
+pub const LARGEST_VALUE: u32 = 65535;
+
 // The rows of each section but the names.
 pub const BUILT_INS: usize = 64;
 
@@ -28,6 +31,9 @@ pub const EXPRESSIONS: usize = 512;
 pub const STATEMENTS: usize = 128;
 
 pub const QUERIES: usize = 32;
+
+// The parameters of a built-in.
+pub const ARITY: u16 = 255;
 
 // The definitions of a list; its statements are as many as a sheet's.
 pub const DEFINITIONS: usize = 640;

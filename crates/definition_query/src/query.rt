@@ -1,14 +1,14 @@
 // Query analysis. A query's statements lead to its comprehensions and bodies, each of which is a query of its own: one cycle of calls, in
 // which the levels that are left fall. A nested query is lent the part of work behind the rows of the one that it stands in.
 
-use crate::assign::assign;
-use crate::finish::begun;
-use crate::finish::finish;
-use crate::finish::opened;
-use crate::used_by::all_used;
-use crate::used_by::none_left;
-use crate::used_by::others_used;
-use crate::used_by::without_comprs;
+use definition_after::assign::assign;
+use definition_after::finish::begun;
+use definition_after::finish::finish;
+use definition_after::finish::opened;
+use definition_after::used_by::all_used;
+use definition_after::used_by::none_left;
+use definition_after::used_by::others_used;
+use definition_after::used_by::without_comprs;
 use definition_comprs::after::after_compr;
 use definition_comprs::pending::pending;
 use definition_expr::Using;

@@ -7,7 +7,7 @@ use lib.Dec.{eqb, leb, ltb}
 use lib.ListN.{getD}
 use Rattle.sheet.specs.declared.Counts.{Counts}
 use Rattle.sheet.specs.declared.Builtin.{Builtin}
-use Rattle.base.specs.Limits.{nesting}
+use Rattle.base.specs.Limits.{mostArity, nesting}
 use Rattle.sheet.specs.Sheet.{Rows}
 use Rattle.sheet.specs.declared.Field.{Field}
 use Rattle.sheet.specs.Fields.{querySection, limitOf}
@@ -85,7 +85,7 @@ module _ (c : Counts) (t : Rows) where
   builtinFault zero = false
   builtinFault (suc r) =
       let b = t .builtin (suc r) in
-      ltb 255 (b .arity) || (gap b || (beyondNames b || pathBefore r b))
+      ltb mostArity (b .arity) || (gap b || (beyondNames b || pathBefore r b))
 
 -- ---- the first line at fault
 

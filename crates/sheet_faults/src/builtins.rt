@@ -69,7 +69,7 @@ fn judge_builtin(tables: &[u16], counts: Counts, n: usize, b: Builtin) -> bool
     requires { ⌜ (limits.tableEntries ≤ length (now tables)) × (n ≤ limits.mostBuiltIns) ⌝ }
     ensures { λ r. ⌜ r ≡ builtinBy counts (now (tables .entry)) n b ⌝ }
 {
-    if 255 < b.arity {
+    if base::ARITY < b.arity {
         return true;
     }
     if has_gap(b) {

@@ -9,7 +9,7 @@ ghost use Rattle.sheet_values.specs.Inner.Fields.{FieldRead};
 ghost use Rattle.sheet_values.specs.Inner.Rows.{RowRead};
 
 // The largest value.
-const LARGEST: u32 = 65535;
+const LARGEST: u32 = base::LARGEST_VALUE;
 
 // Digits that are a number, their value, and the place behind them.
 pub struct Number {

@@ -6,7 +6,6 @@ use mathlib.Core.Logic.{_⊎_, inl, inr}
 use Prim.Native.Nat.{ℕ, _≤_}
 use native.Mathlib.Omega.{arith}
 use lib.Dec.{leb}
-use lib.ListN.{getD}
 use borrow.Author.Tests.{leb-true}
 use Rattle.base.specs.Limits as limits
 use Rattle.base.proofs.Laws.Truth.{eq-cases, and-left, and-right}
@@ -16,7 +15,7 @@ use Rattle.sheet_fields.proofs.Laws.Tables.{HoldsQuery}
 use Rattle.sheet.specs.declared.Row.{Row}
 use Rattle.sheet.specs.Inner.Sheet.{rowAt}
 use Rattle.sheet.specs.Kinds.{isCompr}
-use Rattle.scope_walk.specs.Inner.Sheets.{Accepted}
+use Rattle.scope_walk.specs.Inner.Sheets.{Accepted, exprCount, queryCount}
 use Rattle.definition_comprs.specs.Inner.Queries.{QueryIn}
 
 -- ---- the ways out of the test
@@ -37,12 +36,12 @@ query-field kind h = go (eq-cases kind 10) (eq-cases kind 11)
         let e : kind ≡ 12 = omega arith in
         rw e (refl, refl)
 
-module _ (t : List ℕ) (ok : Accepted t) (r : ℕ) (from : 1 ≤ r) (to : r ≤ getD t 2 0) (is : isCompr (rowAt t r) ≡ true) where
+module _ (t : List ℕ) (ok : Accepted t) (r : ℕ) (from : 1 ≤ r) (to : r ≤ exprCount t) (is : isCompr (rowAt t r) ≡ true) where
   pub query-from : 1 ≤ rowAt t r .third
   unfolding rowAt
   query-from = ok .facts .expr r from to .in-third .fine .is-set (query-field (exprAt t r .kind) is .1)
 
-  pub query-to : rowAt t r .third ≤ getD t 4 0
+  pub query-to : rowAt t r .third ≤ queryCount t
   unfolding rowAt
   query-to =
       let h = ok .facts .expr r from to .in-third .fine .in-range in
@@ -52,7 +51,7 @@ module _ (t : List ℕ) (ok : Accepted t) (r : ℕ) (from : 1 ≤ r) (to : r ≤
   query-low = omega (arith, query-to, ok .within .few-queries)
 
 -- The row that a walk has read.
-pub row-query : (t : List ℕ) → Accepted t → (r : ℕ) → (r ≡ 0 → ⊥) → r ≤ getD t 2 0 → (w : Row) → w ≡ rowAt t r → QueryIn w
+pub row-query : (t : List ℕ) → Accepted t → (r : ℕ) → (r ≡ 0 → ⊥) → r ≤ exprCount t → (w : Row) → w ≡ rowAt t r → QueryIn w
 row-query t ok r ne to w is c =
     let at : isCompr (rowAt t r) ≡ true = ap (λ (v : Row). isCompr v) (sym is) ∙ c in
     rw is (query-from t ok r (omega arith) to at, query-low t ok r (omega arith) to at)

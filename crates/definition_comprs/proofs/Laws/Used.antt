@@ -3,7 +3,6 @@ use mathlib.Core.Path.{_≡_, refl, sym, ap, _∙_, subst}
 use mathlib.Core.Bool.{Bool, true, false, cond, _&&_, _||_}
 use mathlib.Core.List.{List, [], _∷_, _++_}
 use Prim.Native.Nat.{ℕ, _≤_}
-use lib.ListN.{getD}
 use Rattle.base.specs.Lists.{elem, concatMap}
 use Rattle.base.proofs.Laws.Lists.{elem-filter}
 use Rattle.base.specs.Sets.{member}
@@ -24,7 +23,7 @@ use Rattle.definition_once.specs.Inner.OnceWay.{Nested, onceWay}
 use Rattle.scope_walk.specs.declared.Kids.{Kids}
 use Rattle.scope_walk.specs.Inner.Kids.{kidsOf}
 use Rattle.scope_state.specs.declared.Scope.{Scope}
-use Rattle.scope_walk.specs.Inner.Sheets.{Accepted}
+use Rattle.scope_walk.specs.Inner.Sheets.{Accepted, exprCount}
 use Rattle.scope_walk.specs.Inner.Exprs.{exprBy}
 use Rattle.definition_walk.proofs.Laws.Collects.{collected-none, collected-turn}
 use Rattle.definition_walk.specs.Inner.Adds.{Adds}
@@ -100,7 +99,7 @@ module _ (t : List ℕ) where
         ∙ collected-none t (atExpr s) ok rest in
         rw none (adds-none a)
 
-    pub used-turn : (row : ℕ) → (row ≡ 0 → ⊥) → row ≤ getD t 2 0 → (rest : Bool) (w : Row) → w ≡ rowAt t row
+    pub used-turn : (row : ℕ) → (row ≡ 0 → ⊥) → row ≤ exprCount t → (rest : Bool) (w : Row) → w ≡ rowAt t row
         → (p : Kids) → p ≡ kidsOf w → (next : ℕ) → next ≡ cond rest (w .next) 0 → (a s₀ s₁ s₂ s₃ s₄ : Names)
         → ComprStep v k work w a s₀ → ComprsUsed t v k work (p .first) true s₀ s₁ → ComprsUsed t v k work (p .second) true s₁ s₂
         → ComprsUsed t v k work (p .third) true s₂ s₃ → ComprsUsed t v k work next true s₃ s₄ → ComprsUsed t v k work row rest a s₄

@@ -5,7 +5,7 @@ use mathlib.Core.List.{List}
 use mathlib.Core.Logic.{_⊎_, inl, inr}
 use Prim.Native.Nat.{ℕ, _≤_}
 use native.Mathlib.Omega.{arith}
-use lib.ListN.{getD}
+use Rattle.scope_walk.specs.Inner.Sheets.{exprCount}
 use Rattle.scope.specs.Trees.{Tree}
 use Rattle.scope.specs.Traverse.{comprs}
 use Rattle.scope_walk.specs.Inner.Exprs.{exprBy}
@@ -15,10 +15,10 @@ use Rattle.definition_cycle.specs.Inner.Sites.{LiesIn}
 use Rattle.definition_cycle.specs.Inner.Does.{DoesComprs}
 
 module _ (t : List ℕ) (rest : Bool) (row at : ℕ) (c : ComprsAt t rest row at) where
-  pub at-low : row ≤ getD t 2 0 → at ≤ getD t 2 0
+  pub at-low : row ≤ exprCount t → at ≤ exprCount t
   at-low low = go (c .is)
     where
-      go : (at ≡ row) ⊎ (at ≡ 0) → at ≤ getD t 2 0
+      go : (at ≡ row) ⊎ (at ≡ 0) → at ≤ exprCount t
       go (inl e) = omega arith
       go (inr z) = omega arith
 

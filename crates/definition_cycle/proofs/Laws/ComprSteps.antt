@@ -20,7 +20,7 @@ use Rattle.scope.specs.Scopes.{Scope}
 use Rattle.definition.specs.States.{sound, Run, State, setRun}
 use Rattle.definition.specs.Comprs.{processCompr}
 use Rattle.definition_once.specs.Inner.OnceWay.{analyzeCompr}
-use Rattle.scope_walk.specs.Inner.Sheets.{sheetAt, Accepted}
+use Rattle.scope_walk.specs.Inner.Sheets.{sheetAt, Accepted, exprCount}
 use Rattle.scope_walk.specs.Inner.Exprs.{exprBy}
 use Rattle.scope_walk.proofs.Laws.Exprs.{tree-is, row-is}
 use Rattle.scope_state.specs.Inner.Chains.{chainAt}
@@ -40,7 +40,7 @@ use Rattle.definition_comprs.specs.Inner.After.{AfterCompr}
 use Rattle.definition_cycle.specs.Inner.Sites.{nestedBy, wayBy, Surrounds, RunsIn}
 use Rattle.definition_cycle.specs.Inner.Queries.{DoesQuery}
 
-module _ (t : List ℕ) (ok : Accepted t) (inner : List ℕ) (levels row : ℕ) (there : row ≡ 0 → ⊥) (high : row ≤ getD t 2 0) (w : Row)
+module _ (t : List ℕ) (ok : Accepted t) (inner : List ℕ) (levels row : ℕ) (there : row ≡ 0 → ⊥) (high : row ≤ exprCount t) (w : Row)
     (is : w ≡ rowAt t row) (third : isCompr w ≡ true → (1 ≤ w .third) × (w .third ≤ limits.mostQueries)) (p : Progress) (firsts work : List ℕ)
     (a : ℕ) (a-is : a ≡ Widths.rowWords (p .width) * p .count) (low : a + answersSize (p .width) ≤ length work)
     (query : ℕ) (asks : query ≡ pendingAt p w work) (fault : Fault) (part : List ℕ)

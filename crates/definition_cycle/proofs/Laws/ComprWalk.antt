@@ -5,7 +5,7 @@ use mathlib.Core.List.{List, [], _∷_, _++_, foldl-append}
 use mathlib.Core.Logic.{_⊎_, inl, inr}
 use Prim.Native.Nat.{ℕ, _+_, _*_, _≤_}
 use native.Mathlib.Omega.{arith}
-use lib.ListN.{length, getD}
+use lib.ListN.{length}
 use Rattle.base.proofs.Laws.Truth.{bool-cases, eq-cases}
 use Rattle.names_width.specs.Inner.Widths as Widths
 use Rattle.answer_blocks.specs.Inner.Layout.{answersSize}
@@ -26,7 +26,7 @@ use Rattle.scope_walk.proofs.Laws.Walks.{aloneAt}
 use Rattle.definition_room.proofs.Laws.Lying.{lies-there}
 use Rattle.definition_room.proofs.Laws.Homes as homes
 use Rattle.definition_room.proofs.Laws.Homes.{Opens, kids-lie, next-lies, compr-opens}
-use Rattle.scope_walk.specs.Inner.Sheets.{countsAt, specialAt, sheetAt, Accepted}
+use Rattle.scope_walk.specs.Inner.Sheets.{countsAt, specialAt, sheetAt, Accepted, exprCount}
 use Rattle.scope_walk.specs.Inner.Exprs.{exprBy}
 use Rattle.scope_walk.proofs.Laws.Exprs.{tree-is}
 use Rattle.scope_walk.proofs.Laws.Walking.{first-low, second-low}
@@ -96,7 +96,7 @@ module _ (t inner : List ℕ) (levels : ℕ) where
 abbrev pub ownCompr : List ℕ → ℕ → Row → List Tree
 ownCompr t row w = cond (isCompr w) (exprBy t false row ∷ []) []
 
-module _ (t : List ℕ) (ok : Accepted t) (inner : List ℕ) (row : ℕ) (there : row ≡ 0 → ⊥) (high : row ≤ getD t 2 0) (w : Row) (is : w ≡ rowAt t row) where
+module _ (t : List ℕ) (ok : Accepted t) (inner : List ℕ) (row : ℕ) (there : row ≡ 0 → ⊥) (high : row ≤ exprCount t) (w : Row) (is : w ≡ rowAt t row) where
   abbrev own : List Tree
   own = ownCompr t row w
 

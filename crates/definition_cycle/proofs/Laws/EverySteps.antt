@@ -35,7 +35,7 @@ use Rattle.definition_room.proofs.Laws.Using.{adds-record-one}
 use Rattle.definition_room.proofs.Laws.Comprs.{adds-use-expr}
 use Rattle.definition_room.proofs.Laws.Lying.{statement-there}
 use Rattle.definition_room.proofs.Laws.StatementHomes.{StatementInside, statement-lies, every-opens}
-use Rattle.scope_walk.specs.Inner.Sheets.{countsAt, sheetAt, Accepted}
+use Rattle.scope_walk.specs.Inner.Sheets.{countsAt, sheetAt, Accepted, queryCount}
 use Rattle.scope_gather.specs.Inner.Statements.{NamedParts}
 use Rattle.scope_gather.proofs.Laws.Queries.{named-at}
 use Rattle.scope_state.specs.Inner.Chains.{chainAt}
@@ -109,9 +109,9 @@ module _ (t : List ℕ) (ok : Accepted t) (outer spans : List ℕ) (st : Stateme
       subst (StatementInside (countsAt t) t (asks .under .at .query)) (sym (asks .is))
       (statement-lies (countsAt t) t (ok .within) (ok .fine) (asks .under .at .query) (asks .row) (asks .there) (asks .low) here)
 
-  opens : Nests (countsAt t) (inTables t) (asks .under .at .query) (st .query) × (st .query ≤ getD t 4 0)
+  opens : Nests (countsAt t) (inTables t) (asks .under .at .query) (st .query) × (st .query ≤ queryCount t)
   opens =
-      subst (λ (v : Statement). Nests (countsAt t) (inTables t) (asks .under .at .query) (v .query) × (v .query ≤ getD t 4 0)) (sym (asks .is))
+      subst (λ (v : Statement). Nests (countsAt t) (inTables t) (asks .under .at .query) (v .query) × (v .query ≤ queryCount t)) (sym (asks .is))
       (every-opens (countsAt t) t (ok .within) (ok .fine) (asks .under .at .query) (asks .row) (asks .there) (asks .low) here
       (ap (λ (v : Statement). v .form) (sym (asks .is)) ∙ five))
 

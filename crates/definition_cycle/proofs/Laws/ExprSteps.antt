@@ -7,7 +7,7 @@ use mathlib.Core.Option.{none, some}
 use Prim.Native.Nat.{ℕ, suc, _+_, _≤_, max}
 use native.Mathlib.Omega.{arith}
 use lib.Dec.{eqb}
-use lib.ListN.{length, getD}
+use lib.ListN.{length}
 use borrow.Author.Tests.{eq-eqb, ne-eqb, eqb-true}
 use Rattle.base.proofs.Laws.Truth.{bool-cases, eq-cases, not-both}
 use Rattle.base.specs.Sets.{members}
@@ -33,7 +33,7 @@ use Rattle.definition_room.proofs.Laws.Extras.{extra-few, extra-fits}
 use Rattle.definition_room.proofs.Laws.Adds.{Step, step-if, adds-set-scope}
 use Rattle.definition_room.proofs.Laws.Lying.{lies-there}
 use Rattle.definition_room.proofs.Laws.Homes.{assign-no-compr, fields-lie}
-use Rattle.scope_walk.specs.Inner.Sheets.{countsAt, sheetAt, Accepted}
+use Rattle.scope_walk.specs.Inner.Sheets.{countsAt, sheetAt, Accepted, exprCount}
 use Rattle.scope_walk.specs.Inner.Exprs.{exprBy}
 use Rattle.scope_walk.proofs.Laws.Exprs.{tree-is, row-is, first-is, second-is}
 use Rattle.scope_state.specs.Inner.Outers.{Outer}
@@ -88,10 +88,10 @@ module _ (t : List ℕ) (ok : Accepted t) (outer spans : List ℕ) (row : ℕ) (
   there : row ≡ 0 → ⊥
   there z = omega (arith, asks .there)
 
-  pub arg-low : arg ≤ getD t 2 0
+  pub arg-low : arg ≤ exprCount t
   arg-low = go which
     where
-      go : ExtraArg t row call arg → arg ≤ getD t 2 0
+      go : ExtraArg t row call arg → arg ≤ exprCount t
       go (inl a) = omega (arith, a .zero)
       go (inr a) = a .high
 

@@ -6,7 +6,6 @@ use mathlib.Core.Logic.{_⊎_, inl, inr}
 use Prim.Native.Nat.{ℕ, suc, _≤_, _<_}
 use native.Mathlib.Omega.{arith}
 use lib.Dec.{eqb}
-use lib.ListN.{getD}
 use borrow.Author.Tests.{eq-eqb}
 use Rattle.base.proofs.Laws.Truth.{lt-cases}
 use Rattle.sheet.specs.declared.Statement.{Statement}
@@ -29,7 +28,7 @@ use Rattle.definition.specs.Queries.{processEvery, processLiteral}
 use Rattle.definition_room.specs.Inner.Sizes.{size, literalSize}
 use Rattle.definition_room.proofs.Laws.Lying.{statement-there}
 use Rattle.definition_room.proofs.Laws.StatementHomes.{StatementInside, statement-lies}
-use Rattle.scope_walk.specs.Inner.Sheets.{countsAt, sheetAt, Accepted}
+use Rattle.scope_walk.specs.Inner.Sheets.{countsAt, sheetAt, Accepted, exprCount}
 use Rattle.scope_state.specs.Inner.Chains.{chainAt}
 use Rattle.scope_gather.proofs.Laws.Queries.{named-at}
 use Rattle.scope_gather.specs.Inner.Statements.{NamedParts}
@@ -142,7 +141,7 @@ module _ (t : List ℕ) (st : Statement) where
         (statement-lies (countsAt t) t (ok .within) (ok .fine) q (asks .row) (asks .there) (asks .low)
         (statement-there (countsAt t) t q (asks .row) (asks .there) (asks .lies)))
 
-    pub literal-first-low : st .first ≤ getD t 2 0
+    pub literal-first-low : st .first ≤ exprCount t
     literal-first-low = named .first
 
     module _ (r : Progress) (firsts′ work′ : List ℕ) where

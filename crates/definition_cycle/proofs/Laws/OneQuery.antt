@@ -31,7 +31,7 @@ use Rattle.definition_room.specs.Inner.Lying.{StatementLies}
 use Rattle.definition_room.proofs.Laws.StatementHomes.{first-lies}
 use Rattle.scope_walk.proofs.Laws.Onwards.{left-most}
 use Rattle.scope_state.specs.declared.Scope.{Scope}
-use Rattle.scope_walk.specs.Inner.Sheets.{countsAt, specialAt, sheetAt, Accepted}
+use Rattle.scope_walk.specs.Inner.Sheets.{countsAt, specialAt, sheetAt, Accepted, statementCount}
 use Rattle.scope_state.specs.Inner.Chains.{chainAt}
 use Rattle.scope_state.specs.Inner.Outers.{Outer}
 use Rattle.scope_walk.specs.Inner.Walking.{remains}
@@ -74,7 +74,7 @@ use Rattle.definition_cycle.specs.Inner.Queries.{DoesQuery}
 use Rattle.definition_cycle.specs.Inner.Ends.{begin, OpenedFrom, Finished}
 
 few-stmts : (t : List ℕ) → Accepted t → (row : ℕ) → stmtsLeft t row ≤ 129
-few-stmts t ok row = omega (arith, left-most (getD t 3 0) row, ok .within .few-statements)
+few-stmts t ok row = omega (arith, left-most (statementCount t) row, ok .within .few-statements)
 
 -- ---- the calls are a level below
 
@@ -178,7 +178,7 @@ module _ (t : List ℕ) (z : Width) (outer work : List ℕ) (query key value : �
   unfolding stmtsOf
   stmts-are = rw (x .is, first-statement-is t outer query (x .begun .from) (x .begun .to))
 
-  pub row-high : row ≤ getD t 3 0
+  pub row-high : row ≤ statementCount t
   row-high = omega (arith, x .is, first-statement-low t outer (x .ok) query (x .begun .from) (x .begun .to))
 
   pub asks-stmts : AsksStmts t outer spans row 0 p firsts work

@@ -7,7 +7,7 @@ use mathlib.Core.Logic.{inl}
 use Prim.Native.Nat.{ℕ, _+_, _≤_}
 use native.Mathlib.Omega.{arith}
 use lib.Dec.{eqb}
-use lib.ListN.{length, getD}
+use lib.ListN.{length}
 use Rattle.base.proofs.Laws.Truth.{and-left, and-right, or-left}
 use Rattle.sheet.specs.declared.Row.{Row}
 use Rattle.sheet.specs.Inner.Sheet.{rowAt}
@@ -22,7 +22,7 @@ use Rattle.definition_room.specs.Inner.Exprs.{pairCost}
 use Rattle.scope_walk.specs.Inner.Kids.{kidsOf}
 use Rattle.definition_room.proofs.Laws.Lying.{lies-there}
 use Rattle.definition_room.proofs.Laws.Homes.{pattern-no-compr, next-lies, fields-lie}
-use Rattle.scope_walk.specs.Inner.Sheets.{countsAt, sheetAt, Accepted}
+use Rattle.scope_walk.specs.Inner.Sheets.{countsAt, sheetAt, Accepted, exprCount}
 use Rattle.scope_walk.specs.Inner.Exprs.{exprBy}
 use Rattle.scope_state.specs.Inner.Chains.{chainAt}
 use Rattle.scope_walk.specs.Inner.Walking.{remains}
@@ -103,12 +103,12 @@ module _ (t : List ℕ) (l r : ℕ) (a b : Row) (pr : Pair) where
   pub record Split : Type 0 where
     pub is : pairsAt t l r
         ≡ ((unequal b (pr .differs) ++ pairAt t (pr .left) (pr .right)) ++ pairsAt t (pr .lefts) (pr .rights)) ++ pairsAt t (a .next) (b .next)
-    pub left-low : pr .left ≤ getD t 2 0
-    pub right-low : pr .right ≤ getD t 2 0
+    pub left-low : pr .left ≤ exprCount t
+    pub right-low : pr .right ≤ exprCount t
     pub lefts-fall : Falls t (remains t l) (pr .lefts)
-    pub rights-low : pr .rights ≤ getD t 2 0
+    pub rights-low : pr .rights ≤ exprCount t
     pub next-falls : Falls t (remains t l) (a .next)
-    pub next-low : b .next ≤ getD t 2 0
+    pub next-low : b .next ≤ exprCount t
     pub left-lies : (q : ℕ) → LiesIn t q l → LiesIn t q (pr .left)
     pub right-lies : (q : ℕ) → LiesIn t q r → LiesIn t q (pr .right)
     pub lefts-lie : (q : ℕ) → LiesIn t q l → LiesIn t q (pr .lefts)
@@ -118,7 +118,7 @@ module _ (t : List ℕ) (l r : ℕ) (a b : Row) (pr : Pair) where
 
 module _ (t : List ℕ) (ok : Accepted t) where
   -- A row of the table.
-  module _ (row : ℕ) (there : row ≡ 0 → ⊥) (high : row ≤ getD t 2 0) where
+  module _ (row : ℕ) (there : row ≡ 0 → ⊥) (high : row ≤ exprCount t) where
     after-lies : (q : ℕ) → LiesIn t q row → LiesIn t q (rowAt t row .next)
     after-lies q h =
         next-lies (countsAt t) t (ok .within) (ok .fine) q row (omega arith) high (lies-there (countsAt t) t q row (omega arith) h)
@@ -132,7 +132,7 @@ module _ (t : List ℕ) (ok : Accepted t) where
     none-falls : Falls t (remains t row) 0
     none-falls = calls t ok row there high (remains t row) refl false (rowAt t row) refl (kidsOf (rowAt t row)) refl .next
 
-  module _ (l : ℕ) (some : l ≡ 0 → ⊥) (high : l ≤ getD t 2 0) (r : ℕ) (there : r ≡ 0 → ⊥) (upto : r ≤ getD t 2 0) where
+  module _ (l : ℕ) (some : l ≡ 0 → ⊥) (high : l ≤ exprCount t) (r : ℕ) (there : r ≡ 0 → ⊥) (upto : r ≤ exprCount t) where
     abbrev left-row : Row
     left-row = rowAt t l
 

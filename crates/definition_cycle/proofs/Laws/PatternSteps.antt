@@ -5,7 +5,6 @@ use mathlib.Core.List.{List, [], _∷_, _++_, foldl, foldl-append}
 use mathlib.Core.Logic.{_⊎_, inl, inr}
 use Prim.Native.Nat.{ℕ, suc, _+_, _≤_}
 use native.Mathlib.Omega.{arith}
-use lib.ListN.{getD}
 use Rattle.base.proofs.Laws.Truth.{bool-cases}
 use Rattle.sheet.specs.declared.Row.{Row}
 use Rattle.sheet.specs.Inner.Sheet.{rowAt}
@@ -24,7 +23,7 @@ use Rattle.sheet.specs.Naming.{exprRow}
 use Rattle.sheet.specs.Inner.Enclosing.{enclosingQuery}
 use Rattle.definition_room.proofs.Laws.Lying.{lies-there}
 use Rattle.definition_room.proofs.Laws.Homes.{pattern-no-compr, next-lies, fields-lie}
-use Rattle.scope_walk.specs.Inner.Sheets.{countsAt, sheetAt, Accepted}
+use Rattle.scope_walk.specs.Inner.Sheets.{countsAt, sheetAt, Accepted, exprCount}
 use Rattle.scope_walk.specs.Inner.Exprs.{exprBy}
 use Rattle.definition_steps.proofs.Laws.Guards.{fault-cases, non-vars-stay}
 use Rattle.definition_steps.proofs.Laws.Same.{same-non-vars}
@@ -108,7 +107,7 @@ module _ (t : List ℕ) where
           (sym (ap (λ (es : List Tree). processParts (x .levels) parents (x .statement) m es s) (non-vars-none t (s .scope) ok row z))) a;
     }
 
-    module _ (row : ℕ) (there : row ≡ 0 → ⊥) (high : row ≤ getD t 2 0) (w : Row) (is : w ≡ rowAt t row) (items : ℕ)
+    module _ (row : ℕ) (there : row ≡ 0 → ⊥) (high : row ≤ exprCount t) (w : Row) (is : w ≡ rowAt t row) (items : ℕ)
         (ps : items ≡ cond (isPattern w) (w .first) 0) (x : Context) (p : Progress) (other : ℕ) (os : NonVar t (p .scope) row w other)
         (firsts work : List ℕ) where
       abbrev Given : Type 0

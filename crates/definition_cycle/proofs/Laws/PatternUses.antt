@@ -3,7 +3,6 @@ use mathlib.Core.Path.{_≡_, sym, ap, _∙_, subst}
 use mathlib.Core.Bool.{true, false, cond}
 use mathlib.Core.List.{List, [], _++_, append-assoc, append-nil}
 use Prim.Native.Nat.{ℕ, _≤_}
-use lib.ListN.{getD}
 use Rattle.names.specs.Inner.Sets.{Empty}
 use Rattle.names.specs.declared.Names.{Names}
 use Rattle.names_width.specs.declared.Width.{Width}
@@ -18,7 +17,7 @@ use Rattle.definition.specs.Comprs.{comprsUse, allUsed}
 use Rattle.definition.specs.SomeIn.{nonVars}
 use Rattle.definition_once.specs.Inner.OnceWay.{onceWay}
 use Rattle.scope_state.specs.declared.Scope.{Scope}
-use Rattle.scope_walk.specs.Inner.Sheets.{sheetAt, Accepted}
+use Rattle.scope_walk.specs.Inner.Sheets.{sheetAt, Accepted, exprCount}
 use Rattle.scope_walk.specs.Inner.Exprs.{exprBy}
 use Rattle.definition_walk.specs.Inner.Own.{Holds}
 use Rattle.definition_walk.specs.Inner.Adds.{Adds}
@@ -64,7 +63,7 @@ module _ (t : List ℕ) (v : Width) (k : Scope) (work : List ℕ) where
     pub leaves-used-none : (row : ℕ) → row ≡ 0 → (mods : ℕ) (a : Names) → LeavesUsed t v k row mods work a a
     leaves-used-none row z mods a nested parents s h stored = rw (non-vars-none t (s .scope) ok row z) (adds-none a)
 
-    pub leaves-used-turn : (row : ℕ) → (row ≡ 0 → ⊥) → row ≤ getD t 2 0 → (w : Row) → w ≡ rowAt t row
+    pub leaves-used-turn : (row : ℕ) → (row ≡ 0 → ⊥) → row ≤ exprCount t → (w : Row) → w ≡ rowAt t row
         → (items : ℕ) → items ≡ cond (isPattern w) (w .first) 0 → (other : ℕ) → NonVar t k row w other
         → (mods : ℕ) (a s₀ s₁ s₂ : Names) → OtherUsed t v k other mods work a s₀ → LeavesUsed t v k items mods work s₀ s₁
         → LeavesUsed t v k (w .next) mods work s₁ s₂ → LeavesUsed t v k row mods work a s₂

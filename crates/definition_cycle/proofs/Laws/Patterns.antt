@@ -5,7 +5,6 @@ use mathlib.Core.List.{List, [], _∷_, _++_, append-assoc, append-nil}
 use mathlib.Core.Logic.{_⊎_, inl, inr}
 use Prim.Native.Nat.{ℕ, zero, suc, _≤_}
 use native.Mathlib.Omega.{arith}
-use lib.ListN.{getD}
 use Rattle.base.proofs.Laws.Lists.{filter-append}
 use Rattle.sheet.specs.declared.Row.{Row}
 use Rattle.sheet.specs.Inner.Sheet.{rowAt}
@@ -15,7 +14,7 @@ use Rattle.scope.specs.Trees.{Tree}
 use Rattle.scope.specs.Scopes.{Scope, isLocal}
 use Rattle.definition.specs.SomeIn.{nonVars}
 use Rattle.scope_state.specs.declared.Scope.{Scope as Kept}
-use Rattle.scope_walk.specs.Inner.Sheets.{sheetAt, Accepted}
+use Rattle.scope_walk.specs.Inner.Sheets.{sheetAt, Accepted, exprCount}
 use Rattle.scope_walk.specs.Inner.Exprs.{exprBy}
 use Rattle.scope_walk.proofs.Laws.Exprs.{row-is}
 use Rattle.definition_steps.proofs.Laws.Pairs.{leaves-at-none, leaves-at-row}
@@ -42,7 +41,7 @@ module _ (t : List ℕ) where
       unfolding nonVars
       non-vars-none row z = rw (leaves-at-none t ok row z)
 
-      module _ (row : ℕ) (there : row ≡ 0 → ⊥) (high : row ≤ getD t 2 0) where
+      module _ (row : ℕ) (there : row ≡ 0 → ⊥) (high : row ≤ exprCount t) where
         one : (b : Bool) → isName (rowAt t row) ≡ b → nonVars (sheetAt t) sc (exprBy t false row ∷ []) ≡ otherAt t (cond b 0 row)
         unfolding nonVars
         one true h = rw (row-is t ok row there high false, h)

@@ -5,7 +5,7 @@ use mathlib.Core.Logic.{inl, inr}
 use Prim.Native.Nat.{ℕ, _≤_}
 use native.Mathlib.Omega.{arith}
 use lib.Dec.{leb}
-use lib.ListN.{length, getD, replicate, getD-replicate}
+use lib.ListN.{length, replicate, getD-replicate}
 use borrow.Author.Tests.{lt-leb}
 use Rattle.base.specs.Limits as limits
 use Rattle.names_width.specs.declared.Width.{Width}
@@ -14,7 +14,7 @@ use Rattle.scope.specs.Trees.{Tree}
 use Rattle.scope.specs.Scopes.{varExists}
 use Rattle.definition.specs.States.{sound, Run}
 use Rattle.definition_once.specs.Inner.OnceWay.{analyzeOnce, analyzeQuerySnippetOnce}
-use Rattle.scope_walk.specs.Inner.Sheets.{sheetAt, Accepted}
+use Rattle.scope_walk.specs.Inner.Sheets.{sheetAt, Accepted, queryCount}
 use Rattle.scope_state.specs.Inner.Chains.{chainAt}
 use Rattle.scope_state.proofs.Laws.Chains.{chain-none}
 use Rattle.scope_state.specs.Inner.Outers.{Outer}
@@ -39,7 +39,7 @@ abbrev fresh : Run
 fresh = record { schedules = []; fault = sound }
 
 module _ (v : Width) (t : List ℕ) (ok : Accepted t) (outer : List ℕ) (none : Outer outer []) (work : List ℕ) (table : Table v t work []) where
-  pub outer-asks : 1 ≤ getD t 4 0 → limit.work v ≤ length work → AsksQuery t v outer work 1 0 0
+  pub outer-asks : 1 ≤ queryCount t → limit.work v ≤ length work → AsksQuery t v outer work 1 0 0
   outer-asks some enough = inr (record {
     from = omega arith;
     to = some;

@@ -42,7 +42,7 @@ use Rattle.definition_room.proofs.Laws.Recording.{AddsFor, for-if}
 use Rattle.definition_room.proofs.Laws.Statements.{adds-process-literal, adds-with-mods, adds-process-stmt}
 use Rattle.definition_room.proofs.Laws.Lying.{statement-there}
 use Rattle.definition_room.proofs.Laws.StatementHomes.{StatementInside, statement-lies}
-use Rattle.scope_walk.specs.Inner.Sheets.{countsAt, sheetAt, Accepted}
+use Rattle.scope_walk.specs.Inner.Sheets.{countsAt, sheetAt, Accepted, exprCount, statementCount}
 use Rattle.scope_state.specs.Inner.Chains.{chainAt}
 use Rattle.scope_state.specs.Inner.Outers.{Outer}
 use Rattle.scope_gather.specs.Inner.Queries.{stmtsLeft, stmtsAtRow}
@@ -92,7 +92,7 @@ module _ (t : List ℕ) (ok : Accepted t) (outer spans : List ℕ) (row i levels
     agrees = λ parents s o a. a;
   })
 
-  module _ (there : row ≡ 0 → ⊥) (high : row ≤ getD t 3 0) (st : Statement) (is : st ≡ statementRowAt t row) (p : Progress)
+  module _ (there : row ≡ 0 → ⊥) (high : row ≤ statementCount t) (st : Statement) (is : st ≡ statementRowAt t row) (p : Progress)
       (firsts work : List ℕ) (asks : AsksStmts t outer spans row i p firsts work) where
     abbrev chained : List Tree
     chained = chainAt t (st .with)
@@ -117,7 +117,7 @@ module _ (t : List ℕ) (ok : Accepted t) (outer spans : List ℕ) (row i levels
 
     -- ---- the modifiers
 
-    pub with-low : st .with ≤ getD t 2 0
+    pub with-low : st .with ≤ exprCount t
     with-low = rw is (ok .facts .statement row (omega arith) high .in-with)
 
     pub mods-ready : Ready t p firsts work (total bracketVars chained)

@@ -3,7 +3,7 @@ use mathlib.Core.Path.{_≡_}
 use mathlib.Core.Bool.{true, false}
 use mathlib.Core.List.{List, [], _∷_}
 use mathlib.Core.Logic.{_⊎_}
-use Prim.Native.Nat.{ℕ, zero, suc, _+_, _≤_}
+use Prim.Native.Nat.{ℕ, zero, suc, _+_, _*_, _≤_}
 use lib.ListN.{length}
 use Rattle.base.specs.Limits as limits
 use Rattle.base.specs.Lists.{all}
@@ -126,7 +126,7 @@ module _ (t : List ℕ) where
   pub record AsksStmts (outer spans : List ℕ) (row i : ℕ) (p : Progress) (firsts work : List ℕ) : Type 0 where
     pub under : Under t outer spans p firsts work (total budget ((stmtsAtRow t) row))
     pub lies : StatementLies (countsAt t) t (under .at .query) row
-    pub few : i + stmtsLeft t row ≤ 256
+    pub few : i + stmtsLeft t row ≤ 2 * limits.mostStatements
     pub older : under .at .state .run .fault ≡ sound → all (below i) (under .at .state .definitions) ≡ true
 
   -- ---- queries

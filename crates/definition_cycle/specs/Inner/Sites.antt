@@ -2,12 +2,12 @@
 use mathlib.Core.Path.{_≡_}
 use mathlib.Core.List.{List, _∷_}
 use Prim.Native.Nat.{ℕ, _+_, _≤_}
-use lib.ListN.{length, getD}
+use lib.ListN.{length}
 use Rattle.scope.specs.Scopes.{Scope}
 use Rattle.definition.specs.States.{sound, State, Way}
 use Rattle.definition_once.specs.Inner.OnceWay.{Nested, onceWay, analyzeOnce}
 use Rattle.definition_room.specs.Inner.Lying.{Lies}
-use Rattle.scope_walk.specs.Inner.Sheets.{countsAt, sheetAt}
+use Rattle.scope_walk.specs.Inner.Sheets.{countsAt, sheetAt, queryCount}
 use Rattle.scope_state.specs.Inner.Outers.{Outer}
 use Rattle.definition_state.specs.declared.Progress.{Progress}
 use Rattle.definition_state.specs.Inner.Frames.{Room, Agree, Grown}
@@ -31,7 +31,7 @@ module _ (t : List ℕ) where
   pub record SiteAt (spans : List ℕ) (p : Progress) (firsts work : List ℕ) (more : ℕ) : Type 0 where
     pub query : ℕ
     pub from : 1 ≤ query
-    pub to : query ≤ getD t 4 0
+    pub to : query ≤ queryCount t
     pub parents : List Scope
     pub state : State
     pub agrees : Agree t spans p firsts work state

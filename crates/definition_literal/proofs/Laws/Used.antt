@@ -3,14 +3,13 @@ use mathlib.Core.Path.{_≡_, sym, subst}
 use mathlib.Core.Bool.{Bool, true, cond}
 use mathlib.Core.List.{List}
 use Prim.Native.Nat.{ℕ, _≤_}
-use lib.ListN.{getD}
 use Rattle.names.specs.declared.Names.{Names}
 use Rattle.sheet.specs.declared.Row.{Row}
 use Rattle.sheet.specs.Inner.Sheet.{rowAt}
 use Rattle.scope_walk.specs.declared.Kids.{Kids}
 use Rattle.scope_walk.specs.Inner.Kids.{kidsOf}
 use Rattle.scope_state.specs.declared.Scope.{Scope}
-use Rattle.scope_walk.specs.Inner.Sheets.{Accepted}
+use Rattle.scope_walk.specs.Inner.Sheets.{Accepted, exprCount}
 use Rattle.definition_walk.specs.Inner.Adds.{Adds}
 use Rattle.definition_walk.proofs.Laws.Adds.{adds-none, adds-then}
 use Rattle.definition_walk.specs.Inner.UsedVars.{UsedStep}
@@ -23,7 +22,7 @@ module _ (t : List ℕ) (k : Scope) (extras : Names) where
     names-walk-none row z rest a s h l o = rw (z, names-none t s l ok rest) (adds-none a)
 
     -- A row's turn: what it uses by itself, then its parts, then the rest of its chain.
-    pub names-walk-turn : (row : ℕ) → (row ≡ 0 → ⊥) → row ≤ getD t 2 0 → (rest : Bool) (w : Row) → w ≡ rowAt t row
+    pub names-walk-turn : (row : ℕ) → (row ≡ 0 → ⊥) → row ≤ exprCount t → (rest : Bool) (w : Row) → w ≡ rowAt t row
         → (p : Kids) → p ≡ kidsOf w → (next : ℕ) → next ≡ cond rest (w .next) 0 → (a s₀ s₁ s₂ s₃ s₄ : Names)
         → UsedStep t k extras w a s₀ → NamesWalk t k extras (p .first) true s₀ s₁ → NamesWalk t k extras (p .second) true s₁ s₂ → NamesWalk t k extras (p .third) true s₂ s₃
         → NamesWalk t k extras next true s₃ s₄ → NamesWalk t k extras row rest a s₄

@@ -5,10 +5,9 @@ use mathlib.Core.List.{List}
 use mathlib.Core.Logic.{_⊎_}
 use mathlib.Core.Option.{none, some}
 use Prim.Native.Nat.{ℕ, _≤_}
-use lib.ListN.{getD}
 use Rattle.scope.specs.Trees.{treeAt}
 use Rattle.scope.specs.Paths.{getExtraArg}
-use Rattle.scope_walk.specs.Inner.Sheets.{sheetAt}
+use Rattle.scope_walk.specs.Inner.Sheets.{sheetAt, exprCount}
 use Rattle.scope_walk.specs.Inner.Exprs.{exprBy}
 
 module _ (t : List ℕ) (row : ℕ) (call : Bool) (r : ℕ) where
@@ -21,7 +20,7 @@ module _ (t : List ℕ) (row : ℕ) (call : Bool) (r : ℕ) where
   pub record Present : Type 0 where
     pub asked : call ≡ true
     pub low : 1 ≤ r
-    pub high : r ≤ getD t 2 0
+    pub high : r ≤ exprCount t
     pub is : getExtraArg (sheetAt t) (treeAt (sheetAt t) row) ≡ some (exprBy t false r)
 
   abbrev pub ExtraArg : Type 0

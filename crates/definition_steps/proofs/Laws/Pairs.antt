@@ -4,13 +4,13 @@ use mathlib.Core.Bool.{true, false, cond, _&&_}
 use mathlib.Core.List.{List, [], _∷_, _++_}
 use Prim.Native.Nat.{ℕ, _≤_}
 use lib.Dec.{eqb}
-use lib.ListN.{length, getD}
+use lib.ListN.{length}
 use Rattle.sheet.specs.Inner.Sheet.{rowAt}
 use Rattle.sheet.specs.Kinds.{isArray, isPattern}
 use Rattle.scope.specs.Trees.{Tree, nil, node, treeAt}
 use Rattle.scope.specs.Traverse.{leaves}
 use Rattle.definition.specs.Exprs.{Pairing, pair, mismatch, pairings}
-use Rattle.scope_walk.specs.Inner.Sheets.{sheetAt, Accepted}
+use Rattle.scope_walk.specs.Inner.Sheets.{sheetAt, Accepted, exprCount}
 use Rattle.scope_walk.specs.Inner.Exprs.{exprBy}
 use Rattle.scope_walk.proofs.Laws.Exprs.{none-is, tree-is}
 use Rattle.scope_state.specs.Inner.Chains.{chainAt}
@@ -36,7 +36,7 @@ module _ (t : List ℕ) where
     pairings-right l r z = rw (z, none-is t ok true) (pairings-nil (treeAt (sheetAt t) l))
 
     -- The first of each, then the rest of both chains.
-    pub pairings-row : (l : ℕ) → (l ≡ 0 → ⊥) → l ≤ getD t 2 0 → (r : ℕ) → (r ≡ 0 → ⊥) → r ≤ getD t 2 0
+    pub pairings-row : (l : ℕ) → (l ≡ 0 → ⊥) → l ≤ exprCount t → (r : ℕ) → (r ≡ 0 → ⊥) → r ≤ exprCount t
         → let w = rowAt t l in let v = rowAt t r in
         pairingsAt l r
         ≡ (cond (isArray w && isArray v)
@@ -50,7 +50,7 @@ module _ (t : List ℕ) where
     unfolding leaves
     leaves-at-none row z = rw (z, none-is t ok true)
 
-    module _ (row : ℕ) (some : row ≡ 0 → ⊥) (high : row ≤ getD t 2 0) where
+    module _ (row : ℕ) (some : row ≡ 0 → ⊥) (high : row ≤ exprCount t) where
       pub leaves-at-row : leavesAt t row ≡ (cond (isPattern (rowAt t row)) (leavesAt t (rowAt t row .first)) (exprBy t false row ∷ []) ++ (leavesAt t) (rowAt t row .next))
       unfolding leaves
       leaves-at-row = rw (tree-is t ok row some high)

@@ -8,6 +8,7 @@ use native.Mathlib.Omega.{arith}
 use lib.Dec.{eqb, leb, ltb}
 use lib.ListN.{getD}
 use borrow.Author.Tests.{eqb-true, leb-false, eq-eqb, ne-eqb, lt-ltb, le-ltb}
+use Rattle.base.specs.Limits.{mostArity}
 use Rattle.base.specs.Limits as limits
 use Rattle.base.proofs.Laws.Truth.{bool-cases, eq-cases}
 use Rattle.sheet.specs.declared.Counts.{Counts}
@@ -151,8 +152,8 @@ pub builtin-is : (c : Counts) (t : List ℕ) (r : ℕ) → 1 ≤ r → builtinBy
 unfolding builtinBy builtinFault
 builtin-is c t r h =
     let e : r ≡ suc (r - 1) = omega arith in
-    ap (λ (z : Bool). ltb 255 (builtinAt t r .arity) || (gapBy (builtinAt t r) || (beyondBy c (builtinAt t r) || z))) (path-is c t (r - 1) (builtinAt t r))
-    ∙ ap (λ (k : ℕ). ltb 255 (builtinAt t k .arity) || (gapBy (builtinAt t k) || (beyondBy c (builtinAt t k) || pathBefore c (inTables t) (r - 1) (builtinAt t k)))) e
+    ap (λ (z : Bool). ltb mostArity (builtinAt t r .arity) || (gapBy (builtinAt t r) || (beyondBy c (builtinAt t r) || z))) (path-is c t (r - 1) (builtinAt t r))
+    ∙ ap (λ (k : ℕ). ltb mostArity (builtinAt t k .arity) || (gapBy (builtinAt t k) || (beyondBy c (builtinAt t k) || pathBefore c (inTables t) (r - 1) (builtinAt t k)))) e
     ∙ sym (ap (builtinFault c (inTables t)) e)
 
 module _ (t : List ℕ) (b : Builtin) (n : ℕ) where

@@ -3,6 +3,7 @@ use mathlib.Core.Bool.{Bool, false, not, cond, _&&_, _||_}
 use mathlib.Core.List.{List}
 use Prim.Native.Nat.{ℕ, zero, suc, _/_, _%_}
 use lib.Dec.{eqb, leb, ltb}
+use Rattle.base.specs.Limits.{mostArity}
 use Rattle.sheet.specs.declared.Counts.{Counts}
 use Rattle.sheet.specs.declared.Builtin.{Builtin}
 use Rattle.sheet.specs.declared.Row.{Row}
@@ -72,4 +73,4 @@ pathBy t zero b = false
 pathBy t (suc n) b = samePathBy (builtinAt t (suc n)) b || pathBy t n b
 
 unfoldable pub builtinBy : Counts → List ℕ → ℕ → Builtin → Bool
-builtinBy c t n b = ltb 255 (b .arity) || (gapBy b || (beyondBy c b || pathBy t n b))
+builtinBy c t n b = ltb mostArity (b .arity) || (gapBy b || (beyondBy c b || pathBy t n b))

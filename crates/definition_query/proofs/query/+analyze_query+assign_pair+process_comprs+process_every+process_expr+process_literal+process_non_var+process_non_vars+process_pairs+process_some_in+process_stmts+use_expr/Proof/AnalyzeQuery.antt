@@ -13,9 +13,9 @@ use Rattle.definition_cycle.specs.Inner.Asks.{Begun}
 use Rattle.definition_cycle.specs.Inner.Does.{DoesComprs}
 use Rattle.definition_cycle.proofs.Laws.Guards.{KeepsLengths, walked-comprs, last-comprs}
 use Rattle.definition_cycle.proofs.Laws.OneQuery.{stmts-below, comprs-below, does-none, does-nothing, begun-of, Started, row-high, asks-stmts, Enclosed, asks-key, asks-value, room-last, based-last, takes-last, does-query}
-use Rattle.definition_query.proofs.finish.begun.Reads as begun-reads
-use Rattle.definition_query.proofs.finish.finish.Reads as finish-reads
-use Rattle.definition_query.proofs.finish.opened.Reads as opened-reads
+use Rattle.definition_after.proofs.finish.begun.Reads as begun-reads
+use Rattle.definition_after.proofs.finish.finish.Reads as finish-reads
+use Rattle.definition_after.proofs.finish.opened.Reads as opened-reads
 use Rattle.definition_query.proofs.query.analyze_query.Reads as analyze-query
 use Rattle.definition_query.proofs.query.process_comprs.Reads as process-comprs
 use Rattle.definition_query.proofs.query.process_stmts.Reads as process-stmts

@@ -4,7 +4,7 @@ use native.Mathlib.Omega.{arith}
 use borrow.Author.Needs.{needs}
 use Rattle.definition_expr.proofs.Laws.UsesMods.{listed-none}
 use Rattle.definition_cycle.proofs.Laws.PairTurns.{pair-none, asks-right, ready-left, asks-left, ready-right, pair-does}
-use Rattle.definition_query.proofs.assign.assign.Reads as assign-reads
+use Rattle.definition_after.proofs.assign.assign.Reads as assign-reads
 use Rattle.definition_query.proofs.query.assign_pair.Reads as assign-pair
 use Rattle.definition_query.proofs.query.use_expr.Reads as use-expr
 use Rattle.names.proofs.Names.empty.Reads as empty-reads

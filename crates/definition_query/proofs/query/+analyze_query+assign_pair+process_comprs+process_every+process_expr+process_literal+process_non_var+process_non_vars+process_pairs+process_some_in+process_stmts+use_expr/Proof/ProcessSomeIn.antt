@@ -12,7 +12,7 @@ use Rattle.definition_cycle.proofs.Laws.SomeInSteps.{parts-low, asks-collection
 use Rattle.definition_query.proofs.query.process_non_vars.Reads as process-non-vars
 use Rattle.definition_query.proofs.query.process_some_in.Reads as process-some-in
 use Rattle.definition_query.proofs.query.use_expr.Reads as use-expr
-use Rattle.definition_query.proofs.used_by.others_used.Reads as others-used-reads
+use Rattle.definition_after.proofs.used_by.others_used.Reads as others-used-reads
 use Rattle.scope_state.proofs.enclose.enclose.Reads as enclose-reads
 use Rattle.names.proofs.Names.empty.Reads as empty-reads
 use Rattle.definition_record.proofs.record.record_one.Reads as record-one-reads

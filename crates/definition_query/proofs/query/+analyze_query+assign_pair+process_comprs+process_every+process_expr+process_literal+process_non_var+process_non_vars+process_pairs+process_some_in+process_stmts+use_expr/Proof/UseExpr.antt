@@ -16,9 +16,9 @@ use Rattle.definition_cycle.proofs.Laws.Guards.{KeepsLengths, walked-comprs}
 use Rattle.definition_cycle.proofs.Laws.UseExprs.{use-ready, use-room, own-asks, mods-asks, does-use, does-without}
 use Rattle.definition_query.proofs.query.process_comprs.Reads as process-comprs
 use Rattle.definition_query.proofs.query.use_expr.Reads as use-expr
-use Rattle.definition_query.proofs.used_by.all_used.Reads as all-used-reads
-use Rattle.definition_query.proofs.used_by.none_left.Reads as none-left-reads
-use Rattle.definition_query.proofs.used_by.without_comprs.Reads as without-comprs-reads
+use Rattle.definition_after.proofs.used_by.all_used.Reads as all-used-reads
+use Rattle.definition_after.proofs.used_by.none_left.Reads as none-left-reads
+use Rattle.definition_after.proofs.used_by.without_comprs.Reads as without-comprs-reads
 use Rattle.definition_expr.proofs.vars.use_vars.Reads as use-vars-reads
 use Rattle.definition_query.proofs.query.+analyze_query+assign_pair+process_comprs+process_every+process_expr+process_literal+process_non_var+process_non_vars+process_pairs+process_some_in+process_stmts+use_expr.Lts-use_expr as use-expr-lts
 use Rattle.definition_query.proofs.query.+analyze_query+assign_pair+process_comprs+process_every+process_expr+process_literal+process_non_var+process_non_vars+process_pairs+process_some_in+process_stmts+use_expr.Proof.Measures.{process-comprs-below, use-expr-at}

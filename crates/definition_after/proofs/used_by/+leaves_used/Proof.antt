@@ -13,15 +13,15 @@ use Rattle.scope_walk.specs.Inner.Walking.{remains}
 use Rattle.definition_cycle.specs.Inner.AllUsed.{OtherUsed, LeavesUsed}
 use Rattle.definition_cycle.proofs.Laws.Patterns.{non-var-low}
 use Rattle.definition_cycle.proofs.Laws.PatternUses.{other-none, leaves-used-none, leaves-used-turn}
-use Rattle.definition_query.proofs.used_by.leaves_used.Reads as leaves-used
-use Rattle.definition_query.proofs.used_by.leaves_used.Kinds as kinds
-use Rattle.definition_query.proofs.used_by.+leaves_used.Lts-leaves_used as lts
-use Rattle.definition_query.proofs.used_by.other_used.Reads as other-used-reads
+use Rattle.definition_after.proofs.used_by.leaves_used.Reads as leaves-used
+use Rattle.definition_after.proofs.used_by.leaves_used.Kinds as kinds
+use Rattle.definition_after.proofs.used_by.+leaves_used.Lts-leaves_used as lts
+use Rattle.definition_after.proofs.used_by.other_used.Reads as other-used-reads
 use Rattle.definition_literal.proofs.some.non_var.Reads as non-var-reads
 use Rattle.sheet_rows.proofs.row_at.Reads as row-at-reads
 use Rattle.definition_walk.proofs.assigned.pattern_of.Reads as pattern-of-reads
-use Rattle.definition_query.proofs.used_by.+leaves_used.{statement}
-use Rattle.definition_query.proofs.used_by.+leaves_used.Tie.{close}
+use Rattle.definition_after.proofs.used_by.+leaves_used.{statement}
+use Rattle.definition_after.proofs.used_by.+leaves_used.Tie.{close}
 
 abbrev μ : Measures 2 kinds.ps ℕ
 μ κs a = remains (a .0 .now) (a .1 .1 .0)

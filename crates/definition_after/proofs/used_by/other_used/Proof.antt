@@ -3,8 +3,8 @@ use mathlib.Core.Bool.{true}
 use borrow.Author.Needs.{needs}
 use Rattle.definition_comprs.proofs.Laws.Used.{used-none}
 use Rattle.definition_cycle.proofs.Laws.PatternUses.{other-none, other-one}
-use Rattle.definition_query.proofs.used_by.other_used.Statement.{statement}
-use Rattle.definition_query.proofs.used_by.other_used.Tie as tie
+use Rattle.definition_after.proofs.used_by.other_used.Statement.{statement}
+use Rattle.definition_after.proofs.used_by.other_used.Tie as tie
 
 returns : tie.Need-returns
 returns c =

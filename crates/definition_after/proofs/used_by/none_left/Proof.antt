@@ -1,8 +1,8 @@
 -- Each way out decides one of the two tests.
 use mathlib.Core.Path.{sym}
 use borrow.Author.Tests.{eq-eqb, ne-eqb}
-use Rattle.definition_query.proofs.used_by.none_left.Statement.{statement}
-use Rattle.definition_query.proofs.used_by.none_left.Tie as tie
+use Rattle.definition_after.proofs.used_by.none_left.Statement.{statement}
+use Rattle.definition_after.proofs.used_by.none_left.Tie as tie
 
 returns : tie.Need-returns
 returns c = sym (rw (ne-eqb (c .before .args .comprs) 0 (c .if1 .taken)))

@@ -1,8 +1,8 @@
 -- The parts of the key, then those of the value.
 use borrow.Author.Needs.{needs}
 use Rattle.definition_cycle.proofs.Laws.PatternUses.{others-used}
-use Rattle.definition_query.proofs.used_by.others_used.Statement.{statement}
-use Rattle.definition_query.proofs.used_by.others_used.Tie as tie
+use Rattle.definition_after.proofs.used_by.others_used.Statement.{statement}
+use Rattle.definition_after.proofs.used_by.others_used.Tie as tie
 
 empty-requires : tie.Need-empty-requires
 empty-requires c κs = search needs

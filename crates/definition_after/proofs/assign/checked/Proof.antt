@@ -1,8 +1,8 @@
 -- The question is asked, or it changes nothing.
 use borrow.Author.Needs.{needs}
 use Rattle.definition_cycle.proofs.Laws.Assigning.{checked-asked, checked-passed}
-use Rattle.definition_query.proofs.assign.checked.Statement.{statement}
-use Rattle.definition_query.proofs.assign.checked.Tie as tie
+use Rattle.definition_after.proofs.assign.checked.Statement.{statement}
+use Rattle.definition_after.proofs.assign.checked.Tie as tie
 
 check-assigned-requires : tie.Need-check-assigned-requires
 check-assigned-requires c κs = search needs

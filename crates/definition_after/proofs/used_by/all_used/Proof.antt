@@ -1,8 +1,8 @@
 -- From what the comprehensions of the expression use, and then those of the modifiers.
 use borrow.Author.Needs.{needs}
 use Rattle.definition_cycle.proofs.Laws.UsedBy.{all-used}
-use Rattle.definition_query.proofs.used_by.all_used.Statement.{statement}
-use Rattle.definition_query.proofs.used_by.all_used.Tie as tie
+use Rattle.definition_after.proofs.used_by.all_used.Statement.{statement}
+use Rattle.definition_after.proofs.used_by.all_used.Tie as tie
 
 union-requires : tie.Need-union-requires
 union-requires c κs = search needs

@@ -1,8 +1,8 @@
 -- The names fit, and are recorded after the question (`Assigning`).
 use borrow.Author.Needs.{needs}
 use Rattle.definition_cycle.proofs.Laws.Assigning.{assign-fits, assigns}
-use Rattle.definition_query.proofs.assign.assign.Statement.{statement}
-use Rattle.definition_query.proofs.assign.assign.Tie as tie
+use Rattle.definition_after.proofs.assign.assign.Statement.{statement}
+use Rattle.definition_after.proofs.assign.assign.Tie as tie
 
 checked-requires : tie.Need-checked-requires
 checked-requires c κs = search needs

@@ -3,8 +3,8 @@ use mathlib.Core.Path.{refl, sym, _∙_}
 use borrow.Author.Needs.{needs}
 use Rattle.base.proofs.Laws.Truth.{not-both}
 use Rattle.definition_cycle.proofs.Laws.Finishing.{query-finished, unfinished}
-use Rattle.definition_query.proofs.finish.finish.Statement.{statement}
-use Rattle.definition_query.proofs.finish.finish.Tie as tie
+use Rattle.definition_after.proofs.finish.finish.Statement.{statement}
+use Rattle.definition_after.proofs.finish.finish.Tie as tie
 
 is-sound-requires : tie.Need-is-sound-requires
 is-sound-requires c κs = search needs

@@ -1,8 +1,8 @@
 -- The scope is the opened one, and the rest is as it was (`opened-from`).
 use borrow.Author.Needs.{needs}
 use Rattle.definition_cycle.proofs.Laws.Finishing.{opened-from}
-use Rattle.definition_query.proofs.finish.opened.Statement.{statement}
-use Rattle.definition_query.proofs.finish.opened.Tie as tie
+use Rattle.definition_after.proofs.finish.opened.Statement.{statement}
+use Rattle.definition_after.proofs.finish.opened.Tie as tie
 
 opened-requires : tie.Need-opened-requires
 opened-requires c κs = search needs
