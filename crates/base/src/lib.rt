@@ -1,4 +1,4 @@
-// Every limit, as specs/Limits.antt has it: the code says these numbers here alone.
+// Every limit of the calls, as specs/Limits.antt has it: the code says these numbers here alone.
 
 // The words of a set of names, and the words of work, in the library.
 pub const WORDS: usize = 8;
