@@ -1,3 +1,4 @@
+pub mod Children
 pub mod GatherLaws
 pub mod Below
 pub mod Shadowed

@@ -1,3 +1,4 @@
+pub mod Arms
 pub mod Descent
 pub mod Exprs
 pub mod Kids

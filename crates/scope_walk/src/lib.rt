@@ -3,75 +3,107 @@
 use sheet::Row;
 ghost use mathlib.Core.Path.{_≡_};
 ghost use mathlib.Core.Bool.{cond};
-ghost use Rattle.scope_walk.specs.Inner.Kids.{enterCode, kidsOf};
+ghost use mathlib.Core.List.{[], _∷_};
+ghost use Rattle.scope_walk.specs.Inner.Kids.{kidsFrom, kidsOf};
 
-// What is entered of an expression, by its kind: nothing, the parameters of a call, or its fields.
-const NOTHING: u8 = 0;
-
-const PARAMS: u8 = 1;
-
-const FIELDS: u8 = 2;
-
-// The rows that are entered, 0 where none is.
+// The rows that are entered, in order; 0 behind the last.
 pub struct Kids {
     pub first: usize,
     pub second: usize,
     pub third: usize,
 }
 
-// With an arm for each number it compiles to a table in read-only memory.
-fn enters(kind: u16) -> u8
-    ensures { λ r. ⌜ r ≡ enterCode kind ⌝ }
+pub fn none() -> Kids
+    ensures { λ r. ⌜ r ≡ kidsFrom [] ⌝ }
 {
-    match kind {
-        1 => NOTHING, // String
-        2 => NOTHING, // RawString
-        3 => NOTHING, // Number
-        4 => NOTHING, // Bool
-        5 => NOTHING, // Null
-        6 => NOTHING, // Var
-        7 => FIELDS, // Array
-        8 => FIELDS, // Set
-        9 => FIELDS, // Object
-        10 => NOTHING, // ArrayCompr
-        11 => NOTHING, // SetCompr
-        12 => NOTHING, // ObjectCompr
-        13 => PARAMS, // Call
-        14 => FIELDS, // UnaryExpr
-        15 => FIELDS, // RefDot
-        16 => FIELDS, // RefBrack
-        17 => FIELDS, // BinExpr
-        18 => FIELDS, // BoolExpr
-        19 => FIELDS, // ArithExpr
-        20 => FIELDS, // AssignExpr Eq
-        21 => FIELDS, // AssignExpr ColEq
-        22 => FIELDS, // Membership
-        _ => NOTHING,
+    Kids {
+        first: 0,
+        second: 0,
+        third: 0,
     }
 }
 
+pub fn one(first: u16) -> Kids
+    ensures { λ r. ⌜ r ≡ kidsFrom (first ∷ []) ⌝ }
+{
+    Kids {
+        first: first as usize,
+        second: 0,
+        third: 0,
+    }
+}
+
+pub fn two(first: u16, second: u16) -> Kids
+    ensures { λ r. ⌜ r ≡ kidsFrom (first ∷ second ∷ []) ⌝ }
+{
+    Kids {
+        first: first as usize,
+        second: second as usize,
+        third: 0,
+    }
+}
+
+pub fn three(first: u16, second: u16, third: u16) -> Kids
+    ensures { λ r. ⌜ r ≡ kidsFrom (first ∷ second ∷ third ∷ []) ⌝ }
+{
+    Kids {
+        first: first as usize,
+        second: second as usize,
+        third: third as usize,
+    }
+}
+
+// By kind, in the order of `traverse`'s match.
 pub fn kids_of(w: Row) -> Kids
     ensures { λ r. ⌜ r ≡ kidsOf w ⌝ }
 {
-    let code = enters(w.kind);
-    if code == NOTHING {
-        return Kids {
-            first: 0,
-            second: 0,
-            third: 0,
-        };
-    }
-    if code == PARAMS {
-        return Kids {
-            first: 0,
-            second: w.second as usize,
-            third: 0,
-        };
-    }
-    Kids {
-        first: w.first as usize,
-        second: w.second as usize,
-        third: w.third as usize,
+    let kind = w.kind;
+    match kind {
+        // String
+        1 => none(),
+        // RawString
+        2 => none(),
+        // Number
+        3 => none(),
+        // Bool
+        4 => none(),
+        // Null
+        5 => none(),
+        // Var
+        6 => none(),
+        // Array: items
+        7 => one(w.first),
+        // Set: items
+        8 => one(w.first),
+        // Object: fields, keys and values in turn
+        9 => one(w.first),
+        // ArrayCompr
+        10 => none(),
+        // SetCompr
+        11 => none(),
+        // ObjectCompr
+        12 => none(),
+        // Call: params
+        13 => one(w.second),
+        // UnaryExpr: expr
+        14 => one(w.first),
+        // RefDot: refr
+        15 => one(w.first),
+        // RefBrack: refr, index
+        16 => two(w.first, w.second),
+        // BinExpr: lhs, rhs
+        17 => two(w.first, w.second),
+        // BoolExpr: lhs, rhs
+        18 => two(w.first, w.second),
+        // ArithExpr: lhs, rhs
+        19 => two(w.first, w.second),
+        // AssignExpr `Eq`: lhs, rhs
+        20 => two(w.first, w.second),
+        // AssignExpr `ColEq`: lhs, rhs
+        21 => two(w.first, w.second),
+        // Membership: key, value, collection
+        22 => three(w.first, w.second, w.third),
+        _ => none(),
     }
 }
 

@@ -5,13 +5,12 @@ use mathlib.Core.List.{List, [], _∷_, _++_, append-nil}
 use mathlib.Core.Logic.{inl, inr}
 use Prim.Native.Nat.{ℕ, zero, suc, _≤_}
 use native.Mathlib.Omega.{arith}
-use lib.ListN.{getD}
 use Rattle.base.specs.Lists.{concatMap}
 use Rattle.sheet.specs.Inner.Sheet.{rowAt}
 use Rattle.sheet.specs.Kinds.{isCompr}
 use Rattle.sheet.specs.declared.Row.{Row}
 use Rattle.scope.specs.Trees.{Tree, nil, node, thirdOf, rowOf, treeAt}
-use Rattle.scope.specs.Traverse.{nothing, enters, entered, traverse, comprs}
+use Rattle.scope.specs.Traverse.{childrenOf, entered, traverse, comprs}
 use Rattle.base.proofs.Laws.ListLaws.{concatMap-append}
 use Rattle.scope_walk.specs.Inner.Sheets.{sheetAt, Accepted, exprCount}
 use Rattle.scope_walk.specs.Inner.Exprs.{exprBy}
@@ -39,7 +38,7 @@ then-rest : (w : Row) (a b c n : Tree) → traverse (node w a b c n) ≡ travers
 unfolding traverse
 then-rest w a b c n =
     ap (λ (l : List Tree). l ++ traverse n)
-    (sym (append-nil (node w a b c nil ∷ entered (getD enters (w .kind) nothing) (traverse a) (traverse b) (traverse c))))
+    (sym (append-nil (node w a b c nil ∷ entered (childrenOf w) (traverse a) (traverse b) (traverse c))))
 
 chained : (t : Tree) (n : Tree) (e : Tree) → traverse t ≡ traverse e ++ traverse n → comprs t ≡ comprs e ++ comprs n
 chained t n e is =

@@ -24,9 +24,10 @@ use Rattle.sheet_facts.proofs.Laws.Places.{expr-place}
 use Rattle.sheet.specs.declared.Row.{Row}
 use Rattle.sheet.specs.Inner.Sheet.{rowAt}
 use Rattle.sheet.specs.Kinds.{isPattern, isCompr, isAssign}
-use Rattle.scope.specs.Traverse.{Enters, nothing, params, fields}
+use Rattle.scope.specs.Traverse.{Child, childrenOf}
+use Rattle.scope.proofs.Laws.Children.{of-children}
 use Rattle.scope_walk.specs.declared.Kids.{Kids}
-use Rattle.scope_walk.specs.Inner.Kids.{entersOf, kidsBy, kidsOf}
+use Rattle.scope_walk.specs.Inner.Kids.{fieldsOf, kidsBy, kidsOf}
 use Rattle.scope_walk.proofs.Laws.Kids.{compr-enters-nothing}
 use Rattle.definition_room.proofs.Laws.Listed.{comprKind, kind-holds, HoldsField}
 use Rattle.definition_room.proofs.Laws.Named.{target-row, next-holds}
@@ -110,7 +111,7 @@ module _ (c : Counts) (t : List ℕ) (few : Within c) (fine : firstLine c (inTab
       go false = refl
 
   -- The fields of any kind but a comprehension: of a pattern, an assignment or a call among others.
-  pub fields-lie : isCompr (rowAt t r) ≡ false → KidsInside c t q (kidsBy fields (rowAt t r))
+  pub fields-lie : isCompr (rowAt t r) ≡ false → KidsInside c t q (fieldsOf (rowAt t r))
   unfolding rowAt
   fields-lie other =
       let kind = exprAt t r .kind in
@@ -123,21 +124,25 @@ module _ (c : Counts) (t : List ℕ) (few : Within c) (fine : firstLine c (inTab
       }
 
   -- What a walk enters.
+  abbrev Inside : List Child → Type 0
+  Inside ks = KidsInside c t q (kidsBy ks (rowAt t r))
+
   pub kids-lie : KidsInside c t q (kidsOf (rowAt t r))
   unfolding kidsOf
   kids-lie = go (bool-cases (isCompr (rowAt t r)))
     where
-      none : KidsInside c t q (kidsBy nothing (rowAt t r))
+      none : Inside []
       none = record { first = inl refl; second = inl refl; third = inl refl }
 
-      by : (e : Enters) → KidsInside c t q (kidsBy fields (rowAt t r)) → KidsInside c t q (kidsBy e (rowAt t r))
-      by nothing h = none
-      by params h = record { first = inl refl; second = h .second; third = inl refl }
-      by fields h = h
+      by-kind : KidsInside c t q (fieldsOf (rowAt t r)) → Inside (childrenOf (rowAt t r))
+      by-kind h =
+          of-children Inside none (record { first = h .first; second = inl refl; third = inl refl })
+          (record { first = h .second; second = inl refl; third = inl refl }) (record { first = h .first; second = h .second; third = inl refl }) h
+          (rowAt t r .kind)
 
-      go : (isCompr (rowAt t r) ≡ true) ⊎ (isCompr (rowAt t r) ≡ false) → KidsInside c t q (kidsBy (entersOf (rowAt t r)) (rowAt t r))
-      go (inl p) = subst (λ (e : Enters). KidsInside c t q (kidsBy e (rowAt t r))) (sym (compr-enters-nothing (rowAt t r) p)) none
-      go (inr p) = by (entersOf (rowAt t r)) (fields-lie p)
+      go : (isCompr (rowAt t r) ≡ true) ⊎ (isCompr (rowAt t r) ≡ false) → Inside (childrenOf (rowAt t r))
+      go (inl p) = subst Inside (sym (compr-enters-nothing (rowAt t r) p)) none
+      go (inr p) = by-kind (fields-lie p)
 
   -- ---- a comprehension
 

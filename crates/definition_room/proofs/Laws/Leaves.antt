@@ -4,14 +4,14 @@ use mathlib.Core.Bool.{Bool, true, false, cond}
 use mathlib.Core.List.{List, [], _∷_, _++_}
 use Prim.Native.Nat.{suc, _+_, _≤_}
 use native.Mathlib.Omega.{arith}
-use lib.ListN.{length, length-append, getD}
+use lib.ListN.{length, length-append}
 use Rattle.sheet.specs.declared.Row.{Row}
 use Rattle.sheet.specs.Kinds.{isVar, isPattern, isRefBrack}
 use Rattle.scope.specs.Trees.{Tree, nil, node, rowOf, chain}
-use Rattle.scope.specs.Traverse.{Enters, nothing, params, fields, enters, entered, traverse, leaves, vars}
+use Rattle.scope.specs.Traverse.{childrenOf, entered, traverse, leaves, vars}
 use Rattle.base.proofs.Laws.ListLaws.{concatMap-append}
 use Rattle.definition_room.specs.Inner.Sizes.{total, size}
-use Rattle.definition_room.proofs.Laws.Lists.{total-append}
+use Rattle.definition_room.proofs.Laws.Lists.{total-append, total-entered}
 use Rattle.definition_room.specs.Inner.Leaves.{bracketVars, indexCount, patternVars}
 
 -- The variables of two lists add up.
@@ -23,28 +23,21 @@ bracketVars-nil : bracketVars nil ≡ 0
 unfolding bracketVars traverse
 bracketVars-nil = refl
 
--- What is entered is in the three fields.
-entered-fit : (k : Enters) (a b c : List Tree)
-    → total indexCount (entered k a b c) ≤ total indexCount a + (total indexCount b + total indexCount c)
-entered-fit nothing a b c = omega arith
-entered-fit params a b c = omega arith
-entered-fit fields a b c = omega (arith, total-append indexCount a (b ++ c), total-append indexCount b c)
-
-node-fits : (k : Enters) (e a b c n : Tree) → total indexCount ((e ∷ entered k (traverse a) (traverse b) (traverse c)) ++ traverse n)
+node-fits : (w : Row) (e a b c n : Tree) → total indexCount ((e ∷ entered (childrenOf w) (traverse a) (traverse b) (traverse c)) ++ traverse n)
     ≤ indexCount e + (bracketVars a + (bracketVars b + (bracketVars c + bracketVars n)))
 unfolding bracketVars
-node-fits k e a b c n =
+node-fits w e a b c n =
     omega (
       arith,
-      total-append indexCount (entered k (traverse a) (traverse b) (traverse c)) (traverse n),
-      entered-fit k (traverse a) (traverse b) (traverse c),
+      total-append indexCount (entered (childrenOf w) (traverse a) (traverse b) (traverse c)) (traverse n),
+      total-entered indexCount w (traverse a) (traverse b) (traverse c),
     )
 
 -- Those of a node are in its own index, below it, or behind it.
 pub bracketVars-node : (w : Row) (a b c n : Tree)
     → bracketVars (node w a b c n) ≤ indexCount (node w a b c nil) + (bracketVars a + (bracketVars b + (bracketVars c + bracketVars n)))
 unfolding bracketVars traverse
-bracketVars-node w a b c n = node-fits (getD enters (w .kind) nothing) (node w a b c nil) a b c n
+bracketVars-node w a b c n = node-fits w (node w a b c nil) a b c n
 
 -- The index of a bracket is its second field.
 index-fits : (w : Row) (a b c : Tree) → indexCount (node w a b c nil) ≤ patternVars b

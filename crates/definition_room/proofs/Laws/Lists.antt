@@ -8,6 +8,9 @@ use native.Mathlib.Omega.{arith}
 use lib.ListN.{length, length-append}
 use Rattle.base.proofs.Laws.Truth.{and-intro}
 use Rattle.base.specs.Lists.{all, filter, concatMap, last}
+use Rattle.sheet.specs.declared.Row.{Row}
+use Rattle.scope.specs.Traverse.{childrenOf, entered}
+use Rattle.scope.proofs.Laws.Children.{of-children}
 use Rattle.definition_room.specs.Inner.Sizes.{total}
 
 module _ {A : Type 0} where
@@ -36,6 +39,15 @@ module _ {A : Type 0} where
   pub total-append : (f : A → ℕ) (k l : List A) → total f (k ++ l) ≡ total f k + total f l
   total-append f [] l = omega arith
   total-append f (x ∷ k) l = omega (arith, total-append f k l)
+
+  -- What is entered is in the three fields.
+  pub total-entered : (f : A → ℕ) (w : Row) (a b c : List A) → total f (entered (childrenOf w) a b c) ≤ total f a + (total f b + total f c)
+  total-entered f w a b c =
+      of-children (λ ks. total f (entered ks a b c) ≤ total f a + (total f b + total f c)) (omega arith)
+      (omega (arith, total-append f a [])) (omega (arith, total-append f b []))
+      (omega (arith, total-append f a (b ++ []), total-append f b []))
+      (omega (arith, total-append f a (b ++ (c ++ [])), total-append f b (c ++ []), total-append f c []))
+      (w .kind)
 
   pub total-mono : (f g : A → ℕ) → ((x : A) → f x ≤ g x) → (l : List A) → total f l ≤ total g l
   total-mono f g h [] = omega arith

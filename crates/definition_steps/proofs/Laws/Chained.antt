@@ -1,11 +1,10 @@
 -- A walk over a chain is a walk over its expressions, one after the other.
 use mathlib.Core.Path.{_≡_, refl, ap, ap₂, _∙_, sym}
 use mathlib.Core.List.{List, _∷_, _++_, append-nil}
-use lib.ListN.{getD}
 use Rattle.base.specs.Lists.{concatMap}
 use Rattle.sheet.specs.Sheet.{Sheet}
 use Rattle.scope.specs.Trees.{Tree, nil, node, chain}
-use Rattle.scope.specs.Traverse.{nothing, enters, entered, traverse, comprs}
+use Rattle.scope.specs.Traverse.{childrenOf, entered, traverse, comprs}
 use Rattle.base.proofs.Laws.ListLaws.{concatMap-append, concatMap-nested}
 use Rattle.scope.specs.Scopes.{Scope}
 use Rattle.definition.specs.Queries.{modsOf}
@@ -15,7 +14,7 @@ unfolding chain traverse
 traverse-chain nil = refl
 traverse-chain (node w a b c n) =
     ap₂ (λ (k l : List Tree). k ++ l)
-    (append-nil (node w a b c nil ∷ entered (getD enters (w .kind) nothing) (traverse a) (traverse b) (traverse c))) (traverse-chain n)
+    (append-nil (node w a b c nil ∷ entered (childrenOf w) (traverse a) (traverse b) (traverse c))) (traverse-chain n)
 
 -- What is collected at the expressions that a walk meets.
 pub collect-chain : {B : Type 0} (f : Tree → List B) (t : Tree) → concatMap (λ e. concatMap f (traverse e)) (chain t) ≡ concatMap f (traverse t)

@@ -1,5 +1,5 @@
 -- Laws of `concatMap`, `any` and `find`, and of what a walk enters.
-use mathlib.Core.Path.{_≡_, refl, sym, ap, _∙_}
+use mathlib.Core.Path.{_≡_, refl, sym, ap, ap₂, _∙_}
 use mathlib.Core.Bool.{Bool, true, false, cond, _||_, or-assoc}
 use mathlib.Core.List.{List, [], _∷_, _++_}
 use mathlib.Core.Option.{Option, none, some}
@@ -7,16 +7,20 @@ use Prim.Native.Nat.{ℕ}
 use lib.Dec.{eqb}
 use Rattle.base.proofs.Laws.Truth.{or-left-comm}
 use Rattle.base.specs.Lists.{elem, concatMap, any, find}
-use Rattle.scope.specs.Traverse.{Enters, nothing, params, fields, entered}
+use Rattle.scope.specs.Traverse.{Child, firstField, secondField, thirdField, childOf, entered}
 use Rattle.base.proofs.Laws.ListLaws.{concatMap-append}
 
 -- Over what is entered.
-pub concatMap-entered : {A B : Type 0} (f : A → List B) (en : Enters) (a b c : List A)
-    → concatMap f (entered en a b c) ≡ entered en (concatMap f a) (concatMap f b) (concatMap f c)
-concatMap-entered f nothing a b c = refl
-concatMap-entered f params a b c = refl
-concatMap-entered f fields a b c =
-    concatMap-append f a (b ++ c) ∙ ap (λ m. concatMap f a ++ m) (concatMap-append f b c)
+pub concatMap-entered : {A B : Type 0} (f : A → List B) (ks : List Child) (a b c : List A)
+    → concatMap f (entered ks a b c) ≡ entered ks (concatMap f a) (concatMap f b) (concatMap f c)
+concatMap-entered f [] a b c = refl
+concatMap-entered {B = B} f (k ∷ ks) a b c =
+    concatMap-append f (childOf k a b c) (entered ks a b c) ∙ ap₂ _++_ (child k) (concatMap-entered f ks a b c)
+  where
+    child : (j : Child) → concatMap f (childOf j a b c) ≡ childOf j (concatMap f a) (concatMap f b) (concatMap f c)
+    child firstField = refl
+    child secondField = refl
+    child thirdField = refl
 
 -- A test over two lists.
 pub any-append : {A : Type 0} (p : A → Bool) (k l : List A) → any p (k ++ l) ≡ (any p k || any p l)
@@ -30,12 +34,17 @@ any-swap p a b c =
     ∙ sym (any-append p b (a ++ c) ∙ ap (λ (x : Bool). any p b || x) (any-append p a c))
 
 -- A test over what is entered.
-pub any-entered : {A : Type 0} (p : A → Bool) (en : Enters) (a b c d e f : List A) → any p a ≡ any p d → any p b ≡ any p e → any p c ≡ any p f
-    → any p (entered en a b c) ≡ any p (entered en d e f)
-any-entered p nothing a b c d e f x y z = refl
-any-entered p params a b c d e f x y z = y
-any-entered p fields a b c d e f x y z =
-    any-append p a (b ++ c) ∙ cc (x, y, z, any-append p b c, any-append p e f) ∙ sym (any-append p d (e ++ f))
+pub any-entered : {A : Type 0} (p : A → Bool) (ks : List Child) (a b c d e f : List A) → any p a ≡ any p d → any p b ≡ any p e → any p c ≡ any p f
+    → any p (entered ks a b c) ≡ any p (entered ks d e f)
+any-entered p [] a b c d e f x y z = refl
+any-entered p (k ∷ ks) a b c d e f x y z =
+    any-append p (childOf k a b c) (entered ks a b c) ∙ cc (child k, any-entered p ks a b c d e f x y z)
+    ∙ sym (any-append p (childOf k d e f) (entered ks d e f))
+  where
+    child : (j : Child) → any p (childOf j a b c) ≡ any p (childOf j d e f)
+    child firstField = x
+    child secondField = y
+    child thirdField = z
 
 -- Membership is such a test.
 pub elem-any : (n : ℕ) (l : List ℕ) → elem n l ≡ any (eqb n) l

@@ -6,7 +6,7 @@ use mathlib.Core.Logic.{_⊎_, inl, inr, ⊎-elim}
 use Prim.Native.Nat.{ℕ, zero, suc, _+_, _≤_, _<_}
 use native.Mathlib.Omega.{arith}
 use lib.Dec.{eqb}
-use lib.ListN.{length, getD, List·getD-eq-default}
+use lib.ListN.{length, List·getD-eq-default}
 use Rattle.base.proofs.Laws.Truth.{bool-cases, lt-cases, or-left, and-left, and-right}
 use Rattle.sheet.specs.declared.Counts.{Counts}
 use Rattle.sheet.specs.Inner.Records.{Within}
@@ -23,7 +23,7 @@ use Rattle.base.specs.Lists.{concatMap}
 use Rattle.sheet.specs.Inner.Sheet.{rowAt, sheetOf}
 use Rattle.sheet.specs.Kinds.{isPattern, isCompr, isArray}
 use Rattle.scope.specs.Trees.{Tree, nil, node, rowOf, thirdOf, treeAt, chain}
-use Rattle.scope.specs.Traverse.{nothing, enters, entered, traverse, leaves, comprs}
+use Rattle.scope.specs.Traverse.{childrenOf, entered, traverse, leaves, comprs}
 use Rattle.scope_walk.proofs.Laws.Descent.{OnwardTo}
 use Rattle.scope_walk.specs.Inner.Kids.{kidsOf}
 use Rattle.scope_walk.proofs.Laws.RowTrees.{row-descends, tree-none, tree-row}
@@ -155,7 +155,7 @@ module _ (c : Counts) (x : Special) (t : List ℕ) (few : Within c) (fine : firs
           let h : EachLies (TreeLies q) (traverse (node (rowAt t r) (tree (rowAt t r .first)) (tree (rowAt t r .second)) (tree (thirdOf (rowAt t r))) (tree (rowAt t r .next)))) =
           subst (λ (d : Tree). EachLies (TreeLies q) (traverse d)) (tree-row c x t facts r low high) (walk-at r q high (inr here)) in
           let w = rowAt t r in
-          let k = aloneAt c x t r ∷ entered (getD enters (w .kind) nothing) (met (w .first)) (met (w .second)) (traverse (tree (thirdOf w))) in
+          let k = aloneAt c x t r ∷ entered (childrenOf w) (met (w .first)) (met (w .second)) (traverse (tree (thirdOf w))) in
           subst (EachLies (TreeLies q)) (sym (append-nil k)) (front k (met (w .next)) h)
 
   -- ---- comprehensions

@@ -6,21 +6,19 @@ use mathlib.Core.Option.{Option, none, some}
 use mathlib.Core.Logic.{_⊎_, inl, inr}
 use Prim.Native.Nat.{ℕ, _+_, _≤_}
 use native.Mathlib.Omega.{arith}
-use lib.ListN.{getD}
 use Rattle.base.proofs.Laws.Truth.{bool-cases}
 use Rattle.base.specs.Lists.{concatMap}
 use Rattle.sheet.specs.declared.Row.{Row}
 use Rattle.sheet.specs.Sheet.{Sheet}
 use Rattle.sheet.specs.Kinds.{isAssign, isCompr}
 use Rattle.scope.specs.Trees.{Tree, nil, node, rowOf, firstOf, secondOf, chain}
-use Rattle.scope.specs.Traverse.{Enters, nothing, params, fields, enters, entered, traverse, leaves, comprs}
+use Rattle.scope.specs.Traverse.{childrenOf, entered, traverse, leaves, comprs}
 use Rattle.scope.specs.Paths.{getExtraArg}
 use Rattle.scope.specs.Statements.{Literal, someVars, someIn, expr, notExpr, every, Stmt}
-use Rattle.scope_walk.specs.Inner.Kids.{entersOf}
 use Rattle.scope_walk.proofs.Laws.Kids.{compr-enters-nothing}
 use Rattle.definition.specs.Exprs.{Pairing, pair, mismatch, pairings}
 use Rattle.definition_room.specs.Inner.Sizes.{total}
-use Rattle.definition_room.proofs.Laws.Lists.{total-append, total-mono}
+use Rattle.definition_room.proofs.Laws.Lists.{total-append, total-entered, total-mono}
 use Rattle.original.specs.Inner.Places.{pairComprs, exprComprs, callComprs, literalComprs, stmtComprs, bodyOf, comprFamily, queriesNamed}
 use Rattle.original.proofs.Laws.Counting.{is, count, total-concatMap}
 use Rattle.original.proofs.Laws.Tally.{tally, literalTally, stmtTally, tally-chain, tally-leaves, pairTally, tally-pairings, tally-sides}
@@ -48,31 +46,25 @@ module _ (k : ℕ) (below : ℕ → List Tree → List ℕ) (g : ℕ → ℕ)
         tally-chain g b,
       )
 
-  -- What is entered is in the three fields.
-  entered-few : (en : Enters) (a b c : List Tree) → total costMet (entered en a b c) ≤ total costMet a + (total costMet b + total costMet c)
-  entered-few nothing a b c = omega arith
-  entered-few params a b c = omega arith
-  entered-few fields a b c = omega (arith, total-append costMet a (b ++ c), total-append costMet b c)
-
   -- A comprehension is counted with its fields, of which nothing is entered.
   node-few : (w : Row) (a b c : Tree) → total costMet (traverse a) ≤ tally g a → total costMet (traverse b) ≤ tally g b
       → total costMet (traverse c) ≤ tally g c
-      → costMet (node w a b c nil) + total costMet (entered (entersOf w) (traverse a) (traverse b) (traverse c))
+      → costMet (node w a b c nil) + total costMet (entered (childrenOf w) (traverse a) (traverse b) (traverse c))
       ≤ cond (isCompr w) (g (w .third)) 0 + (tally g a + (tally g b + tally g c))
   node-few w a b c x y z = go (bool-cases (isCompr w))
     where
       go : (isCompr w ≡ true) ⊎ (isCompr w ≡ false)
-          → costMet (node w a b c nil) + total costMet (entered (entersOf w) (traverse a) (traverse b) (traverse c))
+          → costMet (node w a b c nil) + total costMet (entered (childrenOf w) (traverse a) (traverse b) (traverse c))
           ≤ cond (isCompr w) (g (w .third)) 0 + (tally g a + (tally g b + tally g c))
       go (inl p) = rw (p, compr-enters-nothing w p) (omega (arith, compr-few w a b c))
-      go (inr p) = rw p (omega (arith, entered-few (entersOf w) (traverse a) (traverse b) (traverse c)))
+      go (inr p) = rw p (omega (arith, total-entered costMet w (traverse a) (traverse b) (traverse c)))
 
   -- What `traverse` meets is in the tree.
   traverse-few : (t : Tree) → total costMet (traverse t) ≤ tally g t
-  unfolding traverse tally entersOf
+  unfolding traverse tally
   traverse-few nil = omega arith
   traverse-few (node w a b c n) =
-      let rest = entered (getD enters (w .kind) nothing) (traverse a) (traverse b) (traverse c) in
+      let rest = entered (childrenOf w) (traverse a) (traverse b) (traverse c) in
       omega (
         arith,
         total-append costMet rest (traverse n),

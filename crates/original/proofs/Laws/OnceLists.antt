@@ -1,17 +1,16 @@
 -- The walk done once sees the variables and meets the comprehensions that `traverse` meets, in its order.
-use mathlib.Core.Path.{_≡_, refl, ap, _∙_}
+use mathlib.Core.Path.{_≡_, refl, sym, ap, _∙_}
 use mathlib.Core.Bool.{Bool, true, false, cond}
-use mathlib.Core.List.{List, [], _∷_, _++_}
+use mathlib.Core.List.{List, [], _∷_, _++_, append-nil}
 use Prim.Native.Nat.{ℕ}
 use borrow.Author.Tests.{eqb-true}
-use lib.ListN.{getD}
 use Rattle.base.proofs.Laws.Truth.{not-both}
 use Rattle.base.specs.Lists.{concatMap}
 use Rattle.sheet.specs.declared.Row.{Row}
 use Rattle.sheet.specs.Sheet.{Sheet}
 use Rattle.sheet.specs.Kinds.{isVar, isCompr, isRefBrack}
 use Rattle.scope.specs.Trees.{Tree, nil, node, rowOf}
-use Rattle.scope.specs.Traverse.{nothing, enters, entered, traverse, vars, comprs}
+use Rattle.scope.specs.Traverse.{childrenOf, entered, traverse, vars, comprs}
 use Rattle.base.proofs.Laws.ListLaws.{concatMap-append}
 use Rattle.scope.specs.Scopes.{Scope}
 use Rattle.definition.specs.Uses.{indexVars}
@@ -34,19 +33,18 @@ module _ (sheet : Sheet) (s : Scope) (extras : List ℕ) (i : ℕ) where
 
     listed-node : (w : Row) (e : Tree) (bracket : Bool) → isRefBrack w ≡ bracket → (xs : List ℕ) (a b c : List Event)
         → concatMap g
-        (cond bracket (a ++ (concatMap (indexed sheet s extras i a) xs ++ (b ++ c)))
-        (ownEvents sheet s extras i w e ++ entered (getD enters (w .kind) nothing) a b c))
+        (cond bracket (a ++ (concatMap (indexed sheet s extras i a) xs ++ b)) (ownEvents sheet s extras i w e ++ entered (childrenOf w) a b c))
         ≡ concatMap g (ownEvents sheet s extras i w e)
-        ++ entered (getD enters (w .kind) nothing) (concatMap g a) (concatMap g b) (concatMap g c)
+        ++ entered (childrenOf w) (concatMap g a) (concatMap g b) (concatMap g c)
     listed-node w e false q xs a b c =
         let o = ownEvents sheet s extras i w e in
-        let en = getD enters (w .kind) nothing in
+        let en = childrenOf w in
         concatMap-append g o (entered en a b c) ∙ ap (λ (l : List X). concatMap g o ++ l) (concatMap-entered g en a b c)
     listed-node w e true q xs a b c =
         let ix = concatMap (indexed sheet s extras i a) xs in
-        concatMap-append g a (ix ++ (b ++ c))
+        concatMap-append g a (ix ++ b)
         ∙ ap (λ (l : List X). concatMap g a ++ l)
-        (concatMap-append g ix (b ++ c) ∙ ap (λ (l : List X). l ++ concatMap g (b ++ c)) (quiet-all a xs) ∙ concatMap-append g b c)
+        (concatMap-append g ix b ∙ ap (λ (l : List X). l ++ concatMap g b) (quiet-all a xs) ∙ sym (append-nil (concatMap g b)))
         ∙ rw (eqb-true (w .kind) 16 q) refl
 
     listed-once : (t : Tree) → concatMap g (walkOnce sheet s extras i t) ≡ concatMap h (traverse t)
@@ -55,10 +53,10 @@ module _ (sheet : Sheet) (s : Scope) (extras : List ℕ) (i : ℕ) where
     listed-once (node w a b c n) =
         let once = walkOnce sheet s extras i in
         let e = node w a b c nil in
-        let en = getD enters (w .kind) nothing in
+        let en = childrenOf w in
         let xs = indexVars s e in
         concatMap-append g
-        (cond (isRefBrack w) (once a ++ (concatMap (indexed sheet s extras i (once a)) xs ++ (once b ++ once c)))
+        (cond (isRefBrack w) (once a ++ (concatMap (indexed sheet s extras i (once a)) xs ++ once b))
         (ownEvents sheet s extras i w e ++ entered en (once a) (once b) (once c)))
         (once n)
         ∙ cc (

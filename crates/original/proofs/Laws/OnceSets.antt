@@ -6,7 +6,6 @@ use mathlib.Core.List.{List, [], _∷_, _++_, map, append-nil}
 use Prim.Native.Nat.{ℕ}
 use lib.Dec.{eqb}
 use borrow.Author.Tests.{eqb-true}
-use lib.ListN.{getD}
 use Rattle.base.specs.Lists.{elem, concatMap, any}
 use Rattle.base.proofs.Laws.Truth.{not-both}
 use Rattle.order.specs.Definitions.{Definition}
@@ -14,7 +13,8 @@ use Rattle.sheet.specs.declared.Row.{Row}
 use Rattle.sheet.specs.Sheet.{Sheet}
 use Rattle.sheet.specs.Kinds.{isVar, isCompr, isRefBrack}
 use Rattle.scope.specs.Trees.{Tree, nil, node}
-use Rattle.scope.specs.Traverse.{Enters, nothing, enters, entered, traverse}
+use Rattle.scope.specs.Traverse.{Child, childrenOf, entered, traverse}
+use Rattle.scope_walk.proofs.Laws.Kids.{children-at}
 use Rattle.base.proofs.Laws.ListLaws.{concatMap-append}
 use Rattle.scope.specs.Scopes.{Scope}
 use Rattle.definition.specs.Uses
@@ -35,14 +35,14 @@ module _ (sheet : Sheet) (s : Scope) (extras : List ℕ) (i : ℕ) where
     set-node : (w : Row) (a b c : Tree) (bracket : Bool) → isRefBrack w ≡ bracket
         → (let once = walkOnce sheet s extras i in
         any p (concatMap g
-        (cond bracket (once a ++ (concatMap (indexed sheet s extras i (once a)) (indexVars s (node w a b c nil)) ++ (once b ++ once c)))
-        (ownEvents sheet s extras i w (node w a b c nil) ++ entered (getD enters (w .kind) nothing) (once a) (once b) (once c))))
+        (cond bracket (once a ++ (concatMap (indexed sheet s extras i (once a)) (indexVars s (node w a b c nil)) ++ once b))
+        (ownEvents sheet s extras i w (node w a b c nil) ++ entered (childrenOf w) (once a) (once b) (once c))))
         ≡ any p (h (node w a b c nil)
-        ++ entered (getD enters (w .kind) nothing) (concatMap g (once a)) (concatMap g (once b)) (concatMap g (once c))))
+        ++ entered (childrenOf w) (concatMap g (once a)) (concatMap g (once b)) (concatMap g (once c))))
     set-node w a b c false q =
         let once = walkOnce sheet s extras i in
         let o = ownEvents sheet s extras i w (node w a b c nil) in
-        let en = getD enters (w .kind) nothing in
+        let en = childrenOf w in
         let k : concatMap g (o ++ entered en (once a) (once b) (once c))
         ≡ h (node w a b c nil) ++ entered en (concatMap g (once a)) (concatMap g (once b)) (concatMap g (once c)) =
         concatMap-append g o (entered en (once a) (once b) (once c))
@@ -52,14 +52,13 @@ module _ (sheet : Sheet) (s : Scope) (extras : List ℕ) (i : ℕ) where
         let once = walkOnce sheet s extras i in
         let e = node w a b c nil in
         let ix = concatMap (indexed sheet s extras i (once a)) (indexVars s e) in
-        let bc = concatMap g (once b) ++ concatMap g (once c) in
-        let j : concatMap g (ix ++ (once b ++ once c)) ≡ h e ++ bc =
-        concatMap-append g ix (once b ++ once c) ∙ ap₂ _++_ (brackets w a b c q) (concatMap-append g (once b) (once c)) in
-        let k : concatMap g (once a ++ (ix ++ (once b ++ once c))) ≡ concatMap g (once a) ++ (h e ++ bc) =
-        concatMap-append g (once a) (ix ++ (once b ++ once c)) ∙ ap (λ (l : List X). concatMap g (once a) ++ l) j in
-        ap (any p) k ∙ any-swap p (concatMap g (once a)) (h e) bc
-        ∙ ap (λ (en : Enters). any p (h e ++ entered en (concatMap g (once a)) (concatMap g (once b)) (concatMap g (once c))))
-        (sym (ap (λ (n : ℕ). getD enters n nothing) (eqb-true (w .kind) 16 q)))
+        let j : concatMap g (ix ++ once b) ≡ h e ++ (concatMap g (once b) ++ []) =
+        concatMap-append g ix (once b) ∙ ap₂ _++_ (brackets w a b c q) (sym (append-nil (concatMap g (once b)))) in
+        let k : concatMap g (once a ++ (ix ++ once b)) ≡ concatMap g (once a) ++ (h e ++ (concatMap g (once b) ++ [])) =
+        concatMap-append g (once a) (ix ++ once b) ∙ ap (λ (l : List X). concatMap g (once a) ++ l) j in
+        ap (any p) k ∙ any-swap p (concatMap g (once a)) (h e) (concatMap g (once b) ++ [])
+        ∙ ap (λ (ks : List Child). any p (h e ++ entered ks (concatMap g (once a)) (concatMap g (once b)) (concatMap g (once c))))
+        (sym (children-at w 16 (eqb-true (w .kind) 16 q)))
 
     set-once : (t : Tree) → any p (concatMap g (walkOnce sheet s extras i t)) ≡ any p (concatMap h (traverse t))
     unfolding walkOnce traverse
@@ -67,9 +66,9 @@ module _ (sheet : Sheet) (s : Scope) (extras : List ℕ) (i : ℕ) where
     set-once (node w a b c n) =
         let once = walkOnce sheet s extras i in
         let e = node w a b c nil in
-        let en = getD enters (w .kind) nothing in
+        let en = childrenOf w in
         let here =
-        cond (isRefBrack w) (once a ++ (concatMap (indexed sheet s extras i (once a)) (indexVars s e) ++ (once b ++ once c)))
+        cond (isRefBrack w) (once a ++ (concatMap (indexed sheet s extras i (once a)) (indexVars s e) ++ once b))
         (ownEvents sheet s extras i w e ++ entered en (once a) (once b) (once c))
         in
         ap (any p) (concatMap-append g here (once n))

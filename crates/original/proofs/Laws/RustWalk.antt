@@ -2,12 +2,11 @@
 use mathlib.Core.Bool.{cond}
 use mathlib.Core.List.{List, [], _++_}
 use Prim.Native.Nat.{ℕ}
-use lib.ListN.{getD}
 use Rattle.base.specs.Lists.{concatMap}
 use Rattle.sheet.specs.Sheet.{Sheet}
 use Rattle.sheet.specs.Kinds.{isRefBrack}
 use Rattle.scope.specs.Trees.{Tree, nil, node}
-use Rattle.scope.specs.Traverse.{nothing, enters, entered}
+use Rattle.scope.specs.Traverse.{childrenOf, entered}
 use Rattle.scope.specs.Scopes.{Scope}
 use Rattle.definition.specs.Uses.{indexVars}
 use Rattle.original.specs.Inner.Events.{Event}
@@ -19,6 +18,6 @@ module _ (sheet : Sheet) (s : Scope) (extras : List ℕ) (i : ℕ) where
   walkOnce nil = []
   walkOnce (node w a b c n) =
       let walk = walkOnce a in
-      cond (isRefBrack w) (walk ++ (concatMap (indexed sheet s extras i walk) (indexVars s (node w a b c nil)) ++ (walkOnce b ++ walkOnce c)))
-      (ownEvents sheet s extras i w (node w a b c nil) ++ entered (getD enters (w .kind) nothing) walk (walkOnce b) (walkOnce c))
+      cond (isRefBrack w) (walk ++ (concatMap (indexed sheet s extras i walk) (indexVars s (node w a b c nil)) ++ walkOnce b))
+      (ownEvents sheet s extras i w (node w a b c nil) ++ entered (childrenOf w) walk (walkOnce b) (walkOnce c))
       ++ walkOnce n

@@ -1,18 +1,18 @@
 -- The Rust's walk and the walk done once come to the same for whatever takes their events and is settled.
 use mathlib.Core.Path.{_≡_, refl, sym, ap, _∙_, fun-ext}
 use mathlib.Core.Bool.{Bool, true, false, cond}
-use mathlib.Core.List.{List, [], _∷_, _++_, append-assoc, foldl, foldl-append}
+use mathlib.Core.List.{List, [], _∷_, _++_, append-assoc, append-nil, foldl, foldl-append}
 use Prim.Native.Nat.{ℕ}
 use lib.Dec.{eqb}
 use borrow.Author.Tests.{eqb-true}
-use lib.ListN.{getD}
 use Rattle.base.specs.Lists.{filter, elem, range, concatMap, any}
 use Rattle.order.specs.Definitions.{Definition}
 use Rattle.sheet.specs.declared.Row.{Row}
 use Rattle.sheet.specs.Sheet.{Sheet, nameBound}
 use Rattle.sheet.specs.Kinds.{isRefBrack}
 use Rattle.scope.specs.Trees.{Tree, nil, node}
-use Rattle.scope.specs.Traverse.{Enters, nothing, params, fields, enters, entered}
+use Rattle.scope.specs.Traverse.{Child, firstField, secondField, thirdField, childrenOf, childOf, entered}
+use Rattle.scope_walk.proofs.Laws.Kids.{children-at}
 use Rattle.scope.specs.Scopes.{Scope}
 use Rattle.definition.specs.Uses.{define, indexVars}
 use Rattle.original.proofs.Laws.Lists.{elem-any}
@@ -53,11 +53,16 @@ same-append a a′ b b′ ha hb S step st t =
     ∙ sym (foldl-append step t a′ b′)
 
 -- What is entered.
-same-entered : (en : Enters) (a a′ b b′ c c′ : List Event) → SameEvents a a′ → SameEvents b b′ → SameEvents c c′ → SameEvents (entered en a b c) (entered en a′ b′ c′)
-same-entered nothing a a′ b b′ c c′ ha hb hc S step st t = refl
-same-entered params a a′ b b′ c c′ ha hb hc S step st t = hb S step st t
-same-entered fields a a′ b b′ c c′ ha hb hc S step st t =
-    same-append a a′ (b ++ c) (b′ ++ c′) ha (same-append b b′ c c′ hb hc) S step st t
+same-entered : (ks : List Child) (a a′ b b′ c c′ : List Event) → SameEvents a a′ → SameEvents b b′ → SameEvents c c′ → SameEvents (entered ks a b c) (entered ks a′ b′ c′)
+same-entered [] a a′ b b′ c c′ ha hb hc S step st t = refl
+same-entered (k ∷ ks) a a′ b b′ c c′ ha hb hc S step st t =
+    same-append (childOf k a b c) (childOf k a′ b′ c′) (entered ks a b c) (entered ks a′ b′ c′) (child k)
+    (same-entered ks a a′ b b′ c c′ ha hb hc) S step st t
+  where
+    child : (j : Child) → SameEvents (childOf j a b c) (childOf j a′ b′ c′)
+    child firstField = ha
+    child secondField = hb
+    child thirdField = hc
 
 module _ (sheet : Sheet) (s : Scope) (extras : List ℕ) (i : ℕ) where
   -- The names used are the same set.
@@ -73,39 +78,37 @@ module _ (sheet : Sheet) (s : Scope) (extras : List ℕ) (i : ℕ) where
       (define-same i x (namesUsed sheet s extras i k) (namesUsed sheet s extras i l) (same-names k l h)))
 
   -- At a bracket.
-  same-bracket : (xs : List ℕ) (a a′ b b′ c c′ : List Event) → SameEvents a a′ → SameEvents b b′ → SameEvents c c′
-      → SameEvents (concatMap (λ x. a ++ indexed sheet s extras i a x) xs ++ (a ++ (b ++ c)))
-      (a′ ++ (concatMap (indexed sheet s extras i a′) xs ++ (b′ ++ c′)))
-  same-bracket xs a a′ b b′ c c′ ha hb hc S step st t =
+  same-bracket : (xs : List ℕ) (a a′ b b′ : List Event) → SameEvents a a′ → SameEvents b b′
+      → SameEvents (concatMap (λ x. a ++ indexed sheet s extras i a x) xs ++ (a ++ b)) (a′ ++ (concatMap (indexed sheet s extras i a′) xs ++ b′))
+  same-bracket xs a a′ b b′ ha hb S step st t =
       let ix = indexed sheet s extras i in
-      ap (foldl step t) (sym (append-assoc (concatMap (λ x. a ++ ix a x) xs) a (b ++ c)))
-      ∙ foldl-append step t (concatMap (λ x. a ++ ix a x) xs ++ a) (b ++ c)
-      ∙ ap (λ (u : S). foldl step u (b ++ c)) (repeats step st a (ix a) xs t)
-      ∙ same-append b b′ c c′ hb hc S step st (foldl step t (a ++ concatMap (ix a) xs))
-      ∙ ap (λ (d : ℕ → List Event). foldl step (foldl step t (a ++ concatMap d xs)) (b′ ++ c′)) (indexed-same a a′ ha)
-      ∙ ap (λ (u : S). foldl step u (b′ ++ c′))
+      ap (foldl step t) (sym (append-assoc (concatMap (λ x. a ++ ix a x) xs) a b))
+      ∙ foldl-append step t (concatMap (λ x. a ++ ix a x) xs ++ a) b
+      ∙ ap (λ (u : S). foldl step u b) (repeats step st a (ix a) xs t)
+      ∙ hb S step st (foldl step t (a ++ concatMap (ix a) xs))
+      ∙ ap (λ (d : ℕ → List Event). foldl step (foldl step t (a ++ concatMap d xs)) b′) (indexed-same a a′ ha)
+      ∙ ap (λ (u : S). foldl step u b′)
       (foldl-append step t a (concatMap (ix a′) xs)
       ∙ ap (λ (u : S). foldl step u (concatMap (ix a′) xs)) (ha S step st t)
       ∙ sym (foldl-append step t a′ (concatMap (ix a′) xs)))
-      ∙ sym (foldl-append step t (a′ ++ concatMap (ix a′) xs) (b′ ++ c′))
-      ∙ ap (foldl step t) (append-assoc a′ (concatMap (ix a′) xs) (b′ ++ c′))
+      ∙ sym (foldl-append step t (a′ ++ concatMap (ix a′) xs) b′)
+      ∙ ap (foldl step t) (append-assoc a′ (concatMap (ix a′) xs) b′)
 
   -- At an expression.
   same-node : (w : Row) (e : Tree) (bracket : Bool) → isRefBrack w ≡ bracket → (a a′ b b′ c c′ : List Event) → SameEvents a a′ → SameEvents b b′ → SameEvents c c′
       → SameEvents
       (cond bracket (concatMap (λ x. a ++ indexed sheet s extras i a x) (indexVars s e)) (ownEvents sheet s extras i w e)
-      ++ entered (getD enters (w .kind) nothing) a b c)
-      (cond bracket (a′ ++ (concatMap (indexed sheet s extras i a′) (indexVars s e) ++ (b′ ++ c′)))
-      (ownEvents sheet s extras i w e ++ entered (getD enters (w .kind) nothing) a′ b′ c′))
+      ++ entered (childrenOf w) a b c)
+      (cond bracket (a′ ++ (concatMap (indexed sheet s extras i a′) (indexVars s e) ++ b′)) (ownEvents sheet s extras i w e ++ entered (childrenOf w) a′ b′ c′))
   same-node w e false q a a′ b b′ c c′ ha hb hc S step st t =
       let own = ownEvents sheet s extras i w e in
-      let en = getD enters (w .kind) nothing in
-      same-append own own (entered en a b c) (entered en a′ b′ c′) (λ T f h u. refl) (same-entered en a a′ b b′ c c′ ha hb hc) S step st t
+      let ks = childrenOf w in
+      same-append own own (entered ks a b c) (entered ks a′ b′ c′) (λ T f h u. refl) (same-entered ks a a′ b b′ c c′ ha hb hc) S step st t
   same-node w e true q a a′ b b′ c c′ ha hb hc S step st t =
-      let k : getD enters (w .kind) nothing ≡ fields = ap (λ (n : ℕ). getD enters n nothing) (eqb-true (w .kind) 16 q) in
-      ap
-      (λ (en : Enters). foldl step t (concatMap (λ x. a ++ indexed sheet s extras i a x) (indexVars s e) ++ entered en a b c)) k
-      ∙ same-bracket (indexVars s e) a a′ b b′ c c′ ha hb hc S step st t
+      let parts : entered (childrenOf w) a b c ≡ a ++ b =
+      ap (λ (ks : List Child). entered ks a b c) (children-at w 16 (eqb-true (w .kind) 16 q)) ∙ ap (λ (l : List Event). a ++ l) (append-nil b) in
+      ap (λ (l : List Event). foldl step t (concatMap (λ x. a ++ indexed sheet s extras i a x) (indexVars s e) ++ l)) parts
+      ∙ same-bracket (indexVars s e) a a′ b b′ ha hb S step st t
 
   -- Whatever takes events in turn, and is not changed by one that it took before, comes to the same.
   pub rust-once : (t : Tree) → SameEvents (rustWalk sheet s extras i t) (walkOnce sheet s extras i t)
@@ -115,11 +118,11 @@ module _ (sheet : Sheet) (s : Scope) (extras : List ℕ) (i : ℕ) where
       let rust = rustWalk sheet s extras i in
       let once = walkOnce sheet s extras i in
       let e = node w a b c nil in
-      let en = getD enters (w .kind) nothing in
+      let ks = childrenOf w in
       same-append
-      (visit sheet s extras i w e (rust a) ++ entered en (rust a) (rust b) (rust c))
-      (cond (isRefBrack w) (once a ++ (concatMap (indexed sheet s extras i (once a)) (indexVars s e) ++ (once b ++ once c)))
-      (ownEvents sheet s extras i w e ++ entered en (once a) (once b) (once c)))
+      (visit sheet s extras i w e (rust a) ++ entered ks (rust a) (rust b) (rust c))
+      (cond (isRefBrack w) (once a ++ (concatMap (indexed sheet s extras i (once a)) (indexVars s e) ++ once b))
+      (ownEvents sheet s extras i w e ++ entered ks (once a) (once b) (once c)))
       (rust n) (once n)
       (same-node w e (isRefBrack w) refl (rust a) (once a) (rust b) (once b) (rust c) (once c)
       (λ T f h v. rust-once a T f h v) (λ T f h v. rust-once b T f h v) (λ T f h v. rust-once c T f h v))

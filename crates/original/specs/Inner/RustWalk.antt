@@ -2,13 +2,12 @@
 use mathlib.Core.Bool.{cond}
 use mathlib.Core.List.{List, [], _∷_, _++_}
 use Prim.Native.Nat.{ℕ}
-use lib.ListN.{getD}
 use Rattle.base.specs.Lists.{concatMap}
 use Rattle.sheet.specs.declared.Row.{Row}
 use Rattle.sheet.specs.Sheet.{Sheet}
 use Rattle.sheet.specs.Kinds.{isVar, isCompr, isRefBrack}
 use Rattle.scope.specs.Trees.{Tree, nil, node}
-use Rattle.scope.specs.Traverse.{nothing, enters, entered}
+use Rattle.scope.specs.Traverse.{childrenOf, entered}
 use Rattle.scope.specs.Scopes.{Scope}
 use Rattle.definition.specs.Uses.{define, indexVars, isUse}
 use Rattle.original.specs.Inner.Events.{Event, seen, met, used, defined}
@@ -42,4 +41,4 @@ module _ (sheet : Sheet) (s : Scope) (extras : List ℕ) (i : ℕ) where
   rustWalk nil = []
   rustWalk (node w a b c n) =
       let walk = rustWalk a in
-      (visit w (node w a b c nil) walk ++ entered (getD enters (w .kind) nothing) walk (rustWalk b) (rustWalk c)) ++ rustWalk n
+      (visit w (node w a b c nil) walk ++ entered (childrenOf w) walk (rustWalk b) (rustWalk c)) ++ rustWalk n

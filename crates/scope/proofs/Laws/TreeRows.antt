@@ -16,7 +16,7 @@ use Rattle.sheet.specs.declared.Row.{Row}
 use Rattle.sheet.specs.Sheet.{Sheet, noRow}
 use Rattle.sheet.specs.Kinds.{isVar, isPattern, isCompr, isCall}
 use Rattle.scope.specs.Trees.{Tree, nil, node, thirdOf, decode, treeAt, rowOf, firstOf, secondOf, chain, outputsOf}
-use Rattle.scope.specs.Traverse.{Enters, nothing, params, fields, enters, entered, traverse, leaves, vars, comprs}
+use Rattle.scope.specs.Traverse.{Child, firstField, secondField, thirdField, childrenOf, childOf, entered, traverse, leaves, vars, comprs}
 use Rattle.scope.specs.Paths.{getPathString, builtinWith, beyond, getExtraArg}
 
 module _ (q : Row → Bool) where
@@ -71,16 +71,21 @@ module _ (q : Row → Bool) where
   traverse-rows (node w a b c n) h =
       let p = rows-of-parts w a b c n h in
       and-intro _ _ (alone-rows w a b c n p)
-      (all-append rowsPass (entered (getD enters (w .kind) nothing) (traverse a) (traverse b) (traverse c)) (traverse n)
-      (go (getD enters (w .kind) nothing) (traverse a) (traverse b) (traverse c)
+      (all-append rowsPass (entered (childrenOf w) (traverse a) (traverse b) (traverse c)) (traverse n)
+      (go (childrenOf w) (traverse a) (traverse b) (traverse c)
       (traverse-rows a (p .first)) (traverse-rows b (p .second)) (traverse-rows c (p .third)))
       (traverse-rows n (p .next)))
     where
-      go : (e : Enters) (k l m : List Tree) → all rowsPass k ≡ true → all rowsPass l ≡ true → all rowsPass m ≡ true
-          → all rowsPass (entered e k l m) ≡ true
-      go nothing k l m hk hl hm = refl
-      go params k l m hk hl hm = hl
-      go fields k l m hk hl hm = all-append rowsPass k (l ++ m) hk (all-append rowsPass l m hl hm)
+      child : (k : Child) (l m n : List Tree) → all rowsPass l ≡ true → all rowsPass m ≡ true → all rowsPass n ≡ true
+          → all rowsPass (childOf k l m n) ≡ true
+      child firstField l m n hl hm hn = hl
+      child secondField l m n hl hm hn = hm
+      child thirdField l m n hl hm hn = hn
+
+      go : (ks : List Child) (l m n : List Tree) → all rowsPass l ≡ true → all rowsPass m ≡ true → all rowsPass n ≡ true
+          → all rowsPass (entered ks l m n) ≡ true
+      go [] l m n hl hm hn = refl
+      go (k ∷ ks) l m n hl hm hn = all-append rowsPass (childOf k l m n) (entered ks l m n) (child k l m n hl hm hn) (go ks l m n hl hm hn)
 
   pub leaves-rows : (t : Tree) → rowsPass t ≡ true → all rowsPass (leaves t) ≡ true
   unfolding leaves

@@ -5,6 +5,7 @@ use mathlib.Core.List.{List, [], _∷_, _++_, foldl}
 use Prim.Native.Nat.{ℕ, _≤_}
 use borrow.Author.Tests.{eq-eqb, ne-eqb}
 use Rattle.base.specs.Sets.{member}
+use Rattle.base.proofs.Laws.Truth.{not-both}
 use Rattle.sheet.specs.declared.Row.{Row}
 use Rattle.sheet.specs.Sheet.{Sheet, isInput}
 use Rattle.sheet.specs.Inner.Sheet.{rowAt}
@@ -15,6 +16,7 @@ use Rattle.scope.specs.Scopes as spec
 use Rattle.scope.specs.Gather.{inputVar, gatherInputVars}
 use Rattle.scope_walk.specs.declared.Kids.{Kids}
 use Rattle.scope_walk.specs.Inner.Kids.{kidsOf}
+use Rattle.scope_walk.proofs.Laws.Arms.{Turn}
 use Rattle.scope_walk.specs.Inner.Walks.{alone, overBy}
 use Rattle.scope_state.specs.declared.Scope.{Scope}
 use Rattle.scope_walk.specs.Inner.Sheets.{countsAt, specialAt, sheetAt, Accepted, exprCount}
@@ -23,7 +25,7 @@ use Rattle.scope_state.specs.Inner.Outers.{Exists}
 use Rattle.scope_walk.specs.Inner.Exprs.{exprBy}
 use Rattle.scope_walk.proofs.Laws.Walking as walking
 use Rattle.scope_walk.specs.Inner.Walking.{Walk}
-use Rattle.scope_vars.specs.Inner.Inputs.{InputVar, InputStep, InputWalk}
+use Rattle.scope_vars.specs.Inner.Inputs.{InputVar, InputStep, InputWalk, InputVarIn, InputStepIn}
 
 -- The definitions' step at any expression.
 abbrev pub inputAt : Sheet → List spec.Scope → spec.Scope → Tree → spec.Scope
@@ -97,3 +99,15 @@ module _ (t outer : List ℕ) where
       (walking.walk-turn t Sets (inputAt (sheetAt t) parents) ok (λ u v. cond (isVar v) (inputVar (sheetAt t) parents u v) u) (λ u v. refl)
       row some high rest w is p ps next ns k s₀ s₁ s₂ s₃ s₄ (h₀ parents o)
       (part (p .first) s₀ s₁ h₁) (part (p .second) s₁ s₂ h₂) (part (p .third) s₂ s₃ h₃) (part next s₃ s₄ h₄) s a)
+
+-- ---- what is done at a row, on the flag and the inputs
+
+abbrev pub InputTurn : List ℕ → List ℕ → Row → List ℕ → List ℕ × Bool → List ℕ × Bool → Kids → Type 0
+InputTurn t outer w u = Turn (λ a b. InputStepIn t outer w u (a .0) (a .1) (b .0) (b .1)) w
+
+module _ (t outer : List ℕ) (w : Row) (u i : List ℕ) (f : Bool) where
+  pub input-still : isVar w ≡ false → InputStepIn t outer w u i f i f
+  input-still other = record { long = refl; done = λ l. input-step-other t outer w _ (λ e. not-both (eq-eqb (w .kind) 6 e) other) }
+
+  pub input-at-var : w .kind ≡ 6 → (j : List ℕ) (g : Bool) → InputVarIn t outer w u i f j g → InputStepIn t outer w u i f j g
+  input-at-var e j g did = record { long = did .long; done = λ l. input-step-var t outer w _ e _ (did .done l) }

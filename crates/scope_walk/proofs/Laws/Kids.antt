@@ -1,9 +1,9 @@
 -- Laws of `Kids`.
-use mathlib.Core.Path.{_≡_, refl, sym, ap, _∙_}
+use mathlib.Core.Path.{_≡_, refl, sym, ap, subst}
 use mathlib.Core.Bool.{true}
-use mathlib.Core.List.{List, [], _∷_, map}
+use mathlib.Core.List.{List, [], _∷_}
 use mathlib.Core.Logic.{_⊎_, inl, inr}
-use Prim.Native.Nat.{ℕ, zero, suc}
+use Prim.Native.Nat.{ℕ, zero, suc, _≤_}
 use native.Mathlib.Omega.{arith}
 use lib.Dec.{leb}
 use lib.ListN.{getD}
@@ -11,56 +11,37 @@ use borrow.Author.Tests.{leb-true}
 use Rattle.base.proofs.Laws.Truth.{eq-cases, and-left, and-right}
 use Rattle.sheet.specs.declared.Row.{Row}
 use Rattle.sheet.specs.Kinds.{isCompr}
-use Rattle.scope.specs.Traverse.{Enters, nothing, params, fields, enters}
-use Rattle.scope_walk.specs.Inner.Kids.{entersOf, codes, enterCode, kidsBy, kidsOf}
+use Rattle.sheet_fields.proofs.Laws.Tables.{NoArm, left-over}
+use Rattle.scope.specs.Traverse.{Child, children, childrenOf}
+use Rattle.scope_walk.specs.Inner.Kids.{kidsFrom, kidsBy, kidsOf}
+
+-- ---- the children of a row whose kind is known
+
+pub children-at : (w : Row) (n : ℕ) → w .kind ≡ n → childrenOf w ≡ getD children n []
+children-at w n e = ap (λ (k : ℕ). getD children k []) e
+
+-- Past the last kind there are none.
+pub no-children : (w : Row) → NoArm 22 (w .kind) → childrenOf w ≡ []
+no-children w h = sym (left-over children [] 22 (w .kind) (omega arith) refl h)
 
 -- A comprehension's third field, which names a query, is not entered, nor any other of its fields.
-pub compr-enters-nothing : (w : Row) → isCompr w ≡ true → entersOf w ≡ nothing
-unfolding entersOf
+pub compr-enters-nothing : (w : Row) → isCompr w ≡ true → childrenOf w ≡ []
 compr-enters-nothing w h = go (eq-cases (w .kind) 10) (eq-cases (w .kind) 11)
   where
-    go : ((w .kind ≡ 10) ⊎ (w .kind ≡ 10 → ⊥)) → ((w .kind ≡ 11) ⊎ (w .kind ≡ 11 → ⊥)) → getD enters (w .kind) nothing ≡ nothing
-    go (inl p) q = rw p
-    go (inr p) (inl q) = rw q
+    go : ((w .kind ≡ 10) ⊎ (w .kind ≡ 10 → ⊥)) → ((w .kind ≡ 11) ⊎ (w .kind ≡ 11 → ⊥)) → childrenOf w ≡ []
+    go (inl p) q = children-at w 10 p
+    go (inr p) (inl q) = children-at w 11 q
     go (inr p) (inr q) =
         let low = leb-true 10 (w .kind) (and-left (leb 10 (w .kind)) _ h) in
         let high = leb-true (w .kind) 12 (and-right (leb 10 (w .kind)) _ h) in
-        let e : w .kind ≡ 12 = omega arith in
-        rw e
+        children-at w 12 (omega arith)
 
-abbrev fromCode : ℕ → Enters
-fromCode zero = nothing
-fromCode (suc zero) = params
-fromCode (suc (suc n)) = fields
+-- ---- the arms of `kids_of`
 
-get-map : (l : List ℕ) (k : ℕ) → getD (map fromCode l) k nothing ≡ fromCode (getD l k 0)
-get-map [] k = refl
-get-map (x ∷ l) zero = refl
-get-map (x ∷ l) (suc k) = get-map l k
+pub kids-at : (w : Row) (n : ℕ) → w .kind ≡ n → kidsBy (getD children n []) w ≡ kidsOf w
+unfolding kidsOf
+kids-at w n e = ap (λ (ks : List Child). kidsBy ks w) (sym (children-at w n e))
 
-pub code-enters : (w : Row) → fromCode (enterCode (w .kind)) ≡ entersOf w
-unfolding enterCode entersOf
-code-enters w = sym (get-map codes (w .kind))
-
--- ---- the ways out of `kids_of`
-
-module _ (w : Row) (e : ℕ) (is : e ≡ enterCode (w .kind)) where
-  entering : fromCode e ≡ entersOf w
-  entering = ap fromCode is ∙ code-enters w
-
-  pub enters-nothing : e ≡ 0 → kidsBy nothing w ≡ kidsOf w
-  unfolding kidsOf
-  enters-nothing z = let k : nothing ≡ entersOf w = rw z at entering in ap (λ (n : Enters). kidsBy n w) k
-
-  pub enters-params : e ≡ 1 → kidsBy params w ≡ kidsOf w
-  unfolding kidsOf
-  enters-params z = let k : params ≡ entersOf w = rw z at entering in ap (λ (n : Enters). kidsBy n w) k
-
-  pub enters-fields : (e ≡ 0 → ⊥) → (e ≡ 1 → ⊥) → kidsBy fields w ≡ kidsOf w
-  unfolding kidsOf
-  enters-fields a b = ap (λ (n : Enters). kidsBy n w) (go e a b entering)
-    where
-      go : (n : ℕ) → (n ≡ 0 → ⊥) → (n ≡ 1 → ⊥) → fromCode n ≡ entersOf w → fields ≡ entersOf w
-      go zero a b h = absurd (a refl)
-      go (suc zero) a b h = absurd (b refl)
-      go (suc (suc n)) a b h = h
+pub no-kids : (w : Row) → NoArm 22 (w .kind) → kidsFrom [] ≡ kidsOf w
+unfolding kidsOf
+no-kids w h = ap (λ (ks : List Child). kidsBy ks w) (sym (no-children w h))

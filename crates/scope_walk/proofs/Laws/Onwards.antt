@@ -1,12 +1,12 @@
 -- Laws of `Onwards`.
-use mathlib.Core.Path.{_≡_, refl, ap, subst}
-use mathlib.Core.Bool.{Bool, true, false}
-use mathlib.Core.List.{List}
+use mathlib.Core.Path.{_≡_, refl, sym, subst}
+use mathlib.Core.Bool.{true, false}
+use mathlib.Core.List.{List, []}
 use mathlib.Core.Logic.{_⊎_, inl, inr}
 use Prim.Native.Nat.{ℕ, zero, suc, _≤_, _<_}
 use native.Mathlib.Omega.{arith}
 use Rattle.base.specs.Limits as limits
-use Rattle.base.proofs.Laws.Truth.{bool-cases, not-both}
+use Rattle.base.proofs.Laws.Truth.{bool-cases}
 use Rattle.sheet.specs.declared.Counts.{Counts}
 use Rattle.sheet.specs.Inner.Records.{Within, exprAt}
 use Rattle.sheet.specs.Fields.{nameSection, limitOf}
@@ -16,10 +16,11 @@ use Rattle.sheet.specs.declared.Row.{Row}
 use Rattle.sheet.specs.Inner.Sheet.{rowAt}
 use Rattle.sheet.specs.Kinds.{isCompr}
 use Rattle.scope.specs.Trees.{thirdOf}
-use Rattle.scope.specs.Traverse.{Enters, nothing, params, fields}
+use Rattle.scope.specs.Traverse.{Child, childrenOf}
+use Rattle.scope.proofs.Laws.Children.{of-children}
 use Rattle.scope_walk.proofs.Laws.Descent.{OnwardTo, Descends}
 use Rattle.scope_walk.proofs.Laws.RowTrees.{row-descends}
-use Rattle.scope_walk.specs.Inner.Kids.{entersOf, kidsBy, kidsOf}
+use Rattle.scope_walk.specs.Inner.Kids.{kidsBy, kidsOf}
 use Rattle.scope_walk.proofs.Laws.Kids.{compr-enters-nothing}
 use Rattle.sheet.specs.Inner.Rows.{inTables}
 use Rattle.scope_walk.specs.Inner.Onwards.{rowsLeft}
@@ -47,28 +48,28 @@ pub record Onwards (n r : ℕ) (w : Row) : Type 0 where
   pub third : OnwardTo n r (kidsOf w .third)
   pub next : OnwardTo n r (w .next)
 
-abbrev isFields : Enters → Bool
-isFields nothing = false
-isFields params = false
-isFields fields = true
-
 module _ (n r : ℕ) (w : Row) (d : Descends n r w) where
-  by-enters : (e : Enters) → OnwardTo n r (w .third) ⊎ (e ≡ nothing)
-      → OnwardTo n r (kidsBy e w .first) × OnwardTo n r (kidsBy e w .second) × OnwardTo n r (kidsBy e w .third)
-  by-enters nothing h = (inl refl, inl refl, inl refl)
-  by-enters params h = (inl refl, d .to-second, inl refl)
-  by-enters fields (inl h) = (d .to-first, d .to-second, h)
-  by-enters fields (inr e) = absurd (not-both refl (ap isFields e))
+  abbrev Three : List Child → Type 0
+  Three ks = OnwardTo n r (kidsBy ks w .first) × OnwardTo n r (kidsBy ks w .second) × OnwardTo n r (kidsBy ks w .third)
+
+  none : Three []
+  none = (inl refl, inl refl, inl refl)
+
+  by-kind : OnwardTo n r (w .third) → Three (childrenOf w)
+  by-kind h =
+      of-children Three none (d .to-first, inl refl, inl refl) (d .to-second, inl refl, inl refl) (d .to-first, d .to-second, inl refl)
+      (d .to-first, d .to-second, h) (w .kind)
+
+  -- A comprehension's third field names a query, and is not entered.
+  by-compr : (isCompr w ≡ true) ⊎ (isCompr w ≡ false) → Three (childrenOf w)
+  by-compr (inl p) = subst Three (sym (compr-enters-nothing w p)) none
+  by-compr (inr p) = let e : thirdOf w ≡ w .third = rw p in by-kind (subst (OnwardTo n r) e (d .to-third))
 
   pub onwards : Onwards n r w
   unfolding kidsOf
   onwards =
-      let k = by-enters (entersOf w) (third-or-none (bool-cases (isCompr w))) in
+      let k = by-compr (bool-cases (isCompr w)) in
       record { first = k .0; second = k .1; third = k .2; next = d .to-next }
-    where
-      third-or-none : (isCompr w ≡ true) ⊎ (isCompr w ≡ false) → OnwardTo n r (w .third) ⊎ (entersOf w ≡ nothing)
-      third-or-none (inl p) = inr (compr-enters-nothing w p)
-      third-or-none (inr p) = let e : thirdOf w ≡ w .third = rw p in inl (subst (OnwardTo n r) e (d .to-third))
 
 -- ---- names
 

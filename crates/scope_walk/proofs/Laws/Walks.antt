@@ -1,10 +1,9 @@
 -- Laws of `Walks`.
-use mathlib.Core.Path.{_≡_, refl, sym, ap, _∙_}
+use mathlib.Core.Path.{_≡_, refl, sym, ap, subst, _∙_}
 use mathlib.Core.Bool.{Bool, true, false, cond}
 use mathlib.Core.List.{List, [], _∷_, _++_, foldl}
 use mathlib.Core.Logic.{_⊎_, inl, inr}
 use Prim.Native.Nat.{ℕ, _≤_}
-use lib.ListN.{getD}
 use Rattle.base.proofs.Laws.Truth.{bool-cases}
 use Rattle.sheet.specs.declared.Counts.{Counts}
 use Rattle.sheet.specs.declared.Special.{Special}
@@ -13,10 +12,11 @@ use Rattle.sheet.specs.declared.Row.{Row}
 use Rattle.sheet.specs.Inner.Sheet.{rowAt}
 use Rattle.sheet.specs.Kinds.{isPattern, isCompr}
 use Rattle.scope.specs.Trees.{Tree, nil, node, thirdOf}
-use Rattle.scope.specs.Traverse.{Enters, nothing, params, fields, enters, entered, traverse, leaves}
+use Rattle.scope.specs.Traverse.{Child, childrenOf, entered, traverse, leaves}
+use Rattle.scope.proofs.Laws.Children.{of-children}
 use Rattle.scope_walk.specs.declared.Kids.{Kids}
 use Rattle.scope_walk.proofs.Laws.RowTrees.{tree-none, tree-row}
-use Rattle.scope_walk.specs.Inner.Kids.{entersOf, kidsBy, kidsOf}
+use Rattle.scope_walk.specs.Inner.Kids.{kidsBy, kidsOf}
 use Rattle.scope_walk.proofs.Laws.Kids.{compr-enters-nothing}
 use Rattle.sheet.specs.Inner.Rows.{inTables}
 use Rattle.scope_walk.specs.Inner.Walks.{tree, alone, overBy}
@@ -55,38 +55,47 @@ module _ (c : Counts) (x : Special) (t : List ℕ) where
     abbrev overParts : S → Kids → S
     overParts s k = over f (over f (over f s (k .first)) (k .second)) (k .third)
 
-    parts-over : (e : Enters) (s : S) (w : Row) (third : ℕ) → third ≡ w .third
-        → foldl f s (entered e (traverse (tree c x t (w .first))) (traverse (tree c x t (w .second))) (traverse (tree c x t third))) ≡ overParts s (kidsBy e w)
-    parts-over nothing s w third is = sym (over-none _ ∙ over-none _ ∙ over-none _)
-    parts-over params s w third is = sym (over-none _ ∙ ap (λ (u : S). over f u (w .second)) (over-none s))
-    parts-over fields s w third is =
-        fold-append f s (traverse (tree c x t (w .first))) (traverse (tree c x t (w .second)) ++ traverse (tree c x t third))
-        ∙ fold-append f (over f s (w .first)) (traverse (tree c x t (w .second))) (traverse (tree c x t third))
-        ∙ ap (λ (k : ℕ). over f (over f (over f s (w .first)) (w .second)) k) is
+    abbrev met : ℕ → List Tree
+    met r = traverse (tree c x t r)
+
+    abbrev PartsOver : S → Row → ℕ → List Child → Type 0
+    PartsOver s w third ks = foldl f s (entered ks (met (w .first)) (met (w .second)) (met third)) ≡ overParts s (kidsBy ks w)
+
+    parts-none : (s : S) (w : Row) (third : ℕ) → PartsOver s w third []
+    parts-none s w third = sym (over-none _ ∙ over-none _ ∙ over-none _)
+
+    -- One field, and those behind it.
+    then : (s : S) (r : ℕ) (l : List Tree) → foldl f s (met r ++ l) ≡ foldl f (over f s r) l
+    then s r l = fold-append f s (met r) l
+
+    parts-over : (s : S) (w : Row) (third : ℕ) → third ≡ w .third → PartsOver s w third (childrenOf w)
+    parts-over s w third is =
+        of-children (PartsOver s w third) (parts-none s w third)
+        (then s (w .first) [] ∙ sym (over-none _ ∙ over-none _))
+        (then s (w .second) [] ∙ sym (over-none _ ∙ over-none _))
+        (then s (w .first) _ ∙ then (over f s (w .first)) (w .second) [] ∙ sym (over-none _))
+        (then s (w .first) _ ∙ then (over f s (w .first)) (w .second) _ ∙ then (over f (over f s (w .first)) (w .second)) third []
+        ∙ ap (λ (k : ℕ). over f (over f (over f s (w .first)) (w .second)) k) is)
+        (w .kind)
 
     -- A comprehension's third names a query, and it is not entered.
-    entered-parts : (s : S) (w : Row)
-        → foldl f s (entered (entersOf w) (traverse (tree c x t (w .first))) (traverse (tree c x t (w .second))) (traverse (tree c x t (thirdOf w))))
-        ≡ overParts s (kidsOf w)
+    entered-parts : (s : S) (w : Row) → foldl f s (entered (childrenOf w) (met (w .first)) (met (w .second)) (met (thirdOf w))) ≡ overParts s (kidsOf w)
     unfolding kidsOf
     entered-parts s w = go (bool-cases (isCompr w))
       where
-        go : (isCompr w ≡ true) ⊎ (isCompr w ≡ false)
-            → foldl f s (entered (entersOf w) (traverse (tree c x t (w .first))) (traverse (tree c x t (w .second))) (traverse (tree c x t (thirdOf w))))
-            ≡ overParts s (kidsBy (entersOf w) w)
-        go (inl p) = rw (compr-enters-nothing w p) (sym (over-none _ ∙ over-none _ ∙ over-none _))
-        go (inr p) = parts-over (entersOf w) s w (thirdOf w) (rw p)
+        go : (isCompr w ≡ true) ⊎ (isCompr w ≡ false) → PartsOver s w (thirdOf w) (childrenOf w)
+        go (inl p) = subst (PartsOver s w (thirdOf w)) (sym (compr-enters-nothing w p)) (parts-none s w (thirdOf w))
+        go (inr p) = parts-over s w (thirdOf w) (rw p)
 
     -- The row first, then its parts, then the rest of its chain.
     pub over-row : (s : S) (r : ℕ) → 1 ≤ r → r ≤ c .exprs
         → let w = rowAt t r in let k = kidsOf w in
         over f s r ≡ over f (over f (over f (over f (f s (aloneAt r)) (k .first)) (k .second)) (k .third)) (w .next)
-    unfolding traverse entersOf
+    unfolding traverse
     over-row s r a b =
         let w = rowAt t r in
-        let e = getD enters (w .kind) nothing in
         rw (tree-row c x t facts r a b)
-        (fold-append f (f s (aloneAt r)) (entered e (traverse (tree c x t (w .first))) (traverse (tree c x t (w .second))) (traverse (tree c x t (thirdOf w)))) (traverse (tree c x t (w .next)))
+        (fold-append f (f s (aloneAt r)) (entered (childrenOf w) (met (w .first)) (met (w .second)) (met (thirdOf w))) (met (w .next))
         ∙ ap (λ (u : S). over f u (w .next)) (entered-parts (f s (aloneAt r)) w))
 
     leaf-parts : (s : S) (r : ℕ) (p : Bool)
@@ -115,12 +124,12 @@ module _ (c : Counts) (x : Special) (t : List ℕ) where
     pub overBy-row : (rest : Bool) (s : S) (r : ℕ) → 1 ≤ r → r ≤ c .exprs
         → let w = rowAt t r in let k = kidsOf w in
         (overBy c x t) f rest s r ≡ over f (over f (over f (over f (f s (aloneAt r)) (k .first)) (k .second)) (k .third)) (cond rest (w .next) 0)
-    unfolding traverse entersOf
+    unfolding traverse
     overBy-row true s r a b = over-row s r a b
     overBy-row false s r a b =
         let w = rowAt t r in
         rw (tree-row c x t facts r a b)
-        (fold-append f (f s (aloneAt r)) (entered (getD enters (w .kind) nothing) (traverse (tree c x t (w .first))) (traverse (tree c x t (w .second))) (traverse (tree c x t (thirdOf w)))) []
+        (fold-append f (f s (aloneAt r)) (entered (childrenOf w) (met (w .first)) (met (w .second)) (met (thirdOf w))) []
         ∙ entered-parts (f s (aloneAt r)) w ∙ sym (over-none _))
 
     pub leavesBy-none : (rest : Bool) (s : S) → leavesBy f rest s 0 ≡ s

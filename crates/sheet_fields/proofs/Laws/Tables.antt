@@ -29,11 +29,11 @@ past (suc n) k h =
     omega arith
 
 -- Left to it are the table's 0, and what lies past the end.
-pub left-over : (l : List ℕ) (n k : ℕ) → length l ≤ suc n → getD l 0 0 ≡ 0 → NoArm n k → 0 ≡ getD l k 0
-left-over l n zero short z h = sym z
-left-over l n (suc k) short z h =
+pub left-over : {A : Type 0} (l : List A) (d : A) (n k : ℕ) → length l ≤ suc n → getD l 0 d ≡ d → NoArm n k → d ≡ getD l k d
+left-over l d n zero short z h = sym z
+left-over l d n (suc k) short z h =
     let p = past n k h in
-    sym (List·getD-eq-default l 0 {n = suc k} (omega arith))
+    sym (List·getD-eq-default l d {n = suc k} (omega arith))
 
 -- ---- what all numbers of a table have in common
 

@@ -14,7 +14,7 @@ known e = ap formFields (sym e)
 
 rest : tie.Need-returns-6
 unfolding forms formFields
-rest c = left-over (map packedForm forms) 5 (c .before .args .form) (omega arith) refl (c .match .rest)
+rest c = left-over (map packedForm forms) 0 5 (c .before .args .form) (omega arith) refl (c .match .rest)
 
 pub of-form-spec : {M : Type 1} → statement M
 unfolding forms formFields

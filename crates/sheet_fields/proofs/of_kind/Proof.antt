@@ -14,7 +14,7 @@ known e = ap kindFields (sym e)
 
 rest : tie.Need-returns-23
 unfolding kinds kindFields
-rest c = left-over (map packedKind kinds) 22 (c .before .args .kind) (omega arith) refl (c .match .rest)
+rest c = left-over (map packedKind kinds) 0 22 (c .before .args .kind) (omega arith) refl (c .match .rest)
 
 pub of-kind-spec : {M : Type 1} → statement M
 unfolding kinds kindFields
