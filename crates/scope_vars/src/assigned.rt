@@ -7,16 +7,10 @@ use scope_state::special::is_input;
 use scope_state::special::is_special;
 use scope_walk::next_of;
 use sheet::Row;
-use sheet_rows::kinds::ARRAY;
-use sheet_rows::kinds::OBJECT;
-use sheet_rows::kinds::VAR;
 use sheet_rows::row_at;
-ghost use mathlib.Core.Path.{_≡_};
-ghost use mathlib.Core.Bool.{cond};
 ghost use mathlib.Core.List.{List};
-ghost use Rattle.sheet.specs.Kinds.{isPattern};
 ghost use Rattle.scope_walk.specs.Inner.Asks.{AsksPattern, AsksWalk};
-ghost use Rattle.scope_vars.specs.Inner.Assigned.{AssignVar, AssignStep, AssignWalk};
+ghost use Rattle.scope_vars.specs.Inner.Assigned.{AssignVar, AssignWalk};
 
 // A variable.
 fn assign_var(
@@ -44,39 +38,8 @@ fn assign_var(
     scope.add_unscoped(name)
 }
 
-// Any expression.
-fn assign_step(
-    tables: &[u16],
-    outer: &[u32],
-    w: Row,
-    can_shadow: bool,
-    scope: Scope,
-    spans: &mut [u32],
-) -> Scope
-    requires { ⌜ AsksPattern (now tables) (now outer) w (now spans) ⌝ }
-    ensures { λ r. ⌜ AssignStep (now (tables .entry)) (now (outer .entry)) w «can_shadow» scope (now (spans .entry)) r (now (spans .exit)) ⌝ }
-{
-    if w.kind == VAR {
-        return assign_var(tables, outer, w, can_shadow, scope, spans);
-    }
-    scope
-}
-
-// What a pattern is made of: 0 where the row is none.
-fn items_of(w: Row) -> usize
-    ensures { λ r. ⌜ r ≡ cond (isPattern w) (w .first) 0 ⌝ }
-{
-    if w.kind == ARRAY {
-        return w.first as usize;
-    }
-    if w.kind == OBJECT {
-        return w.first as usize;
-    }
-    0
-}
-
 // The pattern at a row, with the rest of its chain if `rest`.
-// A call on no row would only copy the scope, so none is made.
+// A call on no row would only copy the scope: none is made but for an empty array or object.
 pub fn gather_assigned_vars(
     tables: &[u16],
     outer: &[u32],
@@ -93,12 +56,56 @@ pub fn gather_assigned_vars(
         return scope;
     }
     let w = row_at(tables, row);
-    let items = items_of(w);
     let next = next_of(w, rest);
-    let mut s = assign_step(tables, outer, w, can_shadow, scope, spans);
-    if items != 0 {
-        s = gather_assigned_vars(tables, outer, items, true, can_shadow, s, spans);
-    }
+    let first = w.first as usize;
+    let kind = w.kind;
+    let s = match kind {
+        // String
+        1 => scope,
+        // RawString
+        2 => scope,
+        // Number
+        3 => scope,
+        // Bool
+        4 => scope,
+        // Null
+        5 => scope,
+        // Var
+        6 => assign_var(tables, outer, w, can_shadow, scope, spans),
+        // Array: items
+        7 => gather_assigned_vars(tables, outer, first, true, can_shadow, scope, spans),
+        // Set
+        8 => scope,
+        // Object: fields, keys and values in turn
+        9 => gather_assigned_vars(tables, outer, first, true, can_shadow, scope, spans),
+        // ArrayCompr
+        10 => scope,
+        // SetCompr
+        11 => scope,
+        // ObjectCompr
+        12 => scope,
+        // Call
+        13 => scope,
+        // UnaryExpr
+        14 => scope,
+        // RefDot
+        15 => scope,
+        // RefBrack
+        16 => scope,
+        // BinExpr
+        17 => scope,
+        // BoolExpr
+        18 => scope,
+        // ArithExpr
+        19 => scope,
+        // AssignExpr `Eq`
+        20 => scope,
+        // AssignExpr `ColEq`
+        21 => scope,
+        // Membership
+        22 => scope,
+        _ => scope,
+    };
     if next == 0 {
         return s;
     }

@@ -3,6 +3,7 @@ pub mod Descent
 pub mod Exprs
 pub mod Kids
 pub mod Onwards
+pub mod Patterns
 pub mod RowTrees
 pub mod Sheets
 pub mod Walking

@@ -1,10 +1,10 @@
 -- Laws of `Assigned`.
-use mathlib.Core.Path.{_≡_, sym, subst, refl}
+use mathlib.Core.Path.{_≡_, sym, subst, refl, _∙_}
 use mathlib.Core.Bool.{Bool, true, false, cond}
 use mathlib.Core.List.{List, foldl}
 use Prim.Native.Nat.{ℕ, _≤_, _<_}
 use lib.ListN.{length, set}
-use borrow.Author.Tests.{eq-eqb, ne-eqb}
+use borrow.Author.Tests.{eq-eqb}
 use Rattle.sheet.specs.declared.Row.{Row}
 use Rattle.sheet.specs.Inner.Sheet.{rowAt}
 use Rattle.sheet.specs.Sheet.{isInput, isSpecial}
@@ -16,13 +16,14 @@ use Rattle.scope.specs.Gather.{assignVar, gatherAssignedVars}
 use Rattle.scope_state.specs.declared.Scope.{Scope}
 use Rattle.scope_walk.specs.Inner.Sheets.{sheetAt, Accepted, exprCount}
 use Rattle.scope_state.specs.Inner.Agrees.{WithLocal, WithUnscoped, WithInput, WithFlag}
-use Rattle.scope_state.specs.Inner.Spans.{spanWord, Agrees}
+use Rattle.scope_state.specs.Inner.Spans.{spanWord, Agrees, Steps}
 use Rattle.scope_state.proofs.Laws.Spans.{Short, agrees-local, agrees-unscoped, agrees-input, agrees-flag}
 use Rattle.scope_state.specs.Inner.Outers.{Exists}
 use Rattle.scope_walk.specs.Inner.Exprs.{exprBy}
 use Rattle.scope_vars.proofs.Laws.Inputs.{fold-vars}
 use Rattle.scope_walk.proofs.Laws.Walking.{LeavesWalk, walked-none, walked-turn}
-use Rattle.scope_vars.specs.Inner.Assigned.{AssignVar, AssignStep, AssignWalk}
+use Rattle.scope_walk.proofs.Laws.Patterns.{PatternTurn, Lengthwise}
+use Rattle.scope_vars.specs.Inner.Assigned.{AssignVar, AssignWalk}
 
 module _ (t outer : List ℕ) where
   -- ---- the ways out of `assign_var`
@@ -48,14 +49,21 @@ module _ (t outer : List ℕ) where
         unfolding assignVar
         var-unscoped p put parents o s a = rw (other, plain, sym (exists parents o), p) (agrees-unscoped k l r s a (w .name) put)
 
-    -- ---- and of `assign_step`
+  -- ---- a row's turn
 
-    module _ (shadow : Bool) where
-      pub assign-step-var : w .kind ≡ 6 → (r : Scope) (m : List ℕ) → AssignVar t outer w shadow k l r m → AssignStep t outer w shadow k l r m
-      assign-step-var e r m h parents o s a = rw (eq-eqb (w .kind) 6 e) (h parents o s a)
+  -- What is done at a row: something at a Var alone.
+  abbrev AssignStep : Row → Bool → Scope → List ℕ → Scope → List ℕ → Type 0
+  AssignStep w shadow = Steps outer (λ parents s. cond (isVar w) (assignVar (sheetAt t) parents shadow s w) s)
 
-      pub assign-step-other : (w .kind ≡ 6 → ⊥) → AssignStep t outer w shadow k l k l
-      assign-step-other ne parents o s a = rw (ne-eqb (w .kind) 6 ne) a
+  abbrev pub AssignTurn : Row → Bool → Scope × List ℕ → Scope × List ℕ → Type 0
+  AssignTurn w shadow = PatternTurn (Lengthwise (AssignStep w shadow)) (λ n. Lengthwise (AssignWalk t outer n true shadow)) w
+
+  module _ (w : Row) (shadow : Bool) where
+    pub assign-at-var : w .kind ≡ 6 → (k : Scope) (l : List ℕ) (r : Scope) (m : List ℕ) → AssignVar t outer w shadow k l r m → AssignStep w shadow k l r m
+    assign-at-var e k l r m h parents o s a = rw (eq-eqb (w .kind) 6 e) (h parents o s a)
+
+    pub assign-still : isVar w ≡ false → (k : Scope × List ℕ) → Lengthwise (AssignStep w shadow) k k
+    assign-still e k = (λ parents o s a. rw e a, refl)
 
   -- ---- the walk, a row at a time
 
@@ -92,15 +100,16 @@ module _ (t outer : List ℕ) where
       does-as _ _ (k, l) (k, l) (λ s. sym (as-walk shadow parents rest 0 s))
       (walked-none t Does does-as does-none does-then (step shadow parents) (others shadow parents) ok 0 refl rest (k, l))
 
-  -- A row's turn: the row that was read, what is inside, the rest of its chain, as the code has them.
+  -- With the walk over the rest of its chain, as the code has them.
   pub assign-walk-turn : Accepted t → (row : ℕ) → (row ≡ 0 → ⊥) → row ≤ exprCount t → (rest shadow : Bool) (w : Row) → w ≡ rowAt t row
-      → (items : ℕ) → items ≡ cond (isPattern w) (w .first) 0 → (next : ℕ) → next ≡ cond rest (w .next) 0
-      → (k s₀ s₁ s₂ : Scope) (l l₀ l₁ l₂ : List ℕ)
-      → AssignStep t outer w shadow k l s₀ l₀ → AssignWalk t outer items true shadow s₀ l₀ s₁ l₁ → AssignWalk t outer next true shadow s₁ l₁ s₂ l₂
-      → AssignWalk t outer row rest shadow k l s₂ l₂
-  assign-walk-turn ok row some high rest shadow w is items ps next ns k s₀ s₁ s₂ l l₀ l₁ l₂ h₀ h₁ h₂ parents o =
+      → (next : ℕ) → next ≡ cond rest (w .next) 0 → (k a r : Scope × List ℕ) → AssignTurn w shadow k a
+      → AssignWalk t outer next true shadow (a .0) (a .1) (r .0) (r .1) → AssignWalk t outer row rest shadow (k .0) (k .1) (r .0) (r .1)
+  assign-walk-turn ok row some high rest shadow w is next ns k a r turn on parents o =
       let part : (v : ℕ) (x y : Scope × List ℕ) → AssignWalk t outer v true shadow (x .0) (x .1) (y .0) (y .1) → Walks shadow parents v true x y =
       λ v x y h. does-as _ _ x y (λ s. as-walk shadow parents true v s) (h parents o) in
-      does-as _ _ (k, l) (s₂, l₂) (λ s. sym (as-walk shadow parents rest row s))
-      (walked-turn t Does does-as does-none does-then (step shadow parents) (others shadow parents) ok row some high rest w is items ps next ns
-      (k, l) (s₀, l₀) (s₁, l₁) (s₂, l₂) (h₀ parents o) (part items (s₀, l₀) (s₁, l₁) h₁) (part next (s₁, l₁) (s₂, l₂) h₂))
+      does-as _ _ k r (λ s. sym (as-walk shadow parents rest row s))
+      (walked-turn t Does does-as does-none does-then (step shadow parents) (others shadow parents) ok row some high rest w is _ refl next ns
+      k (turn .own) a r (turn .step .0 parents o) (part _ (turn .own) a (turn .parts .0)) (part next a r on))
+
+  pub assign-turn-kept : (shadow : Bool) (w : Row) (k a : Scope × List ℕ) → AssignTurn w shadow k a → length (a .1) ≡ length (k .1)
+  assign-turn-kept shadow w k a turn = turn .parts .1 ∙ turn .step .1

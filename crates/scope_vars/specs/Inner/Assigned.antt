@@ -1,9 +1,8 @@
 -- The walk over the leaves of a pattern, step by step.
-use mathlib.Core.Bool.{Bool, cond}
+use mathlib.Core.Bool.{Bool}
 use mathlib.Core.List.{List}
 use Prim.Native.Nat.{ℕ}
 use Rattle.sheet.specs.declared.Row.{Row}
-use Rattle.sheet.specs.Kinds.{isVar}
 use Rattle.scope.specs.Gather.{assignVar, gatherAssignedVars}
 use Rattle.scope_state.specs.declared.Scope.{Scope}
 use Rattle.scope_walk.specs.Inner.Sheets.{sheetAt}
@@ -13,9 +12,6 @@ use Rattle.scope_walk.specs.Inner.Exprs.{exprBy}
 module _ (t outer : List ℕ) where
   abbrev pub AssignVar : Row → Bool → Scope → List ℕ → Scope → List ℕ → Type 0
   AssignVar w shadow = Steps outer (λ parents s. assignVar (sheetAt t) parents shadow s w)
-
-  abbrev pub AssignStep : Row → Bool → Scope → List ℕ → Scope → List ℕ → Type 0
-  AssignStep w shadow = Steps outer (λ parents s. cond (isVar w) (assignVar (sheetAt t) parents shadow s w) s)
 
   -- The pattern at a row, with the rest of its chain if `rest`.
   abbrev pub AssignWalk : ℕ → Bool → Bool → Scope → List ℕ → Scope → List ℕ → Type 0

@@ -80,6 +80,10 @@ module _ (t : List ℕ) where
     pub chain-call : (m : ℕ) → remains t r ≡ m → (next : ℕ) → next ≡ rowAt t r .next → Falls m next
     chain-call m e next ns = rw ns (goes _ m e (row-descends (countsAt t) t (ok .facts) r (omega arith) high .to-next))
 
+    -- The call on the rest of a chain, if it is wanted.
+    pub next-call : (m : ℕ) → remains t r ≡ m → (rest : Bool) (w : Row) → w ≡ rowAt t r → (next : ℕ) → next ≡ cond rest (w .next) 0 → Falls m next
+    next-call m e rest w is next ns = rw (ns, is) (goes-if rest _ m e (row-descends (countsAt t) t (ok .facts) r (omega arith) high .to-next))
+
     -- The call on the first part.
     pub first-call : (m : ℕ) → remains t r ≡ m → (w : Row) → w ≡ rowAt t r → Falls m (w .first)
     first-call m e w is = rw is (goes _ m e (row-descends (countsAt t) t (ok .facts) r (omega arith) high .to-first))
