@@ -1,10 +1,10 @@
 // One direction of an assignment, once what stands on the other side is used.
 
 use definition_expr::Using;
-use definition_record::assigned::assigned_in;
 use definition_record::checks::check_assigned;
 use definition_record::record::record_each;
 use definition_state::Progress;
+use definition_walk::assigned::assigned_vars;
 use names::Names;
 ghost use mathlib.Core.Bool.{false};
 ghost use Prim.Native.Nat.{_≤_, max};
@@ -33,7 +33,7 @@ pub fn assign(
     let names = u.names;
     let s = checked(tables, row, check, u.progress, firsts);
     let none = Names::empty();
-    let vars = assigned_in(tables, s.scope, row, false, none);
+    let vars = assigned_vars(tables, s.scope, row, false, none);
     record_each(statement, vars, names, true, s, work)
 }
 

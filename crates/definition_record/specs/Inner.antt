@@ -3,6 +3,5 @@ pub mod Front
 pub mod Records
 pub mod FirstUse
 pub mod Checks
-pub mod AssignedIn
 pub mod SomeVars
 pub mod Least

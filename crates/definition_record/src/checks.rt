@@ -2,11 +2,11 @@
 
 use crate::first::check_first_use;
 use definition_state::Progress;
-use definition_walk::assigned::pattern_of;
 use scope_walk::next_of;
 use sheet::Row;
 use sheet_rows::kinds::VAR;
 use sheet_rows::row_at;
+ghost use mathlib.Core.Path.{_≡_};
 ghost use Prim.Native.Nat.{_≤_, _<_};
 ghost use lib.ListN.{length};
 ghost use Rattle.base.specs.Limits as limits;
@@ -41,13 +41,11 @@ pub fn check_vars(tables: &[u16], row: usize, p: Progress, firsts: &[u64]) -> Pr
     check_vars(tables, next, q, firsts)
 }
 
-fn check_leaf(w: Row, p: Progress, firsts: &[u64]) -> Progress
-    requires { ⌜ (w .name < limits.perName) × (limits.perName ≤ length (now firsts)) ⌝ }
+// A variable of a pattern, if it is a local.
+fn check_local(w: Row, p: Progress, firsts: &[u64]) -> Progress
+    requires { ⌜ (w .kind ≡ 6) × (w .name < limits.perName) × (limits.perName ≤ length (now firsts)) ⌝ }
     ensures { λ r. ⌜ LeafChecked w p (now (firsts .entry)) r ⌝ }
 {
-    if w.kind != VAR {
-        return p;
-    }
     let name = w.name as usize;
     let scope = p.scope;
     if scope.locals.contains(name) {
@@ -57,7 +55,7 @@ fn check_leaf(w: Row, p: Progress, firsts: &[u64]) -> Progress
 }
 
 // The locals of the pattern at a row, with the rest of its chain if `rest`.
-// A call on no row would only copy the progress, so none is made.
+// A call on no row would only copy the progress: none is made but for an empty array or object.
 pub fn check_assigned(
     tables: &[u16],
     row: usize,
@@ -72,12 +70,56 @@ pub fn check_assigned(
         return p;
     }
     let w = row_at(tables, row);
-    let inner = pattern_of(w);
     let next = next_of(w, rest);
-    let mut q = check_leaf(w, p, firsts);
-    if inner != 0 {
-        q = check_assigned(tables, inner, true, q, firsts);
-    }
+    let first = w.first as usize;
+    let kind = w.kind;
+    let q = match kind {
+        // String
+        1 => p,
+        // RawString
+        2 => p,
+        // Number
+        3 => p,
+        // Bool
+        4 => p,
+        // Null
+        5 => p,
+        // Var
+        6 => check_local(w, p, firsts),
+        // Array: items
+        7 => check_assigned(tables, first, true, p, firsts),
+        // Set
+        8 => p,
+        // Object: fields, keys and values in turn
+        9 => check_assigned(tables, first, true, p, firsts),
+        // ArrayCompr
+        10 => p,
+        // SetCompr
+        11 => p,
+        // ObjectCompr
+        12 => p,
+        // Call
+        13 => p,
+        // UnaryExpr
+        14 => p,
+        // RefDot
+        15 => p,
+        // RefBrack
+        16 => p,
+        // BinExpr
+        17 => p,
+        // BoolExpr
+        18 => p,
+        // ArithExpr
+        19 => p,
+        // AssignExpr `Eq`
+        20 => p,
+        // AssignExpr `ColEq`
+        21 => p,
+        // Membership
+        22 => p,
+        _ => p,
+    };
     if next == 0 {
         return q;
     }

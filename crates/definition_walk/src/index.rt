@@ -1,6 +1,5 @@
 // The definitions that the index of a bracket makes: of each name in it, from the names that what is indexed uses.
 
-use crate::assigned::pattern_of;
 use crate::own::owns;
 use names::Names;
 use names_width::Width;
@@ -9,7 +8,6 @@ use scope_state::Scope;
 use scope_walk::next_of;
 use sheet::Row;
 use sheet_rows::kinds::REF_BRACK;
-use sheet_rows::kinds::VAR;
 use sheet_rows::row_at;
 ghost use mathlib.Core.Path.{_≡_};
 ghost use mathlib.Core.Bool.{cond};
@@ -50,8 +48,8 @@ pub fn push_definition(
     store_set(width, definitions, at + 2, used);
 }
 
-// A row of the index: a variable of the query is defined. Hands back the count of rows.
-fn define_leaf(
+// A variable of the index: one of the query is defined. Hands back the count of rows.
+fn define_var(
     scope: Scope,
     statement: usize,
     w: Row,
@@ -60,12 +58,9 @@ fn define_leaf(
     definitions: &mut [u64],
     width: Width,
 ) -> usize
-    requires { ⌜ (w .name < limits.perName) × LeafFits width scope w count (length (now definitions)) ⌝ }
+    requires { ⌜ (w .kind ≡ 6) × (w .name < limits.perName) × LeafFits width scope w count (length (now definitions)) ⌝ }
     ensures { λ r. ⌜ LeafDefined width scope statement w used (now (definitions .entry)) (now (definitions .exit)) count r ⌝ }
 {
-    if w.kind != VAR {
-        return count;
-    }
     let name = w.name as usize;
     if owns(scope, name) {
         push_definition(statement, name, used, count, definitions, width);
@@ -75,7 +70,7 @@ fn define_leaf(
 }
 
 // The index at a row, with the rest of its chain. Its definitions are appended from row `count` on; hands back the count of rows.
-// A call on no row would only copy the scope and the names, so none is made.
+// A call on no row would only copy the scope and the names: none is made but for an empty array or object.
 pub fn define_index(
     tables: &[u16],
     scope: Scope,
@@ -93,12 +88,56 @@ pub fn define_index(
         return count;
     }
     let w = row_at(tables, row);
-    let inner = pattern_of(w);
     let next = next_of(w, true);
-    let mut n = define_leaf(scope, statement, w, used, count, definitions, width);
-    if inner != 0 {
-        n = define_index(tables, scope, statement, inner, used, n, definitions, width);
-    }
+    let first = w.first as usize;
+    let kind = w.kind;
+    let n = match kind {
+        // String
+        1 => count,
+        // RawString
+        2 => count,
+        // Number
+        3 => count,
+        // Bool
+        4 => count,
+        // Null
+        5 => count,
+        // Var
+        6 => define_var(scope, statement, w, used, count, definitions, width),
+        // Array: items
+        7 => define_index(tables, scope, statement, first, used, count, definitions, width),
+        // Set
+        8 => count,
+        // Object: fields, keys and values in turn
+        9 => define_index(tables, scope, statement, first, used, count, definitions, width),
+        // ArrayCompr
+        10 => count,
+        // SetCompr
+        11 => count,
+        // ObjectCompr
+        12 => count,
+        // Call
+        13 => count,
+        // UnaryExpr
+        14 => count,
+        // RefDot
+        15 => count,
+        // RefBrack
+        16 => count,
+        // BinExpr
+        17 => count,
+        // BoolExpr
+        18 => count,
+        // ArithExpr
+        19 => count,
+        // AssignExpr `Eq`
+        20 => count,
+        // AssignExpr `ColEq`
+        21 => count,
+        // Membership
+        22 => count,
+        _ => count,
+    };
     if next == 0 {
         return n;
     }

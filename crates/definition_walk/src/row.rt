@@ -88,7 +88,7 @@ pub fn use_row(
     }
     if w.kind == REF_BRACK {
         let index = w.second as usize;
-        let names = assigned_vars(tables, scope, index, used.names);
+        let names = assigned_vars(tables, scope, index, true, used.names);
         return used.with_names(names);
     }
     if is_compr(w) {

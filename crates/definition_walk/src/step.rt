@@ -35,7 +35,7 @@ pub fn used_step(tables: &[u16], scope: Scope, extras: Names, w: Row, names: Nam
     }
     if w.kind == REF_BRACK {
         let index = w.second as usize;
-        return assigned_vars(tables, scope, index, names);
+        return assigned_vars(tables, scope, index, true, names);
     }
     names
 }

@@ -36,7 +36,7 @@ use Rattle.definition_state.proofs.Laws.Frames.{runs-none, grown-then}
 use Rattle.definition_steps.proofs.Laws.Guards.{fault-cases, guarded-sound, guarded-stays}
 use Rattle.definition_record.proofs.Laws.Guards.{if-same}
 use Rattle.definition_record.specs.Inner.Checks.{AssignedChecked}
-use Rattle.definition_record.specs.Inner.AssignedIn.{AssignedIn}
+use Rattle.definition_walk.specs.Inner.Assigned.{AssignedWalk}
 use Rattle.definition_record.specs.Inner.Each.{lessOf}
 use Rattle.definition_record.specs.Inner.Records.{NamesFit, EachRecorded}
 use Rattle.definition_cycle.proofs.Laws.Witnesses.{is-sound, members-held, keptScope, sets-of}
@@ -112,7 +112,7 @@ module _ (t : List ℕ) (row : ℕ) (check : Bool) (p : Progress) (fs : List ℕ
 -- ---- `assign`
 
 module _ (t : List ℕ) (row : ℕ) (check : Bool) (u : Using) (fs w : List ℕ) (q : Progress) (asked : CheckedAssigned t row check (u .progress) fs q)
-    (none vars : Names) (clear : Empty (none .words)) (gathered : AssignedIn t (q .scope) row false none vars) where
+    (none vars : Names) (clear : Empty (none .words)) (gathered : AssignedWalk t (q .scope) row false none vars) where
   abbrev target : Tree
   target = exprBy t false row
 

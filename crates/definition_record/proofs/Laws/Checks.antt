@@ -11,7 +11,7 @@ use Rattle.base.specs.Lists.{filter}
 use Rattle.base.specs.Sets.{member}
 use Rattle.sheet.specs.declared.Row.{Row}
 use Rattle.sheet.specs.Inner.Sheet.{rowAt}
-use Rattle.sheet.specs.Kinds.{isVar, isPattern}
+use Rattle.sheet.specs.Kinds.{isVar}
 use Rattle.scope.specs.Trees.{Tree, rowOf}
 use Rattle.scope.specs.Traverse.{leaves, vars}
 use Rattle.scope.specs.Scopes as spec
@@ -26,6 +26,7 @@ use Rattle.scope_vars.proofs.Laws.Inputs.{fold-vars}
 use Rattle.scope_state.specs.Inner.Chains.{chainAt}
 use Rattle.scope_state.proofs.Laws.Chains.{chain-none, chain-row}
 use Rattle.scope_walk.proofs.Laws.Walking.{LeavesWalk, walked-none, walked-turn}
+use Rattle.scope_walk.proofs.Laws.Patterns.{PatternTurn}
 use Rattle.definition_state.specs.declared.Progress.{Progress}
 use Rattle.definition_state.specs.Inner.Frames.{guarded, Agree}
 use Rattle.definition_state.proofs.Laws.Frames.{runs-then, runs-none}
@@ -88,10 +89,10 @@ check-scope : (s : State) (w : Row) → checkFirstUse s w .scope ≡ s .scope
 unfolding checkFirstUse
 check-scope s w = answer-scope (s .run .fault) (usedBeforeAt (spanIn (s .firstUses) (w .name)) w) s
 
-module _ (w : Row) (p : Progress) (fs : List ℕ) where
-  pub checked-other : (w .kind ≡ 6 → ⊥) → LeafChecked w p fs p
-  checked-other ne t work = runs-none t _ (λ s. rw (ne-eqb (w .kind) 6 ne)) p fs work
+pub checked-still : (w : Row) (fs : List ℕ) → isVar w ≡ false → (p : Progress) → LeafChecked w p fs p
+checked-still w fs e p t work = runs-none t _ (λ s. rw e) p fs work
 
+module _ (w : Row) (p : Progress) (fs : List ℕ) where
   module _ (v : w .kind ≡ 6) (b : Bool) (is : b ≡ member (p .scope .locals .words) (w .name)) where
     leaf-is : (t spans work : List ℕ) (s : State) → Agree t spans p fs work s → leafCheck s w ≡ cond b (checkFirstUse s w) s
     leaf-is t spans work s h = rw (eq-eqb (w .kind) 6 v) (go (guard-cases (s .run .fault)))
@@ -174,14 +175,17 @@ module _ (t : List ℕ) where
     from-walk : (row : ℕ) (rest : Bool) (p r : Progress) → Walks row rest p r → AssignedChecked t row rest p fs r
     from-walk row rest p r h = does-as _ _ p r (λ s. assigned-is (exprBy t rest row) s) h
 
+    abbrev pub CheckedTurn : Row → Progress → Progress → Type 0
+    CheckedTurn w = PatternTurn (λ p q. LeafChecked w p fs q) (λ n p q. AssignedChecked t n true p fs q) w
+
     module _ (ok : Accepted t) where
       pub checked-none : (row : ℕ) → row ≡ 0 → (rest : Bool) (p : Progress) → AssignedChecked t row rest p fs p
       checked-none row z rest p = from-walk row rest p p (walked-none t Does does-as does-none does-then leafCheck others ok row z rest p)
 
+      -- The match of a row, with the walk over the rest of its chain.
       pub checked-turn : (row : ℕ) → (row ≡ 0 → ⊥) → row ≤ exprCount t → (rest : Bool) (w : Row) → w ≡ rowAt t row
-          → (inner : ℕ) → inner ≡ cond (isPattern w) (w .first) 0 → (next : ℕ) → next ≡ cond rest (w .next) 0 → (p a b r : Progress)
-          → LeafChecked w p fs a → AssignedChecked t inner true a fs b → AssignedChecked t next true b fs r → AssignedChecked t row rest p fs r
-      checked-turn row ne high rest w is inner i next n p a b r h₀ h₁ h₂ =
+          → (next : ℕ) → next ≡ cond rest (w .next) 0 → (p q r : Progress) → CheckedTurn w p q → AssignedChecked t next true q fs r → AssignedChecked t row rest p fs r
+      checked-turn row ne high rest w is next n p q r turn on =
           from-walk row rest p r
-          (walked-turn t Does does-as does-none does-then leafCheck others ok row ne high rest w is inner i next n p a b r
-          (h₀ t) (to-walk inner true a b h₁) (to-walk next true b r h₂))
+          (walked-turn t Does does-as does-none does-then leafCheck others ok row ne high rest w is _ refl next n p (turn .own) q r
+          (turn .step t) (to-walk _ true (turn .own) q (turn .parts)) (to-walk next true q r on))

@@ -3,7 +3,8 @@ use mathlib.Core.Path.{_≡_, refl, sym, ap, _∙_, subst}
 use mathlib.Core.Bool.{Bool, true, false, cond, _&&_, and-true, and-false}
 use mathlib.Core.List.{List, [], _∷_, _++_, foldl, map}
 use Prim.Native.Nat.{ℕ, _≤_}
-use borrow.Author.Tests.{eq-eqb, ne-eqb}
+use lib.ListN.{length}
+use borrow.Author.Tests.{eq-eqb}
 use Rattle.base.specs.Lists.{filter, concatMap}
 use Rattle.base.specs.Sets.{member}
 use Rattle.names.specs.Inner.Sets.{Inserted}
@@ -11,7 +12,7 @@ use Rattle.names.specs.declared.Names.{Names}
 use Rattle.sheet.specs.declared.Row.{Row}
 use Rattle.sheet.specs.Inner.Sheet.{rowAt}
 use Rattle.sheet.specs.Sheet.{isInput}
-use Rattle.sheet.specs.Kinds.{isVar, isPattern}
+use Rattle.sheet.specs.Kinds.{isVar}
 use Rattle.scope.specs.Trees.{Tree, rowOf, treeAt}
 use Rattle.scope.specs.Traverse.{leaves, vars}
 use Rattle.scope.specs.Scopes as spec
@@ -22,17 +23,15 @@ use Rattle.scope_state.specs.declared.Scope.{Scope}
 use Rattle.scope_walk.specs.Inner.Sheets.{sheetAt, Accepted, exprCount}
 use Rattle.scope_walk.specs.Inner.Exprs.{exprBy}
 use Rattle.scope_walk.proofs.Laws.Walking.{LeavesWalk, walked-none, walked-turn}
+use Rattle.scope_walk.proofs.Laws.Patterns.{PatternTurn}
 use Rattle.definition_walk.specs.Inner.Adds.{Adds}
 use Rattle.definition_walk.proofs.Laws.Adds.{adds-none, adds-one}
 use Rattle.definition_walk.specs.Inner.Firsts.{Firsts, FirstUse}
-use Rattle.definition_record.proofs.Laws.Gathered.{gathered-none, gathered-turn}
+use Rattle.definition_walk.proofs.Laws.Gathered.{atLeaves, gathered-none, gathered-turn}
 use Rattle.definition_record.specs.Inner.SomeVars.{Binds, binds, SomeStep, SomeVars, EnterStep, SomeEntered}
 
 module _ (t : List ℕ) where
   module _ (k : Scope) (w : Row) where
-    pub binds-other : (w .kind ≡ 6 → ⊥) → Binds t k w false
-    binds-other ne s h = sym (rw (ne-eqb (w .kind) 6 ne))
-
     module _ (v : w .kind ≡ 6) (i : Bool) (is : i ≡ isInput (sheetAt t) (w .name)) where
       pub binds-input : i ≡ true → Binds t k w false
       binds-input p s h = sym (rw (eq-eqb (w .kind) 6 v, sym is, p) (and-false (isLocal s (w .name))))
@@ -87,19 +86,26 @@ module _ (t : List ℕ) where
       pub some-passed : r ≡ false → SomeStep t k w a a
       some-passed p s h = rw (sym (is s h), p) (adds-none a)
 
+    pub some-still : (w : Row) → isVar w ≡ false → (a : Names) → SomeStep t k w a a
+    some-still w e a s h = rw e (adds-none a)
+
+    -- The match of a row.
+    abbrev pub SomeTurn : Row → Names → Names → Type 0
+    SomeTurn w = PatternTurn (SomeStep t k w) (SomeVars t k) w
+
     module _ (ok : Accepted t) where
       pub some-none : (row : ℕ) → row ≡ 0 → (a : Names) → SomeVars t k row a a
       some-none row z a s h =
           subst (λ (l : List ℕ). Adds a l a) (sym (names-are s (leaves (exprBy t true row)))) (gathered-none t (nameAt s) (no-other s) ok row z true a)
 
+      -- With the walk over the rest of its chain.
       pub some-turn : (row : ℕ) → (row ≡ 0 → ⊥) → row ≤ exprCount t → (w : Row) → w ≡ rowAt t row
-          → (inner : ℕ) → inner ≡ cond (isPattern w) (w .first) 0 → (next : ℕ) → next ≡ cond true (w .next) 0 → (a b c d : Names)
-          → SomeStep t k w a b → SomeVars t k inner b c → SomeVars t k next c d → SomeVars t k row a d
-      some-turn row ne high w is inner i next n a b c d h₀ h₁ h₂ s h =
-          subst (λ (l : List ℕ). Adds a l d) (sym (names-are s (leaves (exprBy t true row))))
-          (gathered-turn t (nameAt s) (no-other s) ok row ne high true w is inner i next n a b c d (h₀ s h)
-          (subst (λ (l : List ℕ). Adds b l c) (names-are s (leaves (exprBy t true inner))) (h₁ s h))
-          (subst (λ (l : List ℕ). Adds c l d) (names-are s (leaves (exprBy t true next))) (h₂ s h)))
+          → (next : ℕ) → next ≡ cond true (w .next) 0 → (a b c : Names) → SomeTurn w a b → SomeVars t k next b c → SomeVars t k row a c
+      some-turn row ne high w is next n a b c turn on s h =
+          let part : (v : ℕ) (x y : Names) → SomeVars t k v x y → Adds x (atLeaves t (nameAt s) (no-other s) true v) y =
+          λ v x y walked. subst (λ (l : List ℕ). Adds x l y) (names-are s (leaves (exprBy t true v))) (walked s h) in
+          subst (λ (l : List ℕ). Adds a l c) (sym (names-are s (leaves (exprBy t true row))))
+          (gathered-turn t (nameAt s) (no-other s) ok row ne high true w is next n a (turn .own) b c (turn .step s h) (part _ (turn .own) b (turn .parts)) (part next b c on))
 
     module _ (w : Row) (ws : List ℕ) (r : Bool) (is : Binds t k w r) where
       pub enter-bound : r ≡ true → (rs : List ℕ) → FirstUse w ws rs → EnterStep t k w ws rs
@@ -107,6 +113,13 @@ module _ (t : List ℕ) where
 
       pub enter-passed : r ≡ false → EnterStep t k w ws ws
       enter-passed p s h spans f = rw (sym (is s h), p) f
+
+    pub enter-still : (w : Row) → isVar w ≡ false → (ws : List ℕ) → EnterStep t k w ws ws × (length ws ≡ length ws)
+    enter-still w e ws = (λ s h spans f. rw e f, refl)
+
+    -- The match of a row, which keeps the words' count.
+    abbrev pub EnteredTurn : Row → List ℕ → List ℕ → Type 0
+    EnteredTurn w = PatternTurn (λ ws rs. EnterStep t k w ws rs × (length rs ≡ length ws)) (λ n ws rs. SomeEntered t k n ws rs × (length rs ≡ length ws)) w
 
     abbrev Does : (List Span → List Span) → List ℕ → List ℕ → Type 0
     Does f ws rs = (spans : List Span) → Firsts ws spans → Firsts rs (f spans)
@@ -141,10 +154,10 @@ module _ (t : List ℕ) where
       entered-none row z ws s h =
           from-walk s row ws ws (walked-none t Does does-as does-none does-then (enter s) (others s) ok row z true ws)
 
+      -- With the walk over the rest of its chain.
       pub entered-turn : (row : ℕ) → (row ≡ 0 → ⊥) → row ≤ exprCount t → (w : Row) → w ≡ rowAt t row
-          → (inner : ℕ) → inner ≡ cond (isPattern w) (w .first) 0 → (next : ℕ) → next ≡ cond true (w .next) 0 → (a b c d : List ℕ)
-          → EnterStep t k w a b → SomeEntered t k inner b c → SomeEntered t k next c d → SomeEntered t k row a d
-      entered-turn row ne high w is inner i next n a b c d h₀ h₁ h₂ s h =
-          from-walk s row a d
-          (walked-turn t Does does-as does-none does-then (enter s) (others s) ok row ne high true w is inner i next n a b c d
-          (h₀ s h) (to-walk s inner b c (h₁ s h)) (to-walk s next c d (h₂ s h)))
+          → (next : ℕ) → next ≡ cond true (w .next) 0 → (a b c : List ℕ) → EnteredTurn w a b → SomeEntered t k next b c → SomeEntered t k row a c
+      entered-turn row ne high w is next n a b c turn on s h =
+          from-walk s row a c
+          (walked-turn t Does does-as does-none does-then (enter s) (others s) ok row ne high true w is _ refl next n a (turn .own) b c
+          (turn .step .0 s h) (to-walk s _ (turn .own) b (turn .parts .0 s h)) (to-walk s next b c (on s h)))

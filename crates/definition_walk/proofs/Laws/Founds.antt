@@ -175,7 +175,7 @@ module _ (t : List ℕ) (k : Scope) (extras : Names) (row : ℕ) (w : Row) (a : 
       comprs = m;
     }
 
-    pub row-bracket : (e : w .kind ≡ 16) → (n : Names) → AssignedWalk t k (w .second) (a .names) n → (b : Used) → b ≡ withNames a n → RowUsed t k extras row w a ws b ws
+    pub row-bracket : (e : w .kind ≡ 16) → (n : Names) → AssignedWalk t k (w .second) true (a .names) n → (b : Used) → b ≡ withNames a n → RowUsed t k extras row w a ws b ws
     row-bracket e n walk b is = subst (λ (u : Used). RowUsed t k extras row w a ws u ws) (sym is)
         (no-var n (step-bracket t k extras w (a .names) v e n walk) (a .comprs) (met-not t isCompr w (a .comprs) (rw e)))
 

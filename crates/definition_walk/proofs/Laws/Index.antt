@@ -13,13 +13,14 @@ use Rattle.names_width.specs.Inner.Widths as Widths
 use Rattle.names_width.proofs.Laws.Laws.{room-whole}
 use Rattle.sheet.specs.declared.Row.{Row}
 use Rattle.sheet.specs.Inner.Sheet.{rowAt}
-use Rattle.sheet.specs.Kinds.{isPattern, isRefBrack}
+use Rattle.sheet.specs.Kinds.{isVar, isPattern, isRefBrack}
 use Rattle.scope.specs.Trees.{treeAt}
 use Rattle.scope.specs.Scopes as spec
 use Rattle.definition.specs.Uses.{define, assignedVars}
 use Rattle.scope_state.specs.declared.Scope.{Scope}
 use Rattle.scope_walk.specs.Inner.Sheets.{sheetAt, Accepted, exprCount}
 use Rattle.scope_state.specs.Inner.Agrees.{Sets}
+use Rattle.scope_walk.proofs.Laws.Patterns.{PatternTurn, Lengthwise}
 use Rattle.definition_walk.specs.Inner.Own.{Owns}
 use Rattle.definition_walk.specs.Inner.Assigned.{leafAt}
 use Rattle.definition_walk.proofs.Laws.Assigned.{assigned-zero, assigned-row}
@@ -81,8 +82,8 @@ module _ (v : Width) (k : Scope) where
   -- ---- a leaf
 
   module _ (i : ℕ) (w : Row) (used : Names) (ws : List ℕ) (a : ℕ) where
-    pub leaf-undefined : (w .kind ≡ 6 → ⊥) → LeafDefined v k i w used ws ws a a
-    leaf-undefined ne = defined-none i (λ s. leafAt s w) used ws a (λ s h. rw (ne-eqb (w .kind) 6 ne))
+    pub leaf-undefined : isVar w ≡ false → LeafDefined v k i w used ws ws a a
+    leaf-undefined e = defined-none i (λ s. leafAt s w) used ws a (λ s h. rw e)
 
     module _ (var : w .kind ≡ 6) (o : Bool) (owned : Owns k (w .name) o) where
       pub leaf-not-own : o ≡ false → LeafDefined v k i w used ws ws a a
@@ -110,6 +111,11 @@ module _ (v : Width) (k : Scope) where
 -- ---- the walk
 
 module _ (t : List ℕ) (v : Width) (k : Scope) where
+  -- The match of a row: counts, each with the definitions' words.
+  abbrev pub IndexTurn : ℕ → Row → Names → ℕ × List ℕ → ℕ × List ℕ → Type 0
+  IndexTurn i w used =
+      PatternTurn (Lengthwise (λ a ws b rs. LeafDefined v k i w used ws rs a b)) (λ n. Lengthwise (λ a ws b rs. IndexDefined t v k i n used ws rs a b)) w
+
   abbrev names : ℕ → spec.Scope → List ℕ
   names row s = assignedVars s (treeAt (sheetAt t) row)
 
@@ -119,12 +125,12 @@ module _ (t : List ℕ) (v : Width) (k : Scope) where
 
   module _ (ok : Accepted t) where
     pub index-none : (row : ℕ) → row ≡ 0 → (i : ℕ) (used : Names) (ws : List ℕ) (a : ℕ) → IndexDefined t v k i row used ws ws a a
-    index-none row z i used ws a = defined-none v k i (names row) used ws a (λ s h. rw (z, assigned-zero t s ok))
+    index-none row z i used ws a = defined-none v k i (names row) used ws a (λ s h. rw (z, assigned-zero t s ok true))
 
     module _ (row : ℕ) (ne : row ≡ 0 → ⊥) (high : row ≤ exprCount t) (w : Row) (is : w ≡ rowAt t row)
         (inner : ℕ) (i-is : inner ≡ cond (isPattern w) (w .first) 0) (next : ℕ) (n-is : next ≡ w .next) where
       parts : (s : spec.Scope) → ((leafAt s w ++ names inner s) ++ names next s) ≡ names row s
-      parts s = sym (rw (i-is, n-is, is) (assigned-row t s ok row (omega arith) high))
+      parts s = sym (rw (i-is, n-is, is) (assigned-row t s ok true row (omega arith) high))
 
       sum : (s : spec.Scope) → length (names row s) ≡ length (leafAt s w) + length (names inner s) + length (names next s)
       sum s =

@@ -45,7 +45,7 @@ module _ (t : List ℕ) where
       used-step-var v b u s h l e = rw (eq-eqb (w .kind) 6 v) (u s h l e)
 
       module _ (other : w .kind ≡ 6 → ⊥) where
-        pub step-bracket : w .kind ≡ 16 → (b : Names) → AssignedWalk t k (w .second) a b → UsedStep t k extras w a b
+        pub step-bracket : w .kind ≡ 16 → (b : Names) → AssignedWalk t k (w .second) true a b → UsedStep t k extras w a b
         step-bracket v b u s h l e = rw (ne-eqb (w .kind) 6 other, eq-eqb (w .kind) 16 v) (u s h)
 
         pub used-step-other : (w .kind ≡ 16 → ⊥) → UsedStep t k extras w a a

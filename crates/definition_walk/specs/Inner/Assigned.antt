@@ -1,16 +1,15 @@
--- The walk over a pattern.
-use mathlib.Core.Bool.{cond}
+-- The walk over a pattern, with the rest of its chain or without.
+use mathlib.Core.Bool.{Bool, cond}
 use mathlib.Core.List.{List, [], _∷_}
 use Prim.Native.Nat.{ℕ}
 use Rattle.names.specs.declared.Names.{Names}
 use Rattle.sheet.specs.declared.Row.{Row}
 use Rattle.sheet.specs.Kinds.{isVar}
-use Rattle.scope.specs.Trees.{treeAt}
 use Rattle.scope.specs.Scopes as spec
 use Rattle.scope.specs.Scopes.{owns}
 use Rattle.definition.specs.Uses.{assignedVars}
 use Rattle.scope_state.specs.declared.Scope.{Scope}
-use Rattle.scope_walk.specs.Inner.Sheets.{sheetAt}
+use Rattle.scope_walk.specs.Inner.Exprs.{exprBy}
 use Rattle.scope_state.specs.Inner.Agrees.{Sets}
 use Rattle.definition_walk.specs.Inner.Adds.{Adds}
 
@@ -29,5 +28,5 @@ module _ (k : Scope) where
 module _ (t : List ℕ) where
   module _ (k : Scope) where
     -- The names come to the set, for every scope that the code's stands for.
-    abbrev pub AssignedWalk : ℕ → Names → Names → Type 0
-    AssignedWalk row a b = (s : spec.Scope) → Sets k s → Adds a (assignedVars s (treeAt (sheetAt t) row)) b
+    abbrev pub AssignedWalk : ℕ → Bool → Names → Names → Type 0
+    AssignedWalk row rest a b = (s : spec.Scope) → Sets k s → Adds a (assignedVars s (exprBy t rest row)) b

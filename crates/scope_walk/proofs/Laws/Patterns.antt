@@ -11,6 +11,7 @@ use Rattle.sheet.specs.declared.Row.{Row}
 use Rattle.sheet.specs.Kinds.{isPattern, isVar}
 use Rattle.sheet_fields.proofs.Laws.Tables.{left-over}
 use Rattle.scope.specs.Traverse.{Child, firstField, childOf}
+use Rattle.scope_walk.specs.Inner.Kids.{kidsBy}
 use Rattle.scope_walk.specs.Inner.Patterns.{patternChildren, patternChildrenOf}
 use Rattle.scope_walk.proofs.Laws.Arms.{NoKind, no-such-kind}
 use Rattle.scope_walk.proofs.Laws.Walking.{no-var}
@@ -38,6 +39,25 @@ by-kind = (refl, (refl, (refl, (refl, (refl, (refl, (refl, (refl, (refl, (refl, 
 
 pub pattern-enters : (w : Row) → patternChildrenOf w ≡ cond (isPattern w) (firstField ∷ []) []
 pattern-enters w = kept-at 0 patternChildren by-kind (w .kind) (w .kind) (omega arith)
+
+module _ (w : Row) where
+  pub pattern-kind : (n : ℕ) → w .kind ≡ n → isPattern w ≡ (eqb n 7 || eqb n 9)
+  pattern-kind n e = ap (λ (k : ℕ). eqb k 7 || eqb k 9) e
+
+  -- The row that is entered, by kind; and past the last kind.
+  entered-first : kidsBy (patternChildrenOf w) w .first ≡ cond (isPattern w) (w .first) 0
+  entered-first = ap (λ (ks : List Child). kidsBy ks w .first) (pattern-enters w) ∙ go (isPattern w)
+    where
+      go : (b : Bool) → kidsBy (cond b (firstField ∷ []) []) w .first ≡ cond b (w .first) 0
+      go true = refl
+      go false = refl
+
+  pub pattern-first : (n : ℕ) → w .kind ≡ n → kidsBy (getD patternChildren n []) w .first ≡ cond (isPattern w) (w .first) 0
+  pattern-first n e = ap (λ (k : ℕ). kidsBy (getD patternChildren k []) w .first) (sym e) ∙ entered-first
+
+  pub pattern-past : NoKind w → 0 ≡ cond (isPattern w) (w .first) 0
+  pattern-past other =
+      ap (λ (ks : List Child). kidsBy ks w .first) (left-over patternChildren [] 22 (w .kind) (omega arith) refl other) ∙ entered-first
 
 -- ---- a row's turn, but for the rest of its chain
 

@@ -1,22 +1,25 @@
--- The walk goes on to later rows only, and the names that come on the way are those of a row's turn.
+-- Each arm does what its kind asks, which goes on to later rows only: a row's turn (`assigned-turn`).
 use mathlib.Core.Path.{_≡_, refl, _∙_}
-use Prim.Native.Nat.{ℕ, _<_}
+use mathlib.Core.Bool.{true}
+use mathlib.Core.Logic.{⊎-elim}
+use Prim.Native.Nat.{ℕ, _≤_, _<_}
 use borrow.Author.Needs.{needs}
 use borrow.Fn.Kinds.{In}
 use borrow.Fn.PlainCycle.{Measures, is, falls, and}
 use Rattle.names.specs.declared.Names.{Names}
 use Rattle.sheet.specs.Inner.Sheet.{rowAt}
 use Rattle.sheet.proofs.Laws.Sheet.{row-fields}
+use Rattle.scope_walk.specs.Inner.Sheets.{Accepted, exprCount}
 use Rattle.scope_walk.specs.Inner.Walking.{remains}
-use Rattle.scope_walk.proofs.Laws.Walking.{row-low, low-name, past-guard}
-use Rattle.definition_walk.proofs.Laws.Assigned.{LeafCalls, leaf-calls, assigned-none, assigned-turn}
+use Rattle.scope_walk.proofs.Laws.Walking.{row-low, low-name, first-call, next-call}
+use Rattle.scope_walk.proofs.Laws.Patterns.{pattern-arm, leaf-arm, last-leaf}
+use Rattle.definition_walk.proofs.Laws.Assigned.{leaf-still, assigned-none, AssignedTurn, assigned-turn}
 use Rattle.definition_walk.specs.Inner.Assigned.{AssignedWalk}
 use Rattle.definition_walk.proofs.assigned.assigned_vars.Reads as assigned-vars
 use Rattle.definition_walk.proofs.assigned.assigned_vars.Kinds as kinds
 use Rattle.definition_walk.proofs.assigned.+assigned_vars.Lts-assigned_vars as lts
 use Rattle.scope_walk.proofs.next_of.Reads as next-of-reads
-use Rattle.definition_walk.proofs.assigned.pattern_of.Reads as pattern-of-reads
-use Rattle.definition_walk.proofs.assigned.leaf_step.Reads as leaf-step-reads
+use Rattle.definition_walk.proofs.assigned.assigned_var.Reads as assigned-var-reads
 use Rattle.sheet_rows.proofs.row_at.Reads as row-at-reads
 use Rattle.definition_walk.proofs.assigned.+assigned_vars.{statement}
 use Rattle.definition_walk.proofs.assigned.+assigned_vars.Tie.{close}
@@ -34,18 +37,18 @@ abbrev known : ℕ → lts.Claims
 known m = (
   row-at-reads.Asked,
   row-at-reads.Learnt,
-  pattern-of-reads.Asked,
-  pattern-of-reads.Learnt,
   next-of-reads.Asked,
   next-of-reads.Learnt,
-  leaf-step-reads.Asked,
-  leaf-step-reads.Learnt,
+  assigned-var-reads.Asked,
+  assigned-var-reads.Learnt,
   below m,
   assigned-vars.Post,
 )
 
 returns : (m : ℕ) → lts.Need-returns (known m) (here m) assigned-vars.Post
-returns m c = assigned-none _ _ (c .before .before .pre .1 .0) _ (c .if1 .taken) _
+returns m c =
+    let start = c .before .before in
+    assigned-none _ _ (start .pre .1 .0) _ (c .if1 .taken) (start .args .rest) _
 
 row-at-requires : (m : ℕ) → lts.Need-row-at-requires (known m) (here m) assigned-vars.Post
 row-at-requires m c κs =
@@ -57,78 +60,100 @@ row-is : (m : ℕ) (c : lts.After-row-at (known m) (here m) assigned-vars.Post)
     → c .row-at .result ≡ rowAt (c .before .before .before .args .tables .now) (c .before .before .before .args .row)
 row-is m c = c .row-at .ensures ∙ row-fields _ _
 
-pattern-of-requires : (m : ℕ) → lts.Need-pattern-of-requires (known m) (here m) assigned-vars.Post
-pattern-of-requires m c κs = search needs
-
-next-of-requires : (m : ℕ) → lts.Need-next-of-requires (known m) (here m) assigned-vars.Post
-next-of-requires m c κs = search needs
-
-step-requires : (m : ℕ) → lts.Need-leaf-step-requires (known m) (here m) assigned-vars.Post
-step-requires m c κs =
-    let r = c .before .before in
+var-requires : (m : ℕ) → lts.Need-assigned-var-requires (known m) (here m) assigned-vars.Post
+var-requires m c κs =
+    let r = c .before .before .before in
     let pre = r .before .before .before .pre .1 in
-    rw (row-is m r) (low-name _ (pre .0) _ (r .before .if1 .left) (pre .1))
+    (c .match .keys6, rw (row-is m r) (low-name _ (pre .0) _ (r .before .if1 .left) (pre .1)))
 
-ready : (m : ℕ) (c : lts.After-next-of (known m) (here m) assigned-vars.Post)
-    → LeafCalls (c .before .before .before .before .before .args .tables .now) m (c .before .pattern-of .result) (c .next-of .result)
-ready m c =
-    let r = c .before .before in
+-- The call on the first part.
+first-asks : (m : ℕ) (c : lts.After-row-at (known m) (here m) assigned-vars.Post)
+    → let t = c .before .before .before .args .tables .now in
+    let v = c .row-at .result .first in
+    (remains t v < m) × (Accepted t × (v ≤ exprCount t))
+first-asks m c =
+    let start = c .before .before .before in
+    let k = first-call _ (start .pre .1 .0) _ (c .before .if1 .left) (start .pre .1 .1) m (start .pre .0) _ (row-is m c) in
+    (k .0, (start .pre .1 .0, k .1))
+
+array-requires : (m : ℕ) → lts.Need-assigned-vars-requires (known m) (here m) assigned-vars.Post
+array-requires m c κs = first-asks m (c .before .before .before)
+
+object-requires : (m : ℕ) → lts.Need-assigned-vars-requires-2 (known m) (here m) assigned-vars.Post
+object-requires m c κs = first-asks m (c .before .before .before)
+
+-- The match, an arm a kind.
+turn : (m : ℕ) (c : lts.At-match-came (known m) (here m) assigned-vars.Post)
+    → let r = c .before .before .before in
+    let a = r .before .before .before .args in
+    AssignedTurn (a .tables .now) (a .scope) (r .row-at .result) (a .names) (c .match .s)
+turn m c =
+    let r = c .before .before .before in
     let start = r .before .before .before in
-    leaf-calls _ (start .pre .1 .0) _ (r .before .if1 .left) (start .pre .1 .1) m (start .pre .0) _ (row-is m r) _ (c .before .pattern-of .ensures) _ (c .next-of .ensures)
+    let g = start .args in
+    let none = assigned-none (g .tables .now) (g .scope) (start .pre .1 .0) 0 refl true in
+    let still = leaf-still (g .scope) (r .row-at .result) in
+    ⊎-elim (λ a. leaf-arm none still 1 (a .0 .keys1) refl refl (a .1)) (
+    ⊎-elim (λ a. leaf-arm none still 2 (a .0 .keys2) refl refl (a .1)) (
+    ⊎-elim (λ a. leaf-arm none still 3 (a .0 .keys3) refl refl (a .1)) (
+    ⊎-elim (λ a. leaf-arm none still 4 (a .0 .keys4) refl refl (a .1)) (
+    ⊎-elim (λ a. leaf-arm none still 5 (a .0 .keys5) refl refl (a .1)) (
+    ⊎-elim (λ a. pattern-arm none still 6 (a .0 .keys6) (a .1 .ensures) (a .2)) (
+    ⊎-elim (λ a. pattern-arm none still 7 (a .0 .keys7) (a .1 .ensures) (a .2)) (
+    ⊎-elim (λ a. leaf-arm none still 8 (a .0 .keys8) refl refl (a .1)) (
+    ⊎-elim (λ a. pattern-arm none still 9 (a .0 .keys9) (a .1 .ensures) (a .2)) (
+    ⊎-elim (λ a. leaf-arm none still 10 (a .0 .keys10) refl refl (a .1)) (
+    ⊎-elim (λ a. leaf-arm none still 11 (a .0 .keys11) refl refl (a .1)) (
+    ⊎-elim (λ a. leaf-arm none still 12 (a .0 .keys12) refl refl (a .1)) (
+    ⊎-elim (λ a. leaf-arm none still 13 (a .0 .keys13) refl refl (a .1)) (
+    ⊎-elim (λ a. leaf-arm none still 14 (a .0 .keys14) refl refl (a .1)) (
+    ⊎-elim (λ a. leaf-arm none still 15 (a .0 .keys15) refl refl (a .1)) (
+    ⊎-elim (λ a. leaf-arm none still 16 (a .0 .keys16) refl refl (a .1)) (
+    ⊎-elim (λ a. leaf-arm none still 17 (a .0 .keys17) refl refl (a .1)) (
+    ⊎-elim (λ a. leaf-arm none still 18 (a .0 .keys18) refl refl (a .1)) (
+    ⊎-elim (λ a. leaf-arm none still 19 (a .0 .keys19) refl refl (a .1)) (
+    ⊎-elim (λ a. leaf-arm none still 20 (a .0 .keys20) refl refl (a .1)) (
+    ⊎-elim (λ a. leaf-arm none still 21 (a .0 .keys21) refl refl (a .1)) (
+    ⊎-elim (λ a. leaf-arm none still 22 (a .0 .keys22) refl refl (a .1))
+    (λ a. last-leaf none still (a .0 .rest) (a .1))))))))))))))))))))))) (c .match .came)
 
-inner-requires : (m : ℕ) → lts.Need-assigned-vars-requires (known m) (here m) assigned-vars.Post
-inner-requires m c κs =
-    let n = c .before .before in
-    let pre = n .before .before .before .before .before .pre .1 in
-    let k = ready m n .inner in
-    (k .0, (pre .0, k .1))
-
--- What the row is made of, walked where there is something.
-inner-walk : (m : ℕ) (c : lts.Joined2 (known m) (here m) assigned-vars.Post)
+-- With the walk over the rest of the chain.
+turned : (m : ℕ) (c : lts.At-match-came (known m) (here m) assigned-vars.Post) (s : Names)
     → let n = c .before .before in
-    let a = n .before .before .before .before .before .args in
-    AssignedWalk (a .tables .now) (a .scope) (n .before .pattern-of .result) (c .before .leaf-step .result) (c .if2 .s)
-inner-walk m c =
-    let start = c .before .before .before .before .before .before .before in
-    let a = start .args in
-    past-guard (AssignedWalk (a .tables .now) (a .scope)) (assigned-none _ _ (start .pre .1 .0) _ refl) _ _ _ (λ w. (_, w .1 .ensures, w .2)) (λ w. (w .0 .left, w .1)) (c .if2 .came)
-
--- The turn of a row, with the walk over the rest of its chain.
-turned : (m : ℕ) (c : lts.Joined2 (known m) (here m) assigned-vars.Post) (s : Names)
-    → let n = c .before .before in
-    let a = n .before .before .before .before .before .args in
-    AssignedWalk (a .tables .now) (a .scope) (n .next-of .result) (c .if2 .s) s → AssignedWalk (a .tables .now) (a .scope) (a .row) (a .names) s
+    let a = n .before .before .before .before .args in
+    AssignedWalk (a .tables .now) (a .scope) (n .next-of .result) true (c .match .s) s → AssignedWalk (a .tables .now) (a .scope) (a .row) (a .rest) (a .names) s
 turned m c s rest =
     let n = c .before .before in
-    let r = n .before .before in
+    let r = n .before in
     let start = r .before .before .before in
-    assigned-turn _ _ (start .pre .1 .0) _ (r .before .if1 .left) (start .pre .1 .1) _ (row-is m r) _ (n .before .pattern-of .ensures) _ (n .next-of .ensures)
-    _ _ _ _ (c .before .leaf-step .ensures) (inner-walk m c) rest
+    assigned-turn _ _ (start .pre .1 .0) _ (r .before .if1 .left) (start .pre .1 .1) (start .args .rest) _ (row-is m r) _ (n .next-of .ensures) _ _ _ (turn m c) rest
 
 returns-2 : (m : ℕ) → lts.Need-returns-2 (known m) (here m) assigned-vars.Post
 returns-2 m c =
-    let start = c .before .before .before .before .before .before .before .before in
-    turned m (c .before) _ (assigned-none _ _ (start .pre .1 .0) _ (c .if3 .taken) _)
+    let start = c .before .before .before .before .before .before .before in
+    turned m (c .before) _ (assigned-none _ _ (start .pre .1 .0) _ (c .if2 .taken) true _)
 
-next-requires : (m : ℕ) → lts.Need-assigned-vars-requires-2 (known m) (here m) assigned-vars.Post
+next-requires : (m : ℕ) → lts.Need-assigned-vars-requires-3 (known m) (here m) assigned-vars.Post
 next-requires m c κs =
     let n = c .before .before .before in
-    let pre = n .before .before .before .before .before .pre .1 in
-    let k = ready m n .next in
-    (k .0, (pre .0, k .1))
+    let r = n .before in
+    let start = r .before .before .before in
+    let k = next-call _ (start .pre .1 .0) _ (r .before .if1 .left) (start .pre .1 .1) m (start .pre .0) (start .args .rest) _ (row-is m r) _ (n .next-of .ensures) in
+    (k .0, (start .pre .1 .0, k .1))
 
 returns-3 : (m : ℕ) → lts.Need-returns-3 (known m) (here m) assigned-vars.Post
-returns-3 m c = turned m (c .before .before) _ (c .assigned-vars2 .ensures)
+returns-3 m c = turned m (c .before .before) _ (c .assigned-vars3 .ensures)
 
 pub +assigned-vars-spec : {M : Type 1} → statement M
 +assigned-vars-spec = close μ λ m.
     lts.spec (known m) (here m) assigned-vars.Post
     (returns m)
     (row-at-requires m)
-    (pattern-of-requires m)
-    (next-of-requires m)
-    (step-requires m)
-    (inner-requires m)
+    (λ c κs. search needs)
+    (λ c. search needs)
+    (var-requires m)
+    (array-requires m)
+    (object-requires m)
     (returns-2 m)
     (next-requires m)
     (returns-3 m)

@@ -1,8 +1,8 @@
 -- A variable that the pattern binds, or nothing.
 use Rattle.definition_record.proofs.Laws.SomeVars.{enter-bound, enter-passed}
 use borrow.Author.Needs.{needs}
-use Rattle.definition_record.proofs.some.enter_step.Statement.{statement}
-use Rattle.definition_record.proofs.some.enter_step.Tie as tie
+use Rattle.definition_record.proofs.some.enter_var.Statement.{statement}
+use Rattle.definition_record.proofs.some.enter_var.Tie as tie
 
 is-bound-requires : tie.Need-is-bound-requires
 is-bound-requires c κs = search needs
@@ -21,6 +21,6 @@ returns c =
 returns-2 : tie.Need-returns-2
 returns-2 c = enter-passed _ _ (c .before .before .before .before .args .w) _ _ (c .before .is-bound .ensures) (c .if1 .left)
 
-pub enter-step-spec : {M : Type 1} → statement M
-enter-step-spec =
+pub enter-var-spec : {M : Type 1} → statement M
+enter-var-spec =
     tie.close (tie.spec is-bound-requires add-first-use-requires same-length returns returns-2)

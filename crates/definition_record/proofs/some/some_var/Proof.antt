@@ -1,8 +1,8 @@
 -- A variable that the pattern binds, or nothing.
 use Rattle.definition_record.proofs.Laws.SomeVars.{some-bound, some-passed}
 use borrow.Author.Needs.{needs}
-use Rattle.definition_record.proofs.some.some_step.Statement.{statement}
-use Rattle.definition_record.proofs.some.some_step.Tie as tie
+use Rattle.definition_record.proofs.some.some_var.Statement.{statement}
+use Rattle.definition_record.proofs.some.some_var.Tie as tie
 
 is-bound-requires : tie.Need-is-bound-requires
 is-bound-requires c κs = search needs
@@ -21,5 +21,5 @@ returns c =
 returns-2 : tie.Need-returns-2
 returns-2 c = some-passed _ _ (c .before .before .before .args .w) _ _ (c .before .is-bound .ensures) (c .if1 .left)
 
-pub some-step-spec : {M : Type 1} → statement M
-some-step-spec = tie.close (tie.spec is-bound-requires cast-name insert-requires returns returns-2)
+pub some-var-spec : {M : Type 1} → statement M
+some-var-spec = tie.close (tie.spec is-bound-requires cast-name insert-requires returns returns-2)
