@@ -1,6 +1,6 @@
 -- The arms of a walk's match on the kind: each does something at the row, or nothing, and gives the children that it enters.
-use mathlib.Core.Path.{_≡_, refl, sym, ap, _∙_, subst}
-use mathlib.Core.Bool.{Bool, true, false}
+use mathlib.Core.Path.{_≡_, refl, sym, ap, ap₂, _∙_, subst}
+use mathlib.Core.Bool.{Bool, true, false, _||_}
 use Prim.Native.Nat.{ℕ, zero, suc, _≤_}
 use native.Mathlib.Omega.{arith}
 use lib.Dec.{eqb}
@@ -29,6 +29,9 @@ not-among (suc n) j k a b h e = go (λ l. not-among n j k a l (h .0) e) (eqb j (
 
 pub no-such-kind : (w : Row) (j : ℕ) → 1 ≤ j → j ≤ 22 → NoKind w → eqb (w .kind) j ≡ false
 no-such-kind w j a b none = ne-eqb (w .kind) j (not-among 22 j (w .kind) a b none)
+
+pub no-such-kinds : (w : Row) (i j : ℕ) → 1 ≤ i → i ≤ 22 → 1 ≤ j → j ≤ 22 → NoKind w → (eqb (w .kind) i || eqb (w .kind) j) ≡ false
+no-such-kinds w i j a b c d none = ap₂ _||_ (no-such-kind w i a b none) (no-such-kind w j c d none)
 
 -- ---- a row's turn, but for the walks over its children
 
