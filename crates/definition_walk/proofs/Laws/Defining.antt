@@ -21,7 +21,7 @@ use Rattle.scope.specs.Traverse.{comprs}
 use Rattle.scope.specs.Scopes as spec
 use Rattle.definition.specs.Uses.{define, assignedVars, indexVars, usedVars, indexDefinitionsAt, indexDefinitions}
 use Rattle.scope_walk.specs.declared.Kids.{Kids}
-use Rattle.scope_walk.specs.Inner.Kids.{entersOf, kidsOf}
+use Rattle.scope_walk.specs.Inner.Kids.{kidsOf}
 use Rattle.scope_walk.proofs.Laws.Walks.{aloneAt}
 use Rattle.scope_state.specs.declared.Scope.{Scope}
 use Rattle.scope_walk.specs.Inner.Sheets.{countsAt, specialAt, sheetAt, Accepted, exprCount}
@@ -55,7 +55,7 @@ index-low w n h = go (isRefBrack w)
 
 -- What a bracket indexes is its first part.
 bracket-first : (w : Row) → isRefBrack w ≡ true → kidsOf w .first ≡ w .first
-unfolding kidsOf entersOf
+unfolding kidsOf
 bracket-first w p = rw (eqb-true (w .kind) 16 p)
 
 pub made-fresh : (a : Used) (none : Names) → Empty (none .words) → (b : Used) → b ≡ withNames a none → FreshNames a b

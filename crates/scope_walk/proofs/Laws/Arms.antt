@@ -3,11 +3,14 @@ use mathlib.Core.Path.{_≡_, refl, sym, ap, ap₂, _∙_, subst}
 use mathlib.Core.Bool.{Bool, true, false, _||_}
 use Prim.Native.Nat.{ℕ, zero, suc, _≤_}
 use native.Mathlib.Omega.{arith}
-use lib.Dec.{eqb}
+use mathlib.Core.Logic.{_⊎_, inl, inr}
+use lib.Dec.{eqb, leb}
 use lib.ListN.{getD}
 use mathlib.Core.List.{[]}
-use borrow.Author.Tests.{eqb-true, eqb-false, ne-eqb}
+use borrow.Author.Tests.{eqb-true, eqb-false, ne-eqb, leb-true}
+use Rattle.base.proofs.Laws.Truth.{bool-cases, and-left, and-right}
 use Rattle.sheet.specs.declared.Row.{Row}
+use Rattle.sheet.specs.Kinds.{isCompr}
 use Rattle.sheet_fields.proofs.Laws.Tables.{NoArm}
 use Rattle.scope.specs.Traverse.{children}
 use Rattle.scope_walk.specs.declared.Kids.{Kids}
@@ -32,6 +35,22 @@ no-such-kind w j a b none = ne-eqb (w .kind) j (not-among 22 j (w .kind) a b non
 
 pub no-such-kinds : (w : Row) (i j : ℕ) → 1 ≤ i → i ≤ 22 → 1 ≤ j → j ≤ 22 → NoKind w → (eqb (w .kind) i || eqb (w .kind) j) ≡ false
 no-such-kinds w i j a b c d none = ap₂ _||_ (no-such-kind w i a b none) (no-such-kind w j c d none)
+
+pub no-compr-kind : (w : Row) → NoKind w → isCompr w ≡ false
+no-compr-kind w none = go (bool-cases (isCompr w))
+  where
+    among : (j : ℕ) → 1 ≤ j → j ≤ 22 → w .kind ≡ j → ⊥
+    among j a b = not-among 22 j (w .kind) a b none
+
+    go : (isCompr w ≡ true) ⊎ (isCompr w ≡ false) → isCompr w ≡ false
+    go (inr p) = p
+    go (inl p) =
+        let low = leb-true 10 (w .kind) (and-left (leb 10 (w .kind)) _ p) in
+        let high = leb-true (w .kind) 12 (and-right (leb 10 (w .kind)) _ p) in
+        let ten = among 10 (omega arith) (omega arith) in
+        let eleven = among 11 (omega arith) (omega arith) in
+        let twelve = among 12 (omega arith) (omega arith) in
+        absurd (omega arith)
 
 -- ---- a row's turn, but for the walks over its children
 
