@@ -86,9 +86,9 @@ abbrev pub isSimple : ℕ → Bool
 isSimple kind = eqb kind 6 || (eqb kind 15 || eqb kind 16)
 
 pub no-simple-kind : (w : Row) → NoKind w → isSimple (w .kind) ≡ false
-no-simple-kind w no =
-    ap₂ _||_ (no-such-kind w 6 (omega arith) (omega arith) no)
-    (no-such-kinds w 15 16 (omega arith) (omega arith) (omega arith) (omega arith) no)
+no-simple-kind w unlisted =
+    ap₂ _||_ (no-such-kind w 6 (omega arith) (omega arith) unlisted)
+    (no-such-kinds w 15 16 (omega arith) (omega arith) (omega arith) (omega arith) unlisted)
 
 module _ (t : List ℕ) (ok : Accepted t) (row : ℕ) (there : row ≡ 0 → ⊥) (high : row ≤ exprCount t) (w : Row) (is : w ≡ rowAt t row) (r : Path) where
   abbrev Done : Type 0
