@@ -11,15 +11,14 @@ use scope_state::special::is_special;
 use sheet::Row;
 use sheet_rows::kinds::ARRAY_COMPR;
 use sheet_rows::kinds::OBJECT_COMPR;
-use sheet_rows::kinds::REF_BRACK;
-use sheet_rows::kinds::VAR;
 ghost use mathlib.Core.Path.{_≡_};
 ghost use Prim.Native.Nat.{_≤_, _<_};
 ghost use lib.ListN.{length};
 ghost use Rattle.base.specs.Limits as limits;
 ghost use Rattle.sheet.specs.Kinds.{isCompr};
-ghost use Rattle.definition_walk.specs.Inner.Asks.{AsksRow, AsksVar};
-ghost use Rattle.definition_walk.specs.Inner.Founds.{OwnUsed, RowUsed};
+ghost use Rattle.scope_walk.specs.Inner.Sheets.{Accepted, exprCount};
+ghost use Rattle.definition_walk.specs.Inner.Asks.{AsksVar};
+ghost use Rattle.definition_walk.specs.Inner.Founds.{OwnUsed, IndexUsed, RowUsed};
 
 pub fn is_compr(w: Row) -> bool
     ensures { λ r. ⌜ r ≡ isCompr w ⌝ }
@@ -45,7 +44,7 @@ fn use_own(extras: Names, w: Row, used: Used, firsts: &mut [u64]) -> Used
 }
 
 // Any variable.
-fn use_var(
+pub(crate) fn use_var(
     tables: &[u16],
     scope: Scope,
     extras: Names,
@@ -70,29 +69,12 @@ fn use_var(
     used.with_undefined(row)
 }
 
-// Any expression: a bracket uses the names in its index.
-pub fn use_row(
-    tables: &[u16],
-    scope: Scope,
-    extras: Names,
-    row: usize,
-    w: Row,
-    used: Used,
-    firsts: &mut [u64],
-) -> Used
-    requires { ⌜ AsksRow (now tables) row w (now firsts) ⌝ }
-    ensures { λ r. ⌜ RowUsed (now (tables .entry)) scope extras row w used (now (firsts .entry)) r (now (firsts .exit)) ⌝ }
+// A bracket uses the names in its index.
+pub(crate) fn use_index(tables: &[u16], scope: Scope, w: Row, used: Used) -> Used
+    requires { ⌜ Accepted (now tables) × (w .second ≤ exprCount (now tables)) ⌝ }
+    ensures { λ r. ⌜ IndexUsed (now (tables .entry)) scope w used r ⌝ }
 {
-    if w.kind == VAR {
-        return use_var(tables, scope, extras, row, w, used, firsts);
-    }
-    if w.kind == REF_BRACK {
-        let index = w.second as usize;
-        let names = assigned_vars(tables, scope, index, true, used.names);
-        return used.with_names(names);
-    }
-    if is_compr(w) {
-        return used.with_compr();
-    }
-    used
+    let index = w.second as usize;
+    let names = assigned_vars(tables, scope, index, true, used.names);
+    used.with_names(names)
 }

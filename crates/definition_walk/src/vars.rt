@@ -3,12 +3,16 @@
 use crate::found::Used;
 use crate::index::define_index;
 use crate::index::index_of;
-use crate::row::use_row;
+use crate::row::use_index;
+use crate::row::use_var;
 use names::Names;
 use names_width::Width;
 use scope_state::Scope;
-use scope_walk::kids_of;
 use scope_walk::next_of;
+use scope_walk::none;
+use scope_walk::one;
+use scope_walk::three;
+use scope_walk::two;
 use sheet::Row;
 use sheet_rows::row_at;
 ghost use mathlib.Core.Path.{_≡_};
@@ -114,9 +118,71 @@ fn used_from(
         return used;
     }
     let w = row_at(tables, row);
-    let k = kids_of(w);
     let next = next_of(w, rest);
-    let own = use_row(tables, scope, extras, row, w, used, firsts);
+    let kind = w.kind;
+    let mut own = used;
+    let k = match kind {
+        // String
+        1 => none(),
+        // RawString
+        2 => none(),
+        // Number
+        3 => none(),
+        // Bool
+        4 => none(),
+        // Null
+        5 => none(),
+        // Var
+        6 => {
+            own = use_var(tables, scope, extras, row, w, used, firsts);
+            none()
+        }
+        // Array: items
+        7 => one(w.first),
+        // Set: items
+        8 => one(w.first),
+        // Object: fields, keys and values in turn
+        9 => one(w.first),
+        // ArrayCompr
+        10 => {
+            own = used.with_compr();
+            none()
+        }
+        // SetCompr
+        11 => {
+            own = used.with_compr();
+            none()
+        }
+        // ObjectCompr
+        12 => {
+            own = used.with_compr();
+            none()
+        }
+        // Call: params
+        13 => one(w.second),
+        // UnaryExpr: expr
+        14 => one(w.first),
+        // RefDot: refr
+        15 => one(w.first),
+        // RefBrack: refr, index
+        16 => {
+            own = use_index(tables, scope, w, used);
+            two(w.first, w.second)
+        }
+        // BinExpr: lhs, rhs
+        17 => two(w.first, w.second),
+        // BoolExpr: lhs, rhs
+        18 => two(w.first, w.second),
+        // ArithExpr: lhs, rhs
+        19 => two(w.first, w.second),
+        // AssignExpr `Eq`: lhs, rhs
+        20 => two(w.first, w.second),
+        // AssignExpr `ColEq`: lhs, rhs
+        21 => two(w.first, w.second),
+        // Membership: key, value, collection
+        22 => three(w.first, w.second, w.third),
+        _ => none(),
+    };
     let mut part = fresh(own);
     if k.first != 0 {
         part = used_from(

@@ -1,10 +1,6 @@
 // `get_path_string`: a simple reference as names. No built-in has a path of more than three, so a longer one is not kept.
 
-use sheet::Row;
-use sheet_rows::kinds::REF_BRACK;
-use sheet_rows::kinds::REF_DOT;
 use sheet_rows::kinds::STRING;
-use sheet_rows::kinds::VAR;
 use sheet_rows::row_at;
 ghost use mathlib.Core.Path.{_≡_};
 ghost use mathlib.Core.List.{List, []};
@@ -14,7 +10,7 @@ ghost use lib.ListN.{length};
 ghost use Rattle.scope.specs.Trees.{treeAt};
 ghost use Rattle.scope.specs.Paths.{getPathString};
 ghost use Rattle.scope_walk.specs.Inner.Sheets.{sheetAt, Accepted, exprCount};
-ghost use Rattle.scope_paths.specs.Inner.Paths.{shortOf, appended, pathsAgree, IndexStep, PathStep};
+ghost use Rattle.scope_paths.specs.Inner.Paths.{shortOf, appended, pathsAgree, IndexStep};
 
 // `size` is 0 for no path at all, one more than the number of names up to 3, and 5 for more.
 pub struct Path {
@@ -117,24 +113,7 @@ fn index_step(tables: &[u16], row: usize, path: Path) -> Path
     path
 }
 
-// The row w, with the path of its first part.
-fn path_step(tables: &[u16], w: Row, path: Path) -> Path
-    requires { ⌜ Accepted (now tables) × (w .second ≤ exprCount (now tables)) ⌝ }
-    ensures { λ r. ⌜ PathStep (now (tables .entry)) w path r ⌝ }
-{
-    if w.kind == VAR {
-        let one = Path::start();
-        return one.append(w.name);
-    }
-    if w.kind == REF_DOT {
-        return path.append(w.name);
-    }
-    if w.kind == REF_BRACK {
-        return index_step(tables, w.second as usize, path);
-    }
-    Path::none()
-}
-
+// An arm for each kind: three make a simple reference, and the others none.
 pub fn get_path_string(tables: &[u16], row: usize) -> Path
     requires { ⌜ Accepted (now tables) × (row ≤ exprCount (now tables)) ⌝ }
     ensures { λ r. ⌜ r ≡ shortOf (getPathString (treeAt (sheetAt (now (tables .entry))) row)) ⌝ }
@@ -143,6 +122,63 @@ pub fn get_path_string(tables: &[u16], row: usize) -> Path
         return Path::none();
     }
     let w = row_at(tables, row);
-    let path = get_path_string(tables, w.first as usize);
-    path_step(tables, w, path)
+    let refr = w.first as usize;
+    let index = w.second as usize;
+    let kind = w.kind;
+    match kind {
+        // String
+        1 => Path::none(),
+        // RawString
+        2 => Path::none(),
+        // Number
+        3 => Path::none(),
+        // Bool
+        4 => Path::none(),
+        // Null
+        5 => Path::none(),
+        // Var
+        6 => {
+            let one = Path::start();
+            one.append(w.name)
+        }
+        // Array
+        7 => Path::none(),
+        // Set
+        8 => Path::none(),
+        // Object
+        9 => Path::none(),
+        // ArrayCompr
+        10 => Path::none(),
+        // SetCompr
+        11 => Path::none(),
+        // ObjectCompr
+        12 => Path::none(),
+        // Call
+        13 => Path::none(),
+        // UnaryExpr
+        14 => Path::none(),
+        // RefDot: refr, and the field
+        15 => {
+            let path = get_path_string(tables, refr);
+            path.append(w.name)
+        }
+        // RefBrack: refr, and the index if it is a String
+        16 => {
+            let path = get_path_string(tables, refr);
+            index_step(tables, index, path)
+        }
+        // BinExpr
+        17 => Path::none(),
+        // BoolExpr
+        18 => Path::none(),
+        // ArithExpr
+        19 => Path::none(),
+        // AssignExpr `Eq`
+        20 => Path::none(),
+        // AssignExpr `ColEq`
+        21 => Path::none(),
+        // Membership
+        22 => Path::none(),
+        _ => Path::none(),
+    }
 }

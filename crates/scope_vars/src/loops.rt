@@ -6,18 +6,23 @@ use names::Names;
 use names::WORDS;
 use scope_state::Scope;
 use scope_state::special::is_input;
-use scope_walk::kids_of;
 use scope_walk::next_of;
+use scope_walk::none;
+use scope_walk::one;
+use scope_walk::three;
+use scope_walk::two;
 use sheet::Row;
-use sheet_rows::kinds::REF_BRACK;
-use sheet_rows::kinds::VAR;
 use sheet_rows::row_at;
 ghost use mathlib.Core.Path.{_≡_};
+ghost use mathlib.Core.Bool.{_||_};
 ghost use mathlib.Core.List.{List};
+ghost use Prim.Native.Nat.{_≤_};
 ghost use lib.ListN.{length};
 ghost use Rattle.base.specs.Limits as limits;
+ghost use Rattle.sheet.specs.Sheet.{isInput};
+ghost use Rattle.scope_walk.specs.Inner.Sheets.{sheetAt};
 ghost use Rattle.scope_walk.specs.Inner.Asks.{AsksLoops};
-ghost use Rattle.scope_vars.specs.Inner.Loops.{IndexWalkIn, LoopStepIn, LoopWalkIn};
+ghost use Rattle.scope_vars.specs.Inner.Loops.{IndexWalkIn, LoopWalkIn};
 
 // Puts the words of a set.
 fn put(set: Names, words: &mut [u64; WORDS])
@@ -53,28 +58,12 @@ fn bind_index(
     s.uses
 }
 
-// Any expression.
-fn loop_step(
-    tables: &[u16],
-    outer: &[u32],
-    w: Row,
-    locals: &[u64; WORDS],
-    unscoped: &mut [u64; WORDS],
-    inputs: &mut [u64; WORDS],
-    uses: bool,
-    spans: &mut [u32],
-) -> bool
-    requires { ⌜ AsksLoops (now tables) (now outer) (w .second) (now unscoped) (now inputs) (now spans) ⌝ }
-    ensures { λ r. ⌜ LoopStepIn (now (tables .entry)) (now (outer .entry)) w (now (locals .entry)) (now (unscoped .entry)) (now (inputs .entry)) uses (now (spans .entry)) (now (unscoped .exit)) (now (inputs .exit)) r (now (spans .exit)) ⌝ }
+// A variable may be `input`.
+fn flag_input(tables: &[u16], w: Row, uses: bool) -> bool
+    requires { ⌜ limits.tableEntries ≤ length (now tables) ⌝ }
+    ensures { λ r. ⌜ r ≡ (isInput (sheetAt (now (tables .entry))) (w .name) || uses) ⌝ }
 {
-    if w.kind == REF_BRACK {
-        let index = w.second as usize;
-        return bind_index(tables, outer, index, locals, unscoped, inputs, uses, spans);
-    }
-    if w.kind == VAR {
-        return is_input(tables, w.name) || uses;
-    }
-    uses
+    is_input(tables, w.name) || uses
 }
 
 // The expression at a row, with the rest of its chain if `rest`. No call is made on no row.
@@ -96,9 +85,63 @@ pub fn gather_loop_vars(
         return uses;
     }
     let w = row_at(tables, row);
-    let k = kids_of(w);
     let next = next_of(w, rest);
-    let mut s = loop_step(tables, outer, w, locals, unscoped, inputs, uses, spans);
+    let index = w.second as usize;
+    let kind = w.kind;
+    let mut s = uses;
+    let k = match kind {
+        // String
+        1 => none(),
+        // RawString
+        2 => none(),
+        // Number
+        3 => none(),
+        // Bool
+        4 => none(),
+        // Null
+        5 => none(),
+        // Var
+        6 => {
+            s = flag_input(tables, w, uses);
+            none()
+        }
+        // Array: items
+        7 => one(w.first),
+        // Set: items
+        8 => one(w.first),
+        // Object: fields, keys and values in turn
+        9 => one(w.first),
+        // ArrayCompr
+        10 => none(),
+        // SetCompr
+        11 => none(),
+        // ObjectCompr
+        12 => none(),
+        // Call: params
+        13 => one(w.second),
+        // UnaryExpr: expr
+        14 => one(w.first),
+        // RefDot: refr
+        15 => one(w.first),
+        // RefBrack: refr, index
+        16 => {
+            s = bind_index(tables, outer, index, locals, unscoped, inputs, uses, spans);
+            two(w.first, w.second)
+        }
+        // BinExpr: lhs, rhs
+        17 => two(w.first, w.second),
+        // BoolExpr: lhs, rhs
+        18 => two(w.first, w.second),
+        // ArithExpr: lhs, rhs
+        19 => two(w.first, w.second),
+        // AssignExpr `Eq`: lhs, rhs
+        20 => two(w.first, w.second),
+        // AssignExpr `ColEq`: lhs, rhs
+        21 => two(w.first, w.second),
+        // Membership: key, value, collection
+        22 => three(w.first, w.second, w.third),
+        _ => none(),
+    };
     if k.first != 0 {
         s = gather_loop_vars(
             tables,

@@ -1,10 +1,12 @@
 -- Laws of `Founds`.
-use mathlib.Core.Path.{_≡_, refl, sym, ap, _∙_, subst}
+use mathlib.Core.Path.{_≡_, refl, sym, ap, ap₂, _∙_, subst}
 use mathlib.Core.Bool.{Bool, true, false, not, _&&_, _||_, or-true}
 use mathlib.Core.List.{List}
 use mathlib.Core.Logic.{_⊎_, inl, inr}
 use Prim.Native.Nat.{ℕ, zero, suc, _≤_, _<_}
+use native.Mathlib.Omega.{arith}
 use lib.Dec.{eqb, leb}
+use lib.ListN.{length}
 use borrow.Author.Tests.{eq-eqb, ne-eqb, le-leb, lt-leb}
 use Rattle.base.proofs.Laws.Truth.{bool-cases, not-both, neither-left, neither-right}
 use Rattle.base.specs.Sets.{member}
@@ -13,6 +15,8 @@ use Rattle.names.specs.declared.Names.{Names}
 use Rattle.sheet.specs.declared.Row.{Row}
 use Rattle.sheet.specs.Sheet.{isInput, isSpecial}
 use Rattle.sheet.specs.Kinds.{isVar, isCompr}
+use Rattle.scope_walk.specs.declared.Kids.{Kids}
+use Rattle.scope_walk.proofs.Laws.Arms.{Turn, NoKind, no-such-kind, no-compr-kind}
 use Rattle.scope_state.specs.declared.Scope.{Scope}
 use Rattle.scope_walk.specs.Inner.Sheets.{sheetAt, exprCount}
 use Rattle.definition_walk.specs.declared.found.Used.{Used}
@@ -27,7 +31,7 @@ use Rattle.definition_walk.proofs.Laws.Firsts.{first-other, first-no-us
 use Rattle.definition_walk.specs.Inner.Assigned.{AssignedWalk}
 use Rattle.definition_walk.specs.Inner.UsedVars.{UsedStep}
 use Rattle.definition_walk.proofs.Laws.UsedVars.{var-used, var-not-used, used-step-var, step-bracket, used-step-other}
-use Rattle.definition_walk.specs.Inner.Founds.{inputRead, foundUndefined, OwnUsed, withNames, RowUsed, comprMet}
+use Rattle.definition_walk.specs.Inner.Founds.{inputRead, foundUndefined, OwnUsed, IndexUsed, withNames, RowUsed, comprMet}
 
 -- A name without a meaning of its own is not `input`.
 no-special : (t : List ℕ) (x : ℕ) → isSpecial (sheetAt t) x ≡ false → isInput (sheetAt t) x ≡ false
@@ -186,3 +190,40 @@ module _ (t : List ℕ) (k : Scope) (extras : Names) (row : ℕ) (w : Row) (a : 
 
       pub row-other : c ≡ false → RowUsed t k extras row w a ws a ws
       row-other p = no-var (a .names) (used-step-other t k extras w (a .names) v nb) (a .comprs) (met-not t isCompr w (a .comprs) (sym compr ∙ p))
+
+-- ---- the arms of `used_from`, on what is found and the first uses
+
+abbrev pub FoundTurn : List ℕ → Scope → Names → ℕ → Row → Used × List ℕ → Used × List ℕ → Kids → Type 0
+FoundTurn t k extras row w = Turn (λ a b. RowUsed t k extras row w (a .0) (a .1) (b .0) (b .1) × (length (b .1) ≡ length (a .1))) w
+
+-- The kinds at which something is done: a Var, a RefBrack, a comprehension.
+abbrev pub isFound : ℕ → Bool
+isFound kind = eqb kind 6 || (eqb kind 16 || (leb 10 kind && leb kind 12))
+
+pub no-found-kind : (w : Row) → NoKind w → isFound (w .kind) ≡ false
+no-found-kind w none =
+    ap₂ _||_ (no-such-kind w 6 (omega arith) (omega arith) none) (ap₂ _||_ (no-such-kind w 16 (omega arith) (omega arith) none) (no-compr-kind w none))
+
+module _ (t : List ℕ) (k : Scope) (extras : Names) (row : ℕ) (w : Row) (a : Used) (ws : List ℕ) where
+  abbrev Did : Used → List ℕ → Type 0
+  Did b rs = RowUsed t k extras row w a ws b rs × (length rs ≡ length ws)
+
+  pub found-still : isFound (w .kind) ≡ false → Did a ws
+  found-still h =
+      let rest = neither-right (isVar w) _ h in (
+        row-other t k extras row w a ws (λ e. not-both (eq-eqb (w .kind) 6 e) (neither-left (isVar w) _ h))
+            (λ e. not-both (eq-eqb (w .kind) 16 e) (neither-left (eqb (w .kind) 16) _ rest)) false (sym (neither-right (eqb (w .kind) 16) _ rest)) refl,
+        refl,
+      )
+
+  pub found-at-bracket : w .kind ≡ 16 → (b : Used) → IndexUsed t k w a b → Did b ws
+  found-at-bracket e b u =
+      (row-bracket t k extras row w a ws (λ v. not-both (eq-eqb (w .kind) 6 v) (ap (λ (n : ℕ). eqb n 6) e)) e (u .names) (u .walked) b (u .is), refl)
+
+  -- A comprehension of kind n.
+  pub found-at-compr : (n : ℕ) → w .kind ≡ n → eqb n 6 ≡ false → eqb n 16 ≡ false → (leb 10 n && leb n 12) ≡ true → (b : Used) → b ≡ comprMet a → Did b ws
+  found-at-compr n e v r c b is = (
+    row-compr t k extras row w a ws (λ k. not-both (eq-eqb (w .kind) 6 k) (ap (λ (j : ℕ). eqb j 6) e ∙ v))
+        (λ k. not-both (eq-eqb (w .kind) 16 k) (ap (λ (j : ℕ). eqb j 16) e ∙ r)) true (sym (ap (λ (j : ℕ). leb 10 j && leb j 12) e ∙ c)) refl b is,
+    refl,
+  )

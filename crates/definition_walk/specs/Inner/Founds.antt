@@ -10,6 +10,7 @@ use Rattle.sheet.specs.declared.Row.{Row}
 use Rattle.sheet.specs.Kinds.{isCompr}
 use Rattle.scope_state.specs.declared.Scope.{Scope}
 use Rattle.definition_walk.specs.declared.found.Used.{Used}
+use Rattle.definition_walk.specs.Inner.Assigned.{AssignedWalk}
 use Rattle.definition_walk.specs.Inner.Undefined.{earlier, UndefinedStep}
 use Rattle.definition_walk.specs.Inner.Met.{MetStep, reads}
 use Rattle.definition_walk.specs.Inner.Firsts.{FirstUse, FirstStep}
@@ -37,6 +38,14 @@ pub record OwnUsed (extras : Names) (w : Row) (a : Used) (ws : List ℕ) (b : Us
   pub is : b ≡ withNames a names
   pub bound : member (extras .words) (w .name) ≡ true → (names ≡ a .names) × (rs ≡ ws)
   pub free : member (extras .words) (w .name) ≡ false → Inserted (a .names .words) (w .name) (names .words) × FirstUse w ws rs
+
+-- ---- a bracket
+
+-- The names in its index are used.
+pub record IndexUsed (t : List ℕ) (k : Scope) (w : Row) (a b : Used) : Type 0 where
+  pub names : Names
+  pub walked : AssignedWalk t k (w .second) true (a .names) names
+  pub is : b ≡ withNames a names
 
 -- ---- any row
 

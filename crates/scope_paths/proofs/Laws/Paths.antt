@@ -1,15 +1,19 @@
 -- Laws of `Paths`.
-use mathlib.Core.Path.{_≡_, refl, sym, ap, _∙_}
-use mathlib.Core.Bool.{true}
+use mathlib.Core.Path.{_≡_, refl, sym, ap, ap₂, _∙_}
+use mathlib.Core.Bool.{Bool, true, false, _||_}
 use mathlib.Core.List.{List, [], _∷_}
 use mathlib.Core.Option.{Option, none, some}
 use Prim.Native.Nat.{ℕ, _≤_}
+use native.Mathlib.Omega.{arith}
+use lib.Dec.{eqb}
 use borrow.Author.Tests.{eq-eqb, ne-eqb}
+use Rattle.base.proofs.Laws.Truth.{not-both, neither-left, neither-right}
 use Rattle.sheet.specs.declared.Row.{Row}
 use Rattle.sheet.specs.Inner.Sheet.{rowAt}
 use Rattle.scope.specs.Paths.{append, getPathString}
 use Rattle.scope_paths.specs.declared.paths.Path.{Path}
 use Rattle.scope_walk.specs.Inner.Sheets.{Accepted, exprCount}
+use Rattle.scope_walk.proofs.Laws.Arms.{NoKind, no-such-kind, no-such-kinds}
 use Rattle.scope_walk.proofs.Laws.Exprs.{none-is, tree-is, row-is}
 use Rattle.scope_paths.specs.Inner.Paths.{sized, shortOf, appended, IndexStep, PathStep, pathAt}
 
@@ -75,3 +79,39 @@ module _ (t : List ℕ) where
         → r ≡ shortOf (pathAt t row)
     unfolding getPathString
     walk-row there high w is p r h step = rw (tree-is t ok row there high, sym is) (step (pathAt t (w .first)) h)
+
+-- ---- the arms of `get_path_string`: a Var, a RefDot and a RefBrack have a path
+
+abbrev pub isSimple : ℕ → Bool
+isSimple kind = eqb kind 6 || (eqb kind 15 || eqb kind 16)
+
+pub no-simple-kind : (w : Row) → NoKind w → isSimple (w .kind) ≡ false
+no-simple-kind w unlisted =
+    ap₂ _||_ (no-such-kind w 6 (omega arith) (omega arith) unlisted)
+    (no-such-kinds w 15 16 (omega arith) (omega arith) (omega arith) (omega arith) unlisted)
+
+module _ (t : List ℕ) (ok : Accepted t) (row : ℕ) (there : row ≡ 0 → ⊥) (high : row ≤ exprCount t) (w : Row) (is : w ≡ rowAt t row) (r : Path) where
+  abbrev Done : Type 0
+  Done = r ≡ shortOf (pathAt t row)
+
+  from-first : PathStep t w (shortOf (pathAt t (w .first))) r → Done
+  from-first step = walk-row t ok row there high w is _ r refl step
+
+  pub path-at-other : isSimple (w .kind) ≡ false → r ≡ shortOf none → Done
+  path-at-other h e =
+      let rest = neither-right (eqb (w .kind) 6) _ h in
+      from-first (path-other t w _ r (λ k. not-both (eq-eqb (w .kind) 6 k) (neither-left (eqb (w .kind) 6) _ h))
+      (λ k. not-both (eq-eqb (w .kind) 15 k) (neither-left (eqb (w .kind) 15) _ rest)) (λ k. not-both (eq-eqb (w .kind) 16 k) (neither-right (eqb (w .kind) 15) _ rest)) e)
+
+  pub path-at-var : w .kind ≡ 6 → (q : Path) → q ≡ shortOf (some []) → r ≡ appended q (w .name) → Done
+  path-at-var e q one put = from-first (path-var t w _ r e q one put)
+
+  module _ (n : ℕ) (e : w .kind ≡ n) (p : Path) (before : p ≡ shortOf (pathAt t (w .first))) where
+    differs : (j : ℕ) → eqb n j ≡ false → w .kind ≡ j → ⊥
+    differs j other k = not-both (eq-eqb (w .kind) j k) (ap (λ (i : ℕ). eqb i j) e ∙ other)
+
+    pub path-at-dot : n ≡ 15 → eqb n 6 ≡ false → r ≡ appended p (w .name) → Done
+    path-at-dot k other put = walk-row t ok row there high w is p r before (path-dot t w p r (differs 6 other) (e ∙ k) put)
+
+    pub path-at-brack : n ≡ 16 → eqb n 6 ≡ false → eqb n 15 ≡ false → IndexStep t (w .second) p r → Done
+    path-at-brack k other dot put = walk-row t ok row there high w is p r before (path-brack t w p r (differs 6 other) (differs 15 dot) (e ∙ k) put)

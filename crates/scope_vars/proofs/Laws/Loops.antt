@@ -1,13 +1,17 @@
 -- Laws of `Loops`.
 use mathlib.Core.Path.{_≡_, refl, sym, ap, _∙_, subst}
-use mathlib.Core.Bool.{Bool, true, false, cond}
+use mathlib.Core.Bool.{Bool, true, false, cond, _||_}
 use mathlib.Core.List.{List, [], _∷_, foldl}
 use Prim.Native.Nat.{ℕ, _≤_}
+use lib.Dec.{eqb}
+use lib.ListN.{length}
 use borrow.Author.Tests.{eq-eqb, ne-eqb}
 use Rattle.sheet.specs.declared.Row.{Row}
 use Rattle.base.specs.Lists.{isSome}
+use Rattle.base.proofs.Laws.Truth.{not-both, or-left, or-right}
 use Rattle.sheet.specs.Sheet.{Sheet, isInput, isSpecial}
 use Rattle.sheet.specs.Inner.Sheet.{rowAt}
+use Rattle.sheet.specs.Kinds.{isVar, isRefBrack}
 use Rattle.scope.specs.Trees.{Tree}
 use Rattle.scope.specs.Traverse.{leaves, vars}
 use Rattle.scope.specs.Scopes as spec
@@ -15,18 +19,20 @@ use Rattle.scope.specs.Scopes.{addUnscoped, addInput, useInput, varExists}
 use Rattle.scope.specs.Gather.{assignVar, gatherAssignedVars, loopVar, gatherLoopVars}
 use Rattle.scope_walk.specs.declared.Kids.{Kids}
 use Rattle.scope_walk.specs.Inner.Kids.{kidsOf}
+use Rattle.scope_walk.proofs.Laws.Arms.{Turn}
 use Rattle.scope_walk.proofs.Laws.Walks.{aloneAt}
 use Rattle.scope_walk.specs.Inner.Walks.{overBy}
 use Rattle.scope_state.specs.declared.Scope.{Scope}
 use Rattle.scope_walk.specs.Inner.Sheets.{countsAt, specialAt, sheetAt, Accepted, exprCount}
 use Rattle.scope_state.specs.Inner.Agrees.{WithFlag}
 use Rattle.scope_state.specs.Inner.Spans.{Agrees}
+use Rattle.scope_state.proofs.Laws.Agrees.{with-flag}
 use Rattle.scope_state.proofs.Laws.Spans.{agrees-flag}
 use Rattle.scope_walk.specs.Inner.Exprs.{exprBy}
 use Rattle.scope_walk.proofs.Laws.Walking as walking
 use Rattle.scope_walk.specs.Inner.Walking.{Walk}
 use Rattle.scope_vars.specs.Inner.Assigned.{AssignWalk}
-use Rattle.scope_vars.specs.Inner.Loops.{scopeOfWords, LoopStep, stepAt, LoopWalk}
+use Rattle.scope_vars.specs.Inner.Loops.{scopeOfWords, LoopStep, stepAt, LoopWalk, IndexWalkIn, LoopStepIn}
 
 -- ---- a pattern that does not shadow keeps the locals
 
@@ -115,3 +121,41 @@ module _ (t outer : List ℕ) where
       row some high rest w is p ps next ns (k, l) (s₀, l₀) (s₁, l₁) (s₂, l₂) (s₃, l₃) (s₄, l₄) (h₀ parents o)
       (part (p .first) (s₀, l₀) (s₁, l₁) h₁) (part (p .second) (s₁, l₁) (s₂, l₂) h₂) (part (p .third) (s₂, l₂) (s₃, l₃) h₃)
       (part next (s₃, l₃) (s₄, l₄) h₄) s a)
+
+-- ---- what is done at a row, on the flag, the unscoped names, the inputs and the spans
+
+abbrev pub LoopState : Type 0
+LoopState = Bool × List ℕ × List ℕ × List ℕ
+
+abbrev pub LoopTurn : List ℕ → List ℕ → List ℕ → Row → LoopState → LoopState → Kids → Type 0
+LoopTurn t outer o w =
+    Turn (λ a b. LoopStepIn t outer w o (a .1) (a .2) (a .0) (a .3) (b .1) (b .2) (b .0) (b .3) × (length (b .3) ≡ length (a .3))) w
+
+module _ (t outer o : List ℕ) (w : Row) (a : LoopState) where
+  pub loop-still : (isVar w || isRefBrack w) ≡ false
+      → LoopStepIn t outer w o (a .1) (a .2) (a .0) (a .3) (a .1) (a .2) (a .0) (a .3) × (length (a .3) ≡ length (a .3))
+  loop-still other = (
+    record {
+      unscoped-long = refl;
+      inputs-long = refl;
+      done = loop-step-other t outer w _ _ (λ e. not-both (or-right (isVar w) _ (eq-eqb (w .kind) 16 e)) other)
+          (λ e. not-both (or-left _ (isRefBrack w) (eq-eqb (w .kind) 6 e)) other);
+    },
+    refl,
+  )
+
+  pub loop-at-var : w .kind ≡ 6 → (f : Bool) → f ≡ (isInput (sheetAt t) (w .name) || a .0)
+      → LoopStepIn t outer w o (a .1) (a .2) (a .0) (a .3) (a .1) (a .2) f (a .3) × (length (a .3) ≡ length (a .3))
+  loop-at-var e f is = (
+    record {
+      unscoped-long = refl;
+      inputs-long = refl;
+      done = loop-step-var t outer w _ _ (λ k. not-both (eq-eqb (w .kind) 16 k) (ap (λ (n : ℕ). eqb n 16) e)) e _ refl _ (with-flag (scopeOfWords o (a .1) (a .2) (a .0)) _ _ is);
+    },
+    refl,
+  )
+
+  pub loop-at-brack : w .kind ≡ 16 → (b : LoopState) → IndexWalkIn t outer (w .second) o (a .1) (a .2) (a .0) (a .3) (b .1) (b .2) (b .0) (b .3)
+      → length (b .3) ≡ length (a .3) → LoopStepIn t outer w o (a .1) (a .2) (a .0) (a .3) (b .1) (b .2) (b .0) (b .3) × (length (b .3) ≡ length (a .3))
+  loop-at-brack e b did long =
+      (record { unscoped-long = did .unscoped-long; inputs-long = did .inputs-long; done = step-brack t outer w _ _ e _ _ (did .done) }, long)

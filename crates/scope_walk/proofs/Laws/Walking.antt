@@ -12,8 +12,8 @@ use Rattle.base.specs.Limits as limits
 use Rattle.base.proofs.Laws.Truth.{bool-cases, or-cases}
 use Rattle.sheet.specs.declared.Row.{Row}
 use Rattle.sheet.specs.Inner.Sheet.{rowAt}
-use Rattle.sheet.specs.Kinds.{isPattern, isVar}
-use Rattle.scope.specs.Trees.{Tree, rowOf}
+use Rattle.sheet.specs.Kinds.{isPattern, isVar, isCompr}
+use Rattle.scope.specs.Trees.{Tree, rowOf, thirdOf}
 use Rattle.scope.specs.Traverse.{leaves}
 use Rattle.scope_walk.specs.declared.Kids.{Kids}
 use Rattle.scope_walk.proofs.Laws.Descent.{OnwardTo}
@@ -39,6 +39,13 @@ module _ (t : List ℕ) where
     pub first : Falls m (k .first)
     pub second : Falls m (k .second)
     pub third : Falls m (k .third)
+    pub next : Falls m (cond rest (w .next) 0)
+
+  -- The calls on its fields. A comprehension's third names no expression.
+  pub record FieldCalls (m : ℕ) (rest : Bool) (w : Row) : Type 0 where
+    pub first : Falls m (w .first)
+    pub second : Falls m (w .second)
+    pub third : isCompr w ≡ false → Falls m (w .third)
     pub next : Falls m (cond rest (w .next) 0)
 
   module _ (ok : Accepted t) (r : ℕ) (some : r ≡ 0 → ⊥) (high : r ≤ exprCount t) where
@@ -67,6 +74,17 @@ module _ (t : List ℕ) where
         } in
         rw (ks, is) at
 
+    pub field-calls : (m : ℕ) → remains t r ≡ m → (rest : Bool) (w : Row) → w ≡ rowAt t r → FieldCalls m rest w
+    field-calls m e rest w is =
+        let d = row-descends (countsAt t) t (ok .facts) r (omega arith) high in
+        let at : FieldCalls m rest (rowAt t r) = record {
+          first = goes _ m e (d .to-first);
+          second = goes _ m e (d .to-second);
+          third = λ p. let k : thirdOf (rowAt t r) ≡ rowAt t r .third = rw p in rw k at (goes _ m e (d .to-third));
+          next = goes-if rest _ m e (d .to-next);
+        } in
+        rw is at
+
     -- The calls of a pattern's turn.
     pub pattern-calls : (m : ℕ) → remains t r ≡ m → (rest : Bool) (w : Row) → w ≡ rowAt t r
         → (items : ℕ) → items ≡ cond (isPattern w) (w .first) 0 → (next : ℕ) → next ≡ cond rest (w .next) 0 → Falls m items × Falls m next
@@ -82,7 +100,7 @@ module _ (t : List ℕ) where
 
     -- The call on the rest of a chain, if it is wanted.
     pub next-call : (m : ℕ) → remains t r ≡ m → (rest : Bool) (w : Row) → w ≡ rowAt t r → (next : ℕ) → next ≡ cond rest (w .next) 0 → Falls m next
-    next-call m e rest w is next ns = rw (ns, is) (goes-if rest _ m e (row-descends (countsAt t) t (ok .facts) r (omega arith) high .to-next))
+    next-call m e rest w is next ns = rw ns (field-calls m e rest w is .next)
 
     -- The call on the first part.
     pub first-call : (m : ℕ) → remains t r ≡ m → (w : Row) → w ≡ rowAt t r → Falls m (w .first)

@@ -1,7 +1,7 @@
 -- Laws of `Walks`.
 use mathlib.Core.Path.{_≡_, refl, sym, ap, subst, _∙_}
 use mathlib.Core.Bool.{Bool, true, false, cond}
-use mathlib.Core.List.{List, [], _∷_, _++_, foldl}
+use mathlib.Core.List.{List, [], _∷_, _++_, map, foldl}
 use mathlib.Core.Logic.{_⊎_, inl, inr}
 use Prim.Native.Nat.{ℕ, _≤_}
 use Rattle.base.proofs.Laws.Truth.{bool-cases}
@@ -12,7 +12,7 @@ use Rattle.sheet.specs.declared.Row.{Row}
 use Rattle.sheet.specs.Inner.Sheet.{rowAt}
 use Rattle.sheet.specs.Kinds.{isPattern, isCompr}
 use Rattle.scope.specs.Trees.{Tree, nil, node, thirdOf}
-use Rattle.scope.specs.Traverse.{Child, childrenOf, entered, traverse, leaves}
+use Rattle.scope.specs.Traverse.{Child, firstField, secondField, thirdField, childOf, childrenOf, entered, traverse, leaves}
 use Rattle.scope.proofs.Laws.Children.{of-children}
 use Rattle.scope_walk.specs.declared.Kids.{Kids}
 use Rattle.scope_walk.proofs.Laws.RowTrees.{tree-none, tree-row}
@@ -51,52 +51,74 @@ module _ (c : Counts) (x : Special) (t : List ℕ) where
     unfolding leaves
     leaves-none s = rw (tree-none c x t facts)
 
-    -- The parts of a row that are entered.
-    abbrev overParts : S → Kids → S
-    overParts s k = over f (over f (over f s (k .first)) (k .second)) (k .third)
+    -- ---- the children that a walk enters
 
     abbrev met : ℕ → List Tree
     met r = traverse (tree c x t r)
 
-    abbrev PartsOver : S → Row → ℕ → List Child → Type 0
-    PartsOver s w third ks = foldl f s (entered ks (met (w .first)) (met (w .second)) (met third)) ≡ overParts s (kidsBy ks w)
+    met-child : (k : Child) (a b d : ℕ) → childOf k (met a) (met b) (met d) ≡ met (childOf k a b d)
+    met-child firstField a b d = refl
+    met-child secondField a b d = refl
+    met-child thirdField a b d = refl
 
-    parts-none : (s : S) (w : Row) (third : ℕ) → PartsOver s w third []
-    parts-none s w third = sym (over-none _ ∙ over-none _ ∙ over-none _)
+    over-children : (ks : List Child) (s : S) (a b d : ℕ)
+        → foldl f s (entered ks (met a) (met b) (met d)) ≡ foldl (over f) s (map (λ k. childOf k a b d) ks)
+    over-children [] s a b d = refl
+    over-children (k ∷ ks) s a b d =
+        ap (λ (l : List Tree). foldl f s (l ++ entered ks (met a) (met b) (met d))) (met-child k a b d)
+        ∙ fold-append f s (met (childOf k a b d)) (entered ks (met a) (met b) (met d)) ∙ over-children ks (over f s (childOf k a b d)) a b d
 
-    -- One field, and those behind it.
-    then : (s : S) (r : ℕ) (l : List Tree) → foldl f s (met r ++ l) ≡ foldl f (over f s r) l
-    then s r l = fold-append f s (met r) l
+    -- For every kind, and whatever a walk does at an expression: it meets the row, then what its children name, in the order of the
+    -- definitions, then the rest of its chain.
+    pub walk-enters : (s : S) (r : ℕ) → 1 ≤ r → r ≤ c .exprs
+        → let w = rowAt t r in
+        over f s r ≡ over f (foldl (over f) (f s (aloneAt r)) (map (λ k. childOf k (w .first) (w .second) (thirdOf w)) (childrenOf w))) (w .next)
+    unfolding traverse
+    walk-enters s r a b =
+        let w = rowAt t r in
+        rw (tree-row c x t facts r a b)
+        (fold-append f (f s (aloneAt r)) (entered (childrenOf w) (met (w .first)) (met (w .second)) (met (thirdOf w))) (met (w .next))
+        ∙ ap (λ (u : S). over f u (w .next)) (over-children (childrenOf w) (f s (aloneAt r)) (w .first) (w .second) (thirdOf w)))
 
-    parts-over : (s : S) (w : Row) (third : ℕ) → third ≡ w .third → PartsOver s w third (childrenOf w)
-    parts-over s w third is =
-        of-children (PartsOver s w third) (parts-none s w third)
-        (then s (w .first) [] ∙ sym (over-none _ ∙ over-none _))
-        (then s (w .second) [] ∙ sym (over-none _ ∙ over-none _))
-        (then s (w .first) _ ∙ then (over f s (w .first)) (w .second) [] ∙ sym (over-none _))
-        (then s (w .first) _ ∙ then (over f s (w .first)) (w .second) _ ∙ then (over f (over f s (w .first)) (w .second)) third []
-        ∙ ap (λ (k : ℕ). over f (over f (over f s (w .first)) (w .second)) k) is)
-        (w .kind)
+    -- The same without the rest of its chain.
+    pub walk-enters-alone : (s : S) (r : ℕ) → 1 ≤ r → r ≤ c .exprs
+        → let w = rowAt t r in
+        overBy c x t f false s r ≡ foldl (over f) (f s (aloneAt r)) (map (λ k. childOf k (w .first) (w .second) (thirdOf w)) (childrenOf w))
+    unfolding traverse
+    walk-enters-alone s r a b =
+        let w = rowAt t r in
+        rw (tree-row c x t facts r a b)
+        (fold-append f (f s (aloneAt r)) (entered (childrenOf w) (met (w .first)) (met (w .second)) (met (thirdOf w))) []
+        ∙ over-children (childrenOf w) (f s (aloneAt r)) (w .first) (w .second) (thirdOf w))
+
+    -- ---- the same of the rows that are entered, as the code has them: none behind the last
+
+    abbrev overParts : S → Kids → S
+    overParts s k = over f (over f (over f s (k .first)) (k .second)) (k .third)
+
+    abbrev AsKids : S → Row → ℕ → List Child → Type 0
+    AsKids s w third ks = foldl (over f) s (map (λ k. childOf k (w .first) (w .second) third) ks) ≡ overParts s (kidsBy ks w)
+
+    as-none : (s : S) (w : Row) (third : ℕ) → AsKids s w third []
+    as-none s w third = sym (over-none _ ∙ over-none _ ∙ over-none _)
 
     -- A comprehension's third names a query, and it is not entered.
-    entered-parts : (s : S) (w : Row) → foldl f s (entered (childrenOf w) (met (w .first)) (met (w .second)) (met (thirdOf w))) ≡ overParts s (kidsOf w)
+    as-kids : (s : S) (w : Row) → foldl (over f) s (map (λ k. childOf k (w .first) (w .second) (thirdOf w)) (childrenOf w)) ≡ overParts s (kidsOf w)
     unfolding kidsOf
-    entered-parts s w = go (bool-cases (isCompr w))
+    as-kids s w = go (bool-cases (isCompr w))
       where
-        go : (isCompr w ≡ true) ⊎ (isCompr w ≡ false) → PartsOver s w (thirdOf w) (childrenOf w)
-        go (inl p) = subst (PartsOver s w (thirdOf w)) (sym (compr-enters-nothing w p)) (parts-none s w (thirdOf w))
-        go (inr p) = parts-over s w (thirdOf w) (rw p)
+        go : (isCompr w ≡ true) ⊎ (isCompr w ≡ false) → AsKids s w (thirdOf w) (childrenOf w)
+        go (inl p) = subst (AsKids s w (thirdOf w)) (sym (compr-enters-nothing w p)) (as-none s w (thirdOf w))
+        go (inr p) =
+            let e : thirdOf w ≡ w .third = rw p in
+            of-children (AsKids s w (thirdOf w)) (as-none s w (thirdOf w)) (sym (over-none _ ∙ over-none _)) (sym (over-none _ ∙ over-none _)) (sym (over-none _))
+            (ap (λ (v : ℕ). over f (over f (over f s (w .first)) (w .second)) v) e) (w .kind)
 
     -- The row first, then its parts, then the rest of its chain.
     pub over-row : (s : S) (r : ℕ) → 1 ≤ r → r ≤ c .exprs
         → let w = rowAt t r in let k = kidsOf w in
         over f s r ≡ over f (over f (over f (over f (f s (aloneAt r)) (k .first)) (k .second)) (k .third)) (w .next)
-    unfolding traverse
-    over-row s r a b =
-        let w = rowAt t r in
-        rw (tree-row c x t facts r a b)
-        (fold-append f (f s (aloneAt r)) (entered (childrenOf w) (met (w .first)) (met (w .second)) (met (thirdOf w))) (met (w .next))
-        ∙ ap (λ (u : S). over f u (w .next)) (entered-parts (f s (aloneAt r)) w))
+    over-row s r a b = walk-enters s r a b ∙ ap (λ (u : S). over f u (rowAt t r .next)) (as-kids (f s (aloneAt r)) (rowAt t r))
 
     leaf-parts : (s : S) (r : ℕ) (p : Bool)
         → foldl f s (cond p (leaves (tree c x t (rowAt t r .first))) (aloneAt r ∷ [])) ≡ cond p (overLeaves f s (rowAt t r .first)) (f s (aloneAt r))
@@ -124,13 +146,8 @@ module _ (c : Counts) (x : Special) (t : List ℕ) where
     pub overBy-row : (rest : Bool) (s : S) (r : ℕ) → 1 ≤ r → r ≤ c .exprs
         → let w = rowAt t r in let k = kidsOf w in
         (overBy c x t) f rest s r ≡ over f (over f (over f (over f (f s (aloneAt r)) (k .first)) (k .second)) (k .third)) (cond rest (w .next) 0)
-    unfolding traverse
     overBy-row true s r a b = over-row s r a b
-    overBy-row false s r a b =
-        let w = rowAt t r in
-        rw (tree-row c x t facts r a b)
-        (fold-append f (f s (aloneAt r)) (entered (childrenOf w) (met (w .first)) (met (w .second)) (met (thirdOf w))) []
-        ∙ entered-parts (f s (aloneAt r)) w ∙ sym (over-none _))
+    overBy-row false s r a b = walk-enters-alone s r a b ∙ as-kids (f s (aloneAt r)) (rowAt t r) ∙ sym (over-none _)
 
     pub leavesBy-none : (rest : Bool) (s : S) → leavesBy f rest s 0 ≡ s
     unfolding leaves
