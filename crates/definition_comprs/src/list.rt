@@ -15,8 +15,8 @@ ghost use Rattle.sheet.specs.Kinds.{isCompr};
 ghost use Rattle.scope_walk.specs.Inner.Sheets.{Accepted, exprCount};
 ghost use Rattle.definition_comprs.specs.Inner.Lists.{Lists, AtRow, comprsBy, AsksList, AsksBoth, ListsBoth, ListsRow};
 
-// Room for those of two expressions.
-pub const LISTED: usize = 2 * base::EXPRESSIONS;
+// Room for those of two expressions: a comprehension has a query of its own, so neither has more than there are queries.
+pub const LISTED: usize = 2 * base::QUERIES;
 
 // The row, if it is a comprehension. Hands back how many are listed.
 fn list_row(w: Row, row: usize, rows: &mut [u16], count: usize) -> usize

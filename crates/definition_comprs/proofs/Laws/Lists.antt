@@ -70,7 +70,7 @@ module _ (t : List ℕ) where
   -- ---- what comes to a list
 
   -- Nothing does.
-  pub lists-nothing : (Home : ℕ → Type 0) (cs : List Tree) → cs ≡ [] → (a : List ℕ) (count : ℕ) → Lists t Home cs a count a count
+  lists-nothing : (Home : ℕ → Type 0) (cs : List Tree) → cs ≡ [] → (a : List ℕ) (count : ℕ) → Lists t Home cs a count a count
   lists-nothing Home cs none a count = rw none (record {
     end-is = omega arith;
     long = refl;

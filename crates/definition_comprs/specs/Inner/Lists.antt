@@ -14,9 +14,9 @@ use Rattle.scope_walk.specs.Inner.Sheets.{countsAt, Accepted, exprCount}
 use Rattle.scope_walk.specs.Inner.Exprs.{exprBy}
 use Rattle.definition_room.specs.Inner.Lying.{Lies}
 
--- Room for those of two expressions.
+-- Room for those of two expressions: a comprehension has a query of its own, so neither has more than there are queries.
 abbrev pub mostListed : ℕ
-mostListed = 2 * limits.mostExpressions
+mostListed = 2 * limits.mostQueries
 
 -- The row w at `row`, which comes to the list behind the first `count` if it is a comprehension.
 pub record ListsRow (w : Row) (row : ℕ) (before : List ℕ) (count : ℕ) (after : List ℕ) (end : ℕ) : Type 0 where

@@ -14,25 +14,17 @@ use Rattle.answer_blocks.specs.Inner.Layout.{answersSize}
 use Rattle.sheet.specs.declared.Row.{Row}
 use Rattle.sheet.specs.Inner.Sheet.{rowAt}
 use Rattle.sheet.specs.Kinds.{isCompr}
-use Rattle.scope.specs.Trees.{Tree, rowOf}
-use Rattle.scope.specs.Traverse.{comprs}
+use Rattle.scope.specs.Trees.{Tree}
 use Rattle.scope.specs.Scopes.{Scope}
 use Rattle.definition.specs.States.{sound, State}
 use Rattle.definition.specs.Comprs.{processCompr, processComprs}
 use Rattle.sheet.specs.Naming.{exprRow}
 use Rattle.sheet.specs.Inner.Enclosing.{enclosingQuery}
-use Rattle.scope_walk.specs.declared.Kids.{Kids}
-use Rattle.scope_walk.specs.Inner.Kids.{kidsOf}
-use Rattle.scope_walk.specs.Inner.Walks.{alone}
-use Rattle.scope_walk.proofs.Laws.Walks.{aloneAt}
 use Rattle.definition_room.proofs.Laws.Lying.{lies-there}
-use Rattle.definition_room.proofs.Laws.Homes as homes
-use Rattle.definition_room.proofs.Laws.Homes.{Opens, kids-lie, next-lies, compr-opens}
-use Rattle.scope_walk.specs.Inner.Sheets.{countsAt, specialAt, sheetAt, Accepted, exprCount}
+use Rattle.definition_room.proofs.Laws.Homes.{Opens, compr-opens}
+use Rattle.scope_walk.specs.Inner.Sheets.{countsAt, sheetAt, Accepted}
 use Rattle.scope_walk.specs.Inner.Exprs.{exprBy}
-use Rattle.scope_walk.proofs.Laws.Exprs.{tree-is}
 use Rattle.scope_walk.proofs.Laws.Walking.{first-low, second-low}
-use Rattle.definition_walk.proofs.Laws.Collects.{collected-none, collected-turn}
 use Rattle.definition_state.specs.declared.Fault.{Fault}
 use Rattle.definition_state.specs.declared.Progress.{Progress}
 use Rattle.definition_state.specs.Inner.Faults.{isSound}
@@ -68,7 +60,7 @@ module _ (t inner : List ℕ) (levels : ℕ) where
   two k l parents s = sym (foldl-append (processCompr (sheetAt t) (wayBy t levels parents)) s k l)
 
   -- Those of two lists, one after the other.
-  pub does-then : (k l : List Tree) (p q r : Progress) (fs gs hs u v w : List ℕ) → DoesComprs t inner k levels p fs u q gs v
+  does-then : (k l : List Tree) (p q r : Progress) (fs gs hs u v w : List ℕ) → DoesComprs t inner k levels p fs u q gs v
       → DoesComprs t inner l levels q gs v r hs w → DoesComprs t inner (k ++ l) levels p fs u r hs w
   does-then k l p q r fs gs hs u v w a b =
       runs-in-as t inner (λ parents s. process l parents (process k parents s)) (process (k ++ l)) p r fs hs u w (two k l)

@@ -80,7 +80,7 @@ few-stmts t ok row = omega (arith, left-most (statementCount t) row, ok .within 
 -- ---- the calls are a level below
 
 module _ (t : List ℕ) (ok : Accepted t) (levels m : ℕ) (some : levels ≡ 0 → ⊥) (is : levels * 8192 ≡ m) (row : ℕ) where
-  pub stmts-below : (levels - 1) * 8192 + (1622 + stmtsLeft t row) < m
+  pub stmts-below : (levels - 1) * 8192 + (1110 + stmtsLeft t row) < m
   stmts-below = omega (arith, few-stmts t ok row)
 
 -- So are those of the outputs' comprehensions.

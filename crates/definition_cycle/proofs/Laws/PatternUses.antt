@@ -1,6 +1,6 @@
 -- What the parts of a some-in pattern use that are no variables.
 use mathlib.Core.Path.{_≡_, sym, ap, _∙_, subst}
-use mathlib.Core.Bool.{true, false, cond}
+use mathlib.Core.Bool.{false, cond}
 use mathlib.Core.List.{List, [], _++_, append-assoc, append-nil}
 use Prim.Native.Nat.{ℕ, _≤_}
 use Rattle.names.specs.Inner.Sets.{Empty}

@@ -1,4 +1,4 @@
--- There is room for both, for each has no more than the sheet has expressions.
+-- There is room for both, for neither has more than the sheet has queries.
 use mathlib.Core.Bool.{true}
 use native.Mathlib.Omega.{arith}
 use borrow.Author.Needs.{needs}

@@ -1,14 +1,13 @@
 -- The list is gone through up to its end.
-use mathlib.Core.Path.{_≡_, sym, _∙_, subst}
+use mathlib.Core.Path.{sym, subst}
 use mathlib.Core.List.{List}
-use Prim.Native.Nat.{ℕ, _-_, _<_}
+use Prim.Native.Nat.{ℕ, _+_, _-_, _<_}
 use native.Mathlib.Omega.{arith}
 use lib.ListN.{getD}
-use borrow.Author.Needs.{needs}
 use borrow.Fn.Kinds.{In}
 use borrow.Fn.PlainCycle.{Measures, is, falls, and}
 use Rattle.scope.specs.Trees.{Tree}
-use Rattle.definition_comprs.specs.Inner.Lists.{ComprRow}
+use Rattle.definition_comprs.specs.Inner.Lists.{ComprRow, listedAt}
 use Rattle.definition_comprs.specs.Inner.Used.{ComprsUsed}
 use Rattle.definition_comprs.proofs.Laws.Lists.{listed-end, listed-step, listed-next, compr-query, compr-is}
 use Rattle.definition_comprs.proofs.Laws.Used.{used-none, used-one}
@@ -87,7 +86,8 @@ returns-2 m c =
     let w = one .before in
     subst (λ (cs : List Tree). ComprsUsed (a .width) (a .scope) (a .work .now) cs (a .names) (c .comprs-used .result))
     (sym (listed-step (a .tables .now) (a .rows .now) (a .at) (a .end) (pre .up) (w .before .if1 .left)))
-    (used-one (a .width) (a .scope) (a .work .now) _ _ _ (compr-is _ (pre .accepted) _ _ (row m (w .before)) _ (w .listed-at .ensures)) _ _ _ (one .compr-step .ensures) (c .comprs-used .ensures))
+    (used-one (a .width) (a .scope) (a .work .now) _ (listedAt (a .tables .now) (a .rows .now) (a .at + 1) (a .end - (a .at + 1))) _
+    (compr-is _ (pre .accepted) _ _ (row m (w .before)) _ (w .listed-at .ensures)) _ _ _ (one .compr-step .ensures) (c .comprs-used .ensures))
 
 pub +comprs-used-spec : {M : Type 1} → statement M
 +comprs-used-spec = close μ λ m.

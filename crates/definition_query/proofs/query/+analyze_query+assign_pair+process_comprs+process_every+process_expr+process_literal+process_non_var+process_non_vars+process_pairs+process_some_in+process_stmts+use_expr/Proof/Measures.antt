@@ -1,4 +1,4 @@
--- What falls from call to call: the levels left, and within a level where the analysis is. A list has at most 1024 comprehensions.
+-- What falls from call to call: the levels left, and within a level where the analysis is. A list has at most 64 comprehensions.
 use Prim.Native.Nat.{ℕ, _+_, _-_, _*_, _<_}
 use borrow.Fn.Kinds.{In}
 use borrow.Fn.PlainCycle.{Measures, is, falls, and}
@@ -33,37 +33,37 @@ abbrev pub μ-analyze-query : Measures 3 analyze-query-kinds.ps ℕ
 μ-analyze-query κs a = a .1 .1 .1 .1 .1 .0 * 8192
 
 abbrev pub μ-assign-pair : Measures 4 assign-pair-kinds.ps ℕ
-μ-assign-pair κs a = (a .1 .1 .1 .1 .1 .0) .levels * 8192 + 1033
+μ-assign-pair κs a = (a .1 .1 .1 .1 .1 .0) .levels * 8192 + 521
 
 abbrev pub μ-process-comprs : Measures 5 process-comprs-kinds.ps ℕ
 μ-process-comprs κs a = a .1 .1 .1 .1 .1 .0 * 8192 + ((a .1 .1 .1 .1 .0 - a .1 .1 .1 .0) + 1)
 
 abbrev pub μ-process-every : Measures 5 process-every-kinds.ps ℕ
-μ-process-every κs a = (a .1 .1 .1 .0) .levels * 8192 + 1612
+μ-process-every κs a = (a .1 .1 .1 .0) .levels * 8192 + 1100
 
 abbrev pub μ-process-expr : Measures 5 process-expr-kinds.ps ℕ
-μ-process-expr κs a = (a .1 .1 .1 .1 .0) .levels * 8192 + 1612
+μ-process-expr κs a = (a .1 .1 .1 .1 .0) .levels * 8192 + 1100
 
 abbrev pub μ-process-literal : Measures 5 process-literal-kinds.ps ℕ
-μ-process-literal κs a = (a .1 .1 .1 .0) .levels * 8192 + 1613
+μ-process-literal κs a = (a .1 .1 .1 .0) .levels * 8192 + 1101
 
 abbrev pub μ-process-non-var : Measures 4 process-non-var-kinds.ps ℕ
-μ-process-non-var κs a = (a .1 .1 .1 .0) .levels * 8192 + 1033
+μ-process-non-var κs a = (a .1 .1 .1 .0) .levels * 8192 + 521
 
 abbrev pub μ-process-non-vars : Measures 4 process-non-vars-kinds.ps ℕ
-μ-process-non-vars κs a = (a .1 .1 .1 .0) .levels * 8192 + (1042 + remains (a .0 .now) (a .1 .1 .0))
+μ-process-non-vars κs a = (a .1 .1 .1 .0) .levels * 8192 + (530 + remains (a .0 .now) (a .1 .1 .0))
 
 abbrev pub μ-process-pairs : Measures 4 process-pairs-kinds.ps ℕ
-μ-process-pairs κs a = (a .1 .1 .1 .1 .1 .0) .levels * 8192 + (1042 + remains (a .0 .now) (a .1 .1 .0))
+μ-process-pairs κs a = (a .1 .1 .1 .1 .1 .0) .levels * 8192 + (530 + remains (a .0 .now) (a .1 .1 .0))
 
 abbrev pub μ-process-some-in : Measures 5 process-some-in-kinds.ps ℕ
-μ-process-some-in κs a = (a .1 .1 .1 .0) .levels * 8192 + 1612
+μ-process-some-in κs a = (a .1 .1 .1 .0) .levels * 8192 + 1100
 
 abbrev pub μ-process-stmts : Measures 5 process-stmts-kinds.ps ℕ
-μ-process-stmts κs a = a .1 .1 .1 .1 .0 * 8192 + (1622 + stmtsLeft (a .0 .now) (a .1 .1 .0))
+μ-process-stmts κs a = a .1 .1 .1 .1 .0 * 8192 + (1110 + stmtsLeft (a .0 .now) (a .1 .1 .0))
 
 abbrev pub μ-use-expr : Measures 4 use-expr-kinds.ps ℕ
-μ-use-expr κs a = (a .1 .1 .1 .1 .1 .0) .levels * 8192 + 1032
+μ-use-expr κs a = (a .1 .1 .1 .1 .1 .0) .levels * 8192 + 520
 
 abbrev pub analyze-query-at : ℕ → In 3 analyze-query-kinds.ps
 analyze-query-at t =

@@ -1,6 +1,5 @@
 -- `use_expr`: the uses, then the comprehensions of the expression and of the modifiers, which are one list.
 use mathlib.Core.Path.{sym, _∙_}
-use mathlib.Core.Bool.{true}
 use Prim.Native.Nat.{ℕ, _-_}
 use native.Mathlib.Omega.{arith}
 use lib.Dec.{eqb}
