@@ -1,6 +1,8 @@
 // All names that an expression uses, once its comprehensions and those of the modifiers are analysed.
 
-use definition_comprs::walk::comprs_used;
+use definition_comprs::list::LISTED;
+use definition_comprs::list::list_both;
+use definition_comprs::used::comprs_used;
 use definition_expr::Using;
 use definition_literal::context::Context;
 use definition_literal::some::non_var;
@@ -15,31 +17,29 @@ ghost use mathlib.Core.Path.{_≡_};
 ghost use mathlib.Core.Bool.{_&&_};
 ghost use Prim.Native.Nat.{_≤_};
 ghost use lib.Dec.{eqb};
-ghost use Rattle.scope.specs.Traverse.{comprs};
 ghost use Rattle.scope_walk.specs.Inner.Sheets.{exprCount};
-ghost use Rattle.scope_walk.specs.Inner.Exprs.{exprBy};
+ghost use Rattle.definition_comprs.specs.Inner.Lists.{listedAt};
+ghost use Rattle.definition_comprs.specs.Inner.Used.{AsksListed};
 ghost use Rattle.definition_cycle.specs.Inner.Asks.{AsksUsedBy};
 ghost use Rattle.definition_cycle.specs.Inner.AllUsed.{AllUsed, WithoutComprs, OthersUsed, OtherUsed, LeavesUsed};
 
-// Beside the names that it uses by itself. Its comprehensions are those at a row, with the rest of its chain if `rest`.
+// Beside the names that it uses by itself. The first `end` rows of the list are its comprehensions, and those of the modifiers.
 pub fn all_used(
     tables: &[u16],
     p: Progress,
     names: Names,
-    row: usize,
-    rest: bool,
+    rows: &[u16],
+    end: usize,
     context: Context,
     work: &[u64],
 ) -> Names
-    requires { ⌜ AsksUsedBy (now tables) (p .width) row (context .mods) (now work) ⌝ }
-    ensures { λ r. ⌜ AllUsed (now (tables .entry)) (p .width) (p .scope) names (comprs (exprBy (now (tables .entry)) rest row)) context (now (work .entry)) r ⌝ }
+    requires { ⌜ AsksListed (now tables) (p .width) (now rows) 0 end (now work) ⌝ }
+    ensures { λ r. ⌜ AllUsed (now (tables .entry)) (p .width) (p .scope) names (listedAt (now (tables .entry)) (now (rows .entry)) 0 end) context (now (work .entry)) r ⌝ }
 {
     let scope = p.scope;
-    let mods = context.mods;
     let width = p.width;
     let by = names.union(context.names);
-    let own = comprs_used(tables, scope, work, row, rest, by, width);
-    comprs_used(tables, scope, work, mods, true, own, width)
+    comprs_used(tables, scope, work, rows, 0, end, by, width)
 }
 
 // Are there no comprehensions, neither of an expression nor of the modifiers?
@@ -84,11 +84,9 @@ fn other_used(
     }
     let none = Names::empty();
     let by = used_names(tables, scope, none, row, false, names);
-    let own = comprs_used(tables, scope, work, row, false, by, width);
-    if mods == 0 {
-        return own;
-    }
-    comprs_used(tables, scope, work, mods, true, own, width)
+    let mut rows: [u16; LISTED] = [0; LISTED];
+    let end = list_both(tables, row, false, mods, &mut rows);
+    comprs_used(tables, scope, work, &rows, 0, end, by, width)
 }
 
 // The parts of the pattern at a row, with the rest of its chain, that are no variables. A call on no row would only copy the progress, so

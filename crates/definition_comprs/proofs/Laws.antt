@@ -6,4 +6,6 @@ pub mod Propagated
 pub mod Uses
 pub mod Rising
 pub mod After
+pub mod Lists
+pub mod Few
 pub mod Used

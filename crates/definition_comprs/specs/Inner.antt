@@ -6,4 +6,5 @@ pub mod Propagated
 pub mod Uses
 pub mod Rising
 pub mod After
+pub mod Lists
 pub mod Used

@@ -6,7 +6,7 @@ pub mod ComprSteps
 pub mod ExprSteps
 pub mod EverySteps
 pub mod ComprRows
-pub mod ComprWalk
+pub mod ComprLists
 pub mod Guards
 pub mod StmtSteps
 pub mod LiteralSteps

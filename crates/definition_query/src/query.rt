@@ -10,6 +10,9 @@ use definition_after::used_by::none_left;
 use definition_after::used_by::others_used;
 use definition_after::used_by::without_comprs;
 use definition_comprs::after::after_compr;
+use definition_comprs::list::LISTED;
+use definition_comprs::list::list_both;
+use definition_comprs::list::listed_at;
 use definition_comprs::pending::pending;
 use definition_expr::Using;
 use definition_expr::mods::use_mods;
@@ -42,8 +45,6 @@ use scope_gather::body::enclose_every;
 use scope_gather::local_vars::gather_local_vars;
 use scope_state::enclose::enclose;
 use scope_vars::vars::is_assign;
-use scope_walk::kids_of;
-use scope_walk::next_of;
 use sheet::Statement;
 use sheet_rows::first_at;
 use sheet_rows::kinds::EVERY;
@@ -53,45 +54,44 @@ use sheet_rows::kinds::SOME_VARS;
 use sheet_rows::row_at;
 use sheet_rows::statement_at;
 ghost use mathlib.Core.Path.{_≡_};
-ghost use Prim.Native.Nat.{_≤_};
+ghost use Prim.Native.Nat.{_-_, _≤_};
 ghost use lib.ListN.{length};
 ghost use Rattle.base.specs.Limits as limits;
-ghost use Rattle.scope.specs.Traverse.{comprs};
 ghost use Rattle.definition_room.specs.Inner.Sizes.{total};
 ghost use Rattle.definition_room.specs.Inner.Leaves.{bracketVars};
 ghost use Rattle.definition_room.specs.Inner.Exprs.{pairCost};
 ghost use Rattle.scope_walk.specs.Inner.Sheets.{Accepted, statementCount};
 ghost use Rattle.scope_walk.specs.Inner.Exprs.{exprBy};
+ghost use Rattle.definition_comprs.specs.Inner.Lists.{listedAt};
 ghost use Rattle.definition_expr.specs.Inner.Defined.{ListedExtras};
 ghost use Rattle.definition_cycle.specs.Inner.Asks.{OnRow, OnRows, OnStatement, AsksComprs, AsksExpr, pairAt, pairsAt, otherAt, AsksWhole, AsksLiteral, AsksStmts, AsksQuery};
 ghost use Rattle.definition_steps.specs.Inner.Pairs.{leavesAt};
 ghost use Rattle.definition_cycle.specs.Inner.Does.{DoesComprs, DoesUse, DoesPairs, DoesOthers, DoesNonVars, DoesStep, exprStep, someInStep, everyStep, literalStep, DoesStmts};
 ghost use Rattle.definition_cycle.specs.Inner.Queries.{DoesQuery};
 
-// `process_comprs`: the comprehensions of the expression at a row, with the rest of its chain if `rest`. Each query is analysed once, and
-// what it takes from around it rises. A call on no row would only copy the progress, so none is made.
+// `process_comprs`: the comprehensions at listed rows, from place `at` on, before place `end`. Each query is analysed once, and what it takes
+// from around it rises. The walk that lists them is no part of the cycle.
 fn process_comprs(
     tables: &[u16],
     inner: &[u32],
-    row: usize,
-    rest: bool,
+    rows: &[u16],
+    at: usize,
+    end: usize,
     levels: usize,
     p: Progress,
     firsts: &mut [u64],
     work: &mut [u64],
 ) -> Progress
-    requires { ⌜ OnRow (now tables) (now inner) (now firsts) row (AsksComprs (now tables) (now inner) row p (now firsts) (now work)) ⌝ }
-    ensures { λ r. ⌜ DoesComprs (now (tables .entry)) (now (inner .entry)) (comprs (exprBy (now (tables .entry)) rest row)) levels p (now (firsts .entry)) (now (work .entry)) r (now (firsts .exit)) (now (work .exit)) ⌝ }
+    requires { ⌜ AsksComprs (now tables) (now inner) (now rows) at end p (now firsts) (now work) ⌝ }
+    ensures { λ r. ⌜ DoesComprs (now (tables .entry)) (now (inner .entry)) (listedAt (now (tables .entry)) (now (rows .entry)) at (end - at)) levels p (now (firsts .entry)) (now (work .entry)) r (now (firsts .exit)) (now (work .exit)) ⌝ }
 {
-    if row == 0 {
+    if at == end {
         return p;
     }
-    let w = row_at(tables, row);
-    let k = kids_of(w);
-    let next = next_of(w, rest);
+    let w = listed_at(tables, rows, at);
     let query = pending(p, w, work);
     let width = p.width;
-    let at = width.row() * p.count;
+    let first = width.row() * p.count;
     let fault = analyze_query(
         tables,
         inner,
@@ -99,23 +99,11 @@ fn process_comprs(
         w.first as usize,
         w.second as usize,
         levels,
-        &mut work[at..],
+        &mut work[first..],
         width,
     );
-    let mut s = after_compr(w, p, fault, firsts, work);
-    if k.first != 0 {
-        s = process_comprs(tables, inner, k.first, true, levels, s, firsts, work);
-    }
-    if k.second != 0 {
-        s = process_comprs(tables, inner, k.second, true, levels, s, firsts, work);
-    }
-    if k.third != 0 {
-        s = process_comprs(tables, inner, k.third, true, levels, s, firsts, work);
-    }
-    if next == 0 {
-        return s;
-    }
-    process_comprs(tables, inner, next, true, levels, s, firsts, work)
+    let s = after_compr(w, p, fault, firsts, work);
+    process_comprs(tables, inner, rows, at + 1, end, levels, s, firsts, work)
 }
 
 // What the expression at a row uses, with its comprehensions and those of the modifiers. Hands back all names that it uses.
@@ -133,25 +121,37 @@ fn use_expr(
     requires { ⌜ OnRow (now tables) (now inner) (now firsts) row (AsksExpr (now tables) (now inner) row 0 context p (now firsts) (now work) (bracketVars (exprBy (now tables) rest row))) × ListedExtras extras ⌝ }
     ensures { λ r. ⌜ DoesUse (now (tables .entry)) (now (inner .entry)) extras (exprBy (now (tables .entry)) rest row) context p (now (firsts .entry)) (now (work .entry)) r (now (firsts .exit)) (now (work .exit)) ⌝ }
 {
-    let statement = context.statement;
-    let levels = context.levels;
     let mods = context.mods;
-    let u = use_vars(tables, extras, statement, row, rest, p, firsts, work);
+    let u = use_vars(
+        tables,
+        extras,
+        context.statement,
+        row,
+        rest,
+        p,
+        firsts,
+        work,
+    );
     let comprs = u.comprs;
     if none_left(comprs, mods) {
         return without_comprs(u, context);
     }
-    let own = u.names;
-    let mut s = u.progress;
-    if comprs != 0 {
-        s = process_comprs(tables, inner, comprs, rest, levels, s, firsts, work);
-    }
-    if mods != 0 {
-        s = process_comprs(tables, inner, mods, true, levels, s, firsts, work);
-    }
-    let names = all_used(tables, s, own, comprs, rest, context, work);
+    let mut rows: [u16; LISTED] = [0; LISTED];
+    let end = list_both(tables, comprs, rest, mods, &mut rows);
+    let progress = process_comprs(
+        tables,
+        inner,
+        &rows,
+        0,
+        end,
+        context.levels,
+        u.progress,
+        firsts,
+        work,
+    );
+    let names = all_used(tables, progress, u.names, &rows, end, context, work);
     Using {
-        progress: s,
+        progress,
         names,
         comprs,
     }
@@ -266,19 +266,21 @@ fn process_non_var(
         return p;
     }
     let none = Names::empty();
-    let statement = context.statement;
-    let levels = context.levels;
-    let mods = context.mods;
-    let u = use_vars(tables, none, statement, row, false, p, firsts, work);
-    let comprs = u.comprs;
-    let mut s = fail_if_some(p.count, u.progress);
-    if comprs != 0 {
-        s = process_comprs(tables, inner, comprs, false, levels, s, firsts, work);
-    }
-    if mods == 0 {
-        return s;
-    }
-    process_comprs(tables, inner, mods, true, levels, s, firsts, work)
+    let u = use_vars(tables, none, context.statement, row, false, p, firsts, work);
+    let s = fail_if_some(p.count, u.progress);
+    let mut rows: [u16; LISTED] = [0; LISTED];
+    let end = list_both(tables, u.comprs, false, context.mods, &mut rows);
+    process_comprs(
+        tables,
+        inner,
+        &rows,
+        0,
+        end,
+        context.levels,
+        s,
+        firsts,
+        work,
+    )
 }
 
 // The parts of the pattern at a row, with the rest of its chain, that are no variables.
@@ -565,30 +567,18 @@ pub fn analyze_query(
     );
     let open = opened(s);
     enclose(outer, open.scope, &spans, &mut inner);
-    let mut t = open;
-    if key != 0 {
-        t = process_comprs(
-            tables,
-            &inner,
-            key,
-            true,
-            levels - 1,
-            open,
-            &mut firsts,
-            work,
-        );
-    }
-    if value != 0 {
-        t = process_comprs(
-            tables,
-            &inner,
-            value,
-            true,
-            levels - 1,
-            t,
-            &mut firsts,
-            work,
-        );
-    }
+    let mut rows: [u16; LISTED] = [0; LISTED];
+    let end = list_both(tables, key, true, value, &mut rows);
+    let t = process_comprs(
+        tables,
+        &inner,
+        &rows,
+        0,
+        end,
+        levels - 1,
+        open,
+        &mut firsts,
+        work,
+    );
     finish(tables, query, s.scope, t, &spans, work)
 }

@@ -23,7 +23,7 @@ use Rattle.definition_comprs.specs.Inner.Queries.{QueryIn}
 -- ---- in an accepted sheet
 
 -- The third field of a comprehension's kind.
-query-field : (kind : ℕ) → (leb 10 kind && leb kind 12) ≡ true → HoldsQuery (kindOf kind .third)
+pub query-field : (kind : ℕ) → (leb 10 kind && leb kind 12) ≡ true → HoldsQuery (kindOf kind .third)
 unfolding kindOf kinds
 query-field kind h = go (eq-cases kind 10) (eq-cases kind 11)
   where

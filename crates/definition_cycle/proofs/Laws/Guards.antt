@@ -1,17 +1,10 @@
 -- What a guarded call did: where there is no row none is made, and all stays as it was.
 use mathlib.Core.Path.{_≡_, refl}
-use mathlib.Core.Bool.{Bool}
 use mathlib.Core.List.{List}
 use mathlib.Core.Logic.{_⊎_}
 use Prim.Native.Nat.{ℕ}
 use lib.ListN.{length}
-use Rattle.scope.specs.Traverse.{comprs}
-use Rattle.scope_walk.specs.Inner.Sheets.{Accepted}
-use Rattle.scope_walk.specs.Inner.Exprs.{exprBy}
 use Rattle.scope_walk.proofs.Laws.Walking.{past-guard}
-use Rattle.definition_state.specs.declared.Progress.{Progress}
-use Rattle.definition_cycle.specs.Inner.Does.{DoesComprs}
-use Rattle.definition_cycle.proofs.Laws.ComprWalk.{does-none}
 
 -- A walk that writes two lists keeps their lengths.
 abbrev pub KeepsLengths : {S : Type 0} → (S → List ℕ → List ℕ → S → List ℕ → List ℕ → Type 0) → S → List ℕ → List ℕ → S → List ℕ → List ℕ → Type 0
@@ -27,20 +20,3 @@ guarded-lists {S} W none row s fs w r gs v took left =
     (λ a. (none (a .0) (a .1) (a .2), refl, refl)) row (s, fs, w) (r, gs, v)
     (λ x. let y = took x in ((y .0, y .1, y .2), y .3, λ i. (y .6 i, y .4 i, y .5 i)))
     (λ x. let y = left x in (y .0, λ i. (y .3 i, y .1 i, y .2 i)))
-
--- The comprehensions at a row, walked where there is one.
-pub walked-comprs : {A B : Type 0} (t inner : List ℕ) (levels : ℕ) → Accepted t → (rest : Bool) (row : ℕ) (p : Progress) (fs w : List ℕ) (r : Progress) (gs v : List ℕ)
-    → (A → (q : Progress) × (hs : List ℕ) × (u : List ℕ) × KeepsLengths (DoesComprs t inner (comprs (exprBy t rest row)) levels) p fs w q hs u × (gs ≡ hs) × (v ≡ u) × (r ≡ q))
-    → (B → (row ≡ 0) × (gs ≡ fs) × (v ≡ w) × (r ≡ p)) → A ⊎ B → KeepsLengths (DoesComprs t inner (comprs (exprBy t rest row)) levels) p fs w r gs v
-walked-comprs t inner levels ok rest =
-    guarded-lists (λ n. DoesComprs t inner (comprs (exprBy t rest n)) levels) (does-none t inner levels ok 0 refl rest)
-
--- The same where only work is looked at later.
-pub last-comprs : {A B : Type 0} (t inner : List ℕ) (levels : ℕ) → Accepted t → (rest : Bool) (row : ℕ) (p : Progress) (fs w : List ℕ) (r : Progress) (v : List ℕ)
-    → (A → (q : Progress) × (hs : List ℕ) × (u : List ℕ) × DoesComprs t inner (comprs (exprBy t rest row)) levels p fs w q hs u × (v ≡ u) × (r ≡ q))
-    → (B → (row ≡ 0) × (v ≡ w) × (r ≡ p)) → A ⊎ B → (gs : List ℕ) × DoesComprs t inner (comprs (exprBy t rest row)) levels p fs w r gs v
-last-comprs t inner levels ok rest row p fs w r v took left =
-    past-guard {S = Progress × List ℕ} (λ n a b. (gs : List ℕ) × DoesComprs t inner (comprs (exprBy t rest n)) levels (a .0) fs (a .1) (b .0) gs (b .1))
-    (λ a. (fs, does-none t inner levels ok 0 refl rest (a .0) fs (a .1))) row (p, w) (r, v)
-    (λ x. let y = took x in ((y .0, y .2), (y .1, y .3), λ i. (y .5 i, y .4 i)))
-    (λ x. let y = left x in (y .0, λ i. (y .2 i, y .1 i)))

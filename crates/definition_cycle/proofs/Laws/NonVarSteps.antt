@@ -1,13 +1,14 @@
 -- A part of a some-in pattern that is no variable.
-use mathlib.Core.Path.{_≡_, refl, sym, ap, _∙_}
+use mathlib.Core.Path.{_≡_, refl, sym, ap₂, _∙_, subst}
 use mathlib.Core.Bool.{Bool, true, false, cond, _&&_}
-use mathlib.Core.List.{List, [], _∷_, _++_, foldl-append}
+use mathlib.Core.List.{List, [], _∷_, _++_}
 use mathlib.Core.Logic.{_⊎_, inl, inr}
 use Prim.Native.Nat.{ℕ, suc, _+_, _≤_}
 use native.Mathlib.Omega.{arith}
 use lib.Dec.{ltb}
 use lib.ListN.{length}
 use borrow.Author.Tests.{lt-ltb, le-ltb}
+use Rattle.base.specs.Limits as limits
 use Rattle.base.proofs.Laws.Truth.{bool-cases}
 use Rattle.names.specs.Inner.Sets.{Empty}
 use Rattle.names.specs.declared.Names.{Names}
@@ -18,16 +19,17 @@ use Rattle.scope.specs.Scopes.{Scope}
 use Rattle.definition.specs.Uses.{indexDefinitions}
 use Rattle.definition.specs.States.{sound, indexVariable, State}
 use Rattle.definition.specs.Using.{gatherUsedVars}
-use Rattle.definition.specs.Comprs.{Mods, processCompr, processComprs}
+use Rattle.definition.specs.Comprs.{Mods, processComprs}
 use Rattle.definition.specs.SomeIn.{failIfSome, processNonVar}
 use Rattle.definition_room.specs.Inner.Sizes.{total}
 use Rattle.definition_room.specs.Inner.Leaves.{bracketVars}
 use Rattle.definition_room.proofs.Laws.Adds.{AddsDefinitions, step-if, adds-no-definition, adds-fail}
-use Rattle.scope_walk.specs.Inner.Sheets.{sheetAt}
+use Rattle.scope_walk.specs.Inner.Sheets.{sheetAt, Accepted}
 use Rattle.scope_walk.specs.Inner.Exprs.{exprBy}
 use Rattle.definition_expr.specs.declared.Using.{Using}
 use Rattle.definition_expr.specs.Inner.UsesVars.{UsesVars}
 use Rattle.definition_expr.proofs.Laws.UsesMods.{holds-none}
+use Rattle.definition_comprs.specs.Inner.Lists.{mostListed, bothAt, ListsBoth}
 use Rattle.definition_literal.specs.declared.context.Context.{Context}
 use Rattle.definition_state.specs.declared.Fault.the-variants.{IndexVariable}
 use Rattle.definition_state.specs.declared.Progress.{Progress}
@@ -37,12 +39,13 @@ use Rattle.definition_state.proofs.Laws.Steps.{agree-sound, failed-agrees, not-
 use Rattle.definition_steps.proofs.Laws.Guards.{fault-cases, guarded-sound, guarded-stays, comprs-stay}
 use Rattle.definition_steps.proofs.Laws.Same.{SameScope, same-refl, same-index}
 use Rattle.definition_steps.proofs.Laws.Keeps.{keeps-guarded, keeps-fail, keeps-gather-used-vars}
-use Rattle.definition_cycle.specs.Inner.Sites.{wayBy, RunsIn}
+use Rattle.definition_cycle.specs.Inner.Sites.{wayBy, Inside, RunsIn}
 use Rattle.definition_cycle.specs.Inner.Asks.{otherAt, AsksComprs, AsksExpr}
 use Rattle.definition_cycle.specs.Inner.Does.{DoesComprs, DoesOthers}
-use Rattle.definition_cycle.proofs.Laws.ComprRows.{at-lies, does-at}
+use Rattle.definition_cycle.proofs.Laws.ComprRows.{at-lies}
+use Rattle.definition_cycle.proofs.Laws.ComprLists.{both-asks}
 use Rattle.definition_cycle.proofs.Laws.Moves.{Steady, at-ready, inside-next, runs-in, runs-in-then, runs-in-as}
-use Rattle.definition_cycle.proofs.Laws.Steadies.{steady-then, steady-gather, steady-comprs}
+use Rattle.definition_cycle.proofs.Laws.Steadies.{steady-then, steady-gather}
 use Rattle.definition_cycle.proofs.Laws.Patterns.{other-is}
 
 module _ (t : List ℕ) where
@@ -150,18 +153,11 @@ module _ (t : List ℕ) where
         go (inl z) = guarded-sound (processComprs (sheetAt t) (wayBy t levels parents) cs) s z
         go (inr n) = guarded-stays s n (processComprs (sheetAt t) (wayBy t levels parents) cs) ∙ sym (comprs-stay (sheetAt t) (wayBy t levels parents) s n cs)
 
-    comprs-append : (a b : List Tree) (s : State)
-        → processComprs (sheetAt t) (wayBy t levels parents) (a ++ b) s
-        ≡ processComprs (sheetAt t) (wayBy t levels parents) b (processComprs (sheetAt t) (wayBy t levels parents) a s)
-    unfolding processComprs
-    comprs-append a b s = foldl-append (processCompr (sheetAt t) (wayBy t levels parents)) s a b
-
     non-var-steps : (i : ℕ) (m : Mods) (e : Tree) (s : State)
-        → processComprs (sheetAt t) (wayBy t levels parents) (m .comprs) (processComprs (sheetAt t) (wayBy t levels parents) (comprs e) (useOrFail i e s))
+        → processComprs (sheetAt t) (wayBy t levels parents) (comprs e ++ m .comprs) (useOrFail i e s)
         ≡ processNonVar (sheetAt t) (wayBy t levels parents) i m s e
     unfolding processNonVar
-    non-var-steps i m e s =
-        sym (comprs-append (comprs e) (m .comprs) (useOrFail i e s)) ∙ sym (guarded-comprs (comprs e ++ m .comprs) (useOrFail i e s))
+    non-var-steps i m e s = sym (guarded-comprs (comprs e ++ m .comprs) (useOrFail i e s))
 
   -- ---- the function
 
@@ -193,39 +189,26 @@ module _ (t : List ℕ) where
       first : RunsIn t inner (λ parents. useOrFail (x .statement) expr) p firsts work q fs ws
       first = runs-in t inner (useOrFail (x .statement) expr) p q firsts fs work ws (use-or-fail row extras clear (x .statement) p firsts work u fs ws uses q is)
 
-      pub asks-own : Given → AsksComprs t inner (u .comprs) q fs ws
-      asks-own h = record {
-        inside = inside-next t inner p q firsts fs work ws (total bracketVars (otherAt t row)) (bracketVars expr + 0) 0
-            (λ parents. useOrFail (x .statement) expr) (λ parents. steady-first (x .levels) (x .statement) expr) (omega (arith, few)) first (h .inside);
-        lies = at-lies t false row (u .comprs) (uses .comprs) (h .inside .at .query) (h .first-lies);
-      }
+      inside-used : Given → Inside t inner q fs ws 0
+      inside-used h = inside-next t inner p q firsts fs work ws (total bracketVars (otherAt t row)) (bracketVars expr + 0) 0
+          (λ parents. useOrFail (x .statement) expr) (λ parents. steady-first (x .levels) (x .statement) expr) (omega (arith, few)) first (h .inside)
 
-      module _ (r : Progress) (gs vs : List ℕ) (at-own : DoesComprs t inner (comprs (exprBy t false (u .comprs))) (x .levels) q fs ws r gs vs) where
-        own : DoesComprs t inner (comprs expr) (x .levels) q fs ws r gs vs
-        own = does-at t false row (u .comprs) (uses .comprs) inner (x .levels) q fs ws r gs vs at-own
+      -- The comprehensions, those of the modifiers with them.
+      pub asks-comprs : Given → Accepted t → limits.perName ≤ length inner → limits.perName ≤ length fs → (rows : List ℕ) (end : ℕ)
+          → ListsBoth t false (u .comprs) (x .mods) rows end → mostListed ≤ length rows → AsksComprs t inner rows 0 end q fs ws
+      unfolding inside-used
+      asks-comprs h ok inner-room firsts-room rows end l rows-room =
+          both-asks t false (u .comprs) (x .mods) rows end l inner ok inner-room rows-room q fs ws firsts-room (inside-used h)
+          (at-lies t false row (u .comprs) (uses .comprs) (h .inside .at .query) (h .first-lies)) (h .mods-lie)
 
-        pub asks-mods : Given → AsksComprs t inner (x .mods) r gs vs
-        unfolding asks-own
-        asks-mods h = record {
-          inside = inside-next t inner q r fs gs ws vs 0 0 0 (λ parents. processComprs (sheetAt t) (wayBy t (x .levels) parents) (comprs expr))
-              (λ parents. steady-comprs t (x .levels) parents (comprs expr)) (omega arith) own (asks-own h .inside);
-          lies = h .mods-lie;
-        }
-
-        module _ (z : Progress) (hs us : List ℕ) (mods : DoesComprs t inner (comprs (exprBy t true (x .mods))) (x .levels) r gs vs z hs us) where
-          pub non-var-does : DoesOthers t inner (otherAt t row) x p firsts work z hs us
-          non-var-does m stands =
-              let k : List Scope → List Tree → State → State = λ parents. processComprs (sheetAt t) (wayBy t (x .levels) parents) in
-              let uses-first : State → State = useOrFail (x .statement) expr in
-              let two : (parents : List Scope) → Steady t (bracketVars expr + 0 + 0) (λ s. k parents (comprs expr) (uses-first s)) =
-              λ parents. steady-then t (x .levels) (bracketVars expr + 0) 0 uses-first (k parents (comprs expr)) (steady-first (x .levels) (x .statement) expr)
-              (steady-comprs t (x .levels) parents (comprs expr)) in
-              let all =
-              runs-in-then t inner (bracketVars expr + 0 + 0) (λ parents s. k parents (comprs expr) (uses-first s)) (λ parents. k parents (comprs (exprBy t true (x .mods)))) p r z firsts gs hs
-              work vs us two
-              (runs-in-then t inner (bracketVars expr + 0) (λ parents. uses-first) (λ parents. k parents (comprs expr)) p q r firsts fs gs work ws vs
-              (λ parents. steady-first (x .levels) (x .statement) expr) first own) mods in
-              rw (other-is t row there)
-              (runs-in-as t inner _ _ p z firsts hs work us
-              (λ parents s. ap (λ (l : List Tree). k parents l (k parents (comprs expr) (uses-first s))) (sym (stands .comprs))
-              ∙ non-var-steps (x .levels) parents (x .statement) m expr s) all)
+      pub non-var-does : (z : Progress) (hs us : List ℕ) → DoesComprs t inner (bothAt t false (u .comprs) (x .mods)) (x .levels) q fs ws z hs us
+          → DoesOthers t inner (otherAt t row) x p firsts work z hs us
+      non-var-does z hs us did m stands =
+          let all : bothAt t false (u .comprs) (x .mods) ≡ comprs expr ++ m .comprs =
+          ap₂ (λ (a b : List Tree). a ++ b) (uses .comprs .same) (sym (stands .comprs)) in
+          rw (other-is t row there)
+          (runs-in-as t inner _ _ p z firsts hs work us (λ parents s. non-var-steps (x .levels) parents (x .statement) m expr s)
+          (runs-in-then t inner (bracketVars expr + 0) (λ parents. useOrFail (x .statement) expr)
+          (λ parents. processComprs (sheetAt t) (wayBy t (x .levels) parents) (comprs expr ++ m .comprs)) p q z firsts fs hs work ws us
+          (λ parents. steady-first (x .levels) (x .statement) expr) first
+          (subst (λ (cs : List Tree). DoesComprs t inner cs (x .levels) q fs ws z hs us) all did)))

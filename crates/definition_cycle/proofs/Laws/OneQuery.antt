@@ -1,12 +1,13 @@
 -- The analysis of one query, from its empty start to its schedule in the table.
 use mathlib.Core.Path.{_≡_, refl, sym, ap, _∙_, subst}
 use mathlib.Core.Bool.{true, false≢true}
-use mathlib.Core.List.{List, [], _∷_, _++_, foldl-append}
+use mathlib.Core.List.{List, [], _∷_, _++_}
 use mathlib.Core.Logic.{_⊎_, inl, inr}
 use Prim.Native.Nat.{ℕ, suc, _+_, _-_, _*_, _≤_, _<_}
 use native.Mathlib.Omega.{arith}
 use lib.Dec.{ltb}
 use lib.ListN.{length, getD}
+use Rattle.base.specs.Limits as limits
 use Rattle.names_width.specs.declared.Width.{Width}
 use Rattle.names_width.specs.declared.Width.the-variants.{Two, Eight}
 use Rattle.names_width.specs.Inner.Widths as Widths
@@ -19,7 +20,7 @@ use Rattle.scope.specs.Statements.{Stmt, stmtsOf}
 use Rattle.scope.specs.Scopes.{NameSet, contains, Span, spanIn}
 use Rattle.scope.specs.Scopes as spec
 use Rattle.definition.specs.States.{sound, QuerySchedule, Run, State, setScope}
-use Rattle.definition.specs.Comprs.{processCompr, processComprs}
+use Rattle.definition.specs.Comprs.{processComprs}
 use Rattle.definition.specs.Queries.{processStmts, outputScope}
 use Rattle.definition_once.specs.Inner.OnceWay.{analyzeOnce}
 use Rattle.definition_room.specs.Inner.Sizes.{total, weight}
@@ -34,8 +35,6 @@ use Rattle.scope_state.specs.declared.Scope.{Scope}
 use Rattle.scope_walk.specs.Inner.Sheets.{countsAt, specialAt, sheetAt, Accepted, statementCount}
 use Rattle.scope_state.specs.Inner.Chains.{chainAt}
 use Rattle.scope_state.specs.Inner.Outers.{Outer}
-use Rattle.scope_walk.specs.Inner.Walking.{remains}
-use Rattle.scope_walk.proofs.Laws.Walking.{few-remain}
 use Rattle.scope_gather.specs.Inner.Queries.{stmtsLeft, Gathered, stmtsAtRow}
 use Rattle.scope_gather.proofs.Laws.Queries.{first-statement-is, first-statement-low}
 use Rattle.scope_state.specs.Inner.Spans.{Agrees}
@@ -63,11 +62,13 @@ use Rattle.definition_steps.proofs.Laws.Outputs as outputs
 use Rattle.definition_steps.proofs.Laws.Outputs.{openedState, opened-outputs, opened-inputs, opened-flag}
 use Rattle.definition_steps.proofs.Laws.Lows.{chains-low, in-bounds}
 use Rattle.definition_steps.proofs.Laws.Fronts.{ended, front, analyze-sound, analyze-faulty, front-fits, front-low}
+use Rattle.definition_comprs.specs.Inner.Lists.{mostListed, bothAt, ListsBoth}
 use Rattle.definition_cycle.proofs.Laws.Witnesses.{is-sound}
 use Rattle.definition_cycle.specs.Inner.Budgets.{budget, budgetAt}
 use Rattle.definition_cycle.specs.Inner.Sites.{nestedBy, wayBy, Surrounds, Inside}
-use Rattle.definition_cycle.proofs.Laws.Moves.{room-same, inside-next, around-next, at-rows}
-use Rattle.definition_cycle.proofs.Laws.Steadies.{steady-fits, steady-comprs}
+use Rattle.definition_cycle.proofs.Laws.Moves.{room-same, at-rows}
+use Rattle.definition_cycle.proofs.Laws.Steadies.{steady-fits}
+use Rattle.definition_cycle.proofs.Laws.ComprLists.{inside-after, both-asks}
 use Rattle.definition_cycle.specs.Inner.Asks.{treeOf, AsksComprs, AsksStmts, Begun, AsksQuery}
 use Rattle.definition_cycle.specs.Inner.Does.{DoesComprs, DoesStmts}
 use Rattle.definition_cycle.specs.Inner.Queries.{DoesQuery}
@@ -82,8 +83,9 @@ module _ (t : List ℕ) (ok : Accepted t) (levels m : ℕ) (some : levels ≡ 0 
   pub stmts-below : (levels - 1) * 8192 + (1110 + stmtsLeft t row) < m
   stmts-below = omega (arith, few-stmts t ok row)
 
-  pub comprs-below : (levels - 1) * 8192 + (remains t row + 1) < m
-  comprs-below = omega (arith, few-remain t ok row)
+-- So are those of the outputs' comprehensions.
+pub comprs-below : (levels m : ℕ) → (levels ≡ 0 → ⊥) → levels * 8192 ≡ m → (end : ℕ) → end ≤ mostListed → (levels - 1) * 8192 + ((end - 0) + 1) < m
+comprs-below levels m some is end few = omega arith
 
 -- No name is used yet.
 firsts-none : (ws : List ℕ) → ((x : ℕ) → getD ws x 0 ≡ 0) → Firsts ws []
@@ -259,14 +261,11 @@ module _ (t : List ℕ) (z : Width) (outer work : List ℕ) (query key value : �
 
   -- ---- the comprehensions of its outputs
 
-  abbrev key-step : List spec.Scope → State → State
-  key-step parents = processComprs (sheetAt t) (wayBy t n parents) (comprs (treeOf t key))
+  abbrev outputs-step : List spec.Scope → State → State
+  outputs-step parents = processComprs (sheetAt t) (wayBy t n parents) (bothAt t true key value)
 
-  abbrev value-step : List spec.Scope → State → State
-  value-step parents = processComprs (sheetAt t) (wayBy t n parents) (comprs (treeOf t value))
-
-  abbrev inside-key : Inside t inner wide fs w 0
-  inside-key = record {
+  abbrev inside-wide : Inside t inner wide fs w 0
+  inside-wide = record {
     spans = spans;
     at = record {
       query = query;
@@ -285,139 +284,125 @@ module _ (t : List ℕ) (z : Width) (outer work : List ℕ) (query key value : �
     around = wide-around (b .parents) (runWith (b .schedules)) (b .beneath) refl (b .table);
   }
 
-  pub asks-key : AsksComprs t inner key wide fs w
-  asks-key = record { inside = inside-key; lies = b .key-lies }
+  pub asks-outputs : limits.perName ≤ length inner → limits.perName ≤ length fs → (rows : List ℕ) (end : ℕ) → ListsBoth t true key value rows end → mostListed ≤ length rows
+      → AsksComprs t inner rows 0 end wide fs w
+  asks-outputs inner-room firsts-room rows end l rows-room =
+      both-asks t true key value rows end l inner ok inner-room rows-room wide fs w firsts-room inside-wide (b .key-lies) (b .value-lies)
 
-  module _ (u : Progress) (fs₁ w₁ : List ℕ) (did-key : DoesComprs t inner (comprs (treeOf t key)) n wide fs w u fs₁ w₁) where
-    abbrev inside-value : Inside t inner u fs₁ w₁ 0
-    inside-value =
-        inside-next t inner wide u fs fs₁ w w₁ 0 0 0 key-step (λ parents. steady-comprs t n parents (comprs (treeOf t key))) (omega arith) did-key inside-key
+  module _ (v : Progress) (fs₂ w₂ : List ℕ) (did-outputs : DoesComprs t inner (bothAt t true key value) n wide fs w v fs₂ w₂) where
+    inside-last : Inside t inner v fs₂ w₂ 0
+    inside-last = inside-after t inner n (bothAt t true key value) wide v fs fs₂ w w₂ did-outputs inside-wide
 
-    pub asks-value : AsksComprs t inner value u fs₁ w₁
-    asks-value = record { inside = inside-value; lies = b .value-lies }
+    last-width : v .width ≡ z
+    last-width = did-outputs .grown .wide ∙ wide-width
 
-    module _ (v : Progress) (fs₂ w₂ : List ℕ) (did-value : DoesComprs t inner (comprs (treeOf t value)) n u fs₁ w₁ v fs₂ w₂) where
-      inside-last : Inside t inner v fs₂ w₂ 0
-      inside-last =
-          inside-next t inner u v fs₁ fs₂ w₁ w₂ 0 0 0 value-step (λ parents. steady-comprs t n parents (comprs (treeOf t value))) (omega arith) did-value inside-value
+    pub room-last : Widths.rowWords (v .width) * v .count + answersSize (v .width) ≤ length w₂
+    room-last = at-rows t (inside-last .spans) v fs₂ w₂ 0 (inside-last .at)
 
-      last-width : v .width ≡ z
-      last-width = did-value .grown .wide ∙ did-key .grown .wide ∙ wide-width
+    pub based-last : isSound (v .fault) ≡ true → Based (v .width) t (answersOf (v .width) w₂)
+    based-last fine =
+        let a = inside-last .at .agrees in
+        a .whole (sym (a .fault) ∙ sound-is (v .fault) fine) .table .based
 
-      pub room-last : Widths.rowWords (v .width) * v .count + answersSize (v .width) ≤ length w₂
-      room-last = at-rows t (inside-last .spans) v fs₂ w₂ 0 (inside-last .at)
+    module _ (parents : List spec.Scope) (run : Run) (o : Outer outer parents) (fine : run .fault ≡ sound) (table : Table z t work (run .schedules)) where
+      abbrev before : State
+      before = openedState (body parents run)
 
-      pub based-last : isSound (v .fault) ≡ true → Based (v .width) t (answersOf (v .width) w₂)
-      based-last fine =
-          let a = inside-last .at .agrees in
-          a .whole (sym (a .fault) ∙ sound-is (v .fault) fine) .table .based
+      abbrev last : State
+      last = outputs-step parents before
 
-      module _ (parents : List spec.Scope) (run : Run) (o : Outer outer parents) (fine : run .fault ≡ sound) (table : Table z t work (run .schedules)) where
-        abbrev before : State
-        before = openedState (body parents run)
+      last-agrees : Agree t spans v fs₂ w₂ last
+      last-agrees = did-outputs .agrees parents spans before (wide-around parents run o fine table) (wide-agrees parents run o fine table)
 
-        abbrev last : State
-        last = value-step parents (key-step parents before)
+      -- They are those of the two chains.
+      last-is : processComprs (sheetAt t) (wayBy t n parents) (concatMap comprs outs) before ≡ last
+      last-is = ap (λ (l : List Tree). processComprs (sheetAt t) (wayBy t n parents) l before) (comprs-chains (treeOf t key) (treeOf t value))
 
-        last-agrees : Agree t spans v fs₂ w₂ last
-        last-agrees =
-            let here = wide-around parents run o fine table in
-            did-value .agrees parents spans (key-step parents before)
-            (around-next t inner parents 0 (key-step parents) (steady-comprs t n parents (comprs (treeOf t key))) before here)
-            (did-key .agrees parents spans before here (wide-agrees parents run o fine table))
+      abbrev end : State
+      end = ended n (sheetAt t) parents query outs run
 
-        -- One after the other, they are those of the two chains.
-        last-is : processComprs (sheetAt t) (wayBy t n parents) (concatMap comprs outs) before ≡ last
-        unfolding processComprs
-        last-is =
-            ap (λ (l : List Tree). processComprs (sheetAt t) (wayBy t n parents) l before) (comprs-chains (treeOf t key) (treeOf t value))
-            ∙ foldl-append (processCompr (sheetAt t) (wayBy t n parents)) before (comprs (treeOf t key)) (comprs (treeOf t value))
+      beside : outputs.OpenedState end last
+      beside = subst (outputs.OpenedState end) last-is (opened-outputs (sheetAt t) (nestedBy t n) parents outs (body parents run))
 
-        abbrev end : State
-        end = ended n (sheetAt t) parents query outs run
+      -- ---- its schedule
 
-        beside : outputs.OpenedState end last
-        beside = subst (outputs.OpenedState end) last-is (opened-outputs (sheetAt t) (nestedBy t n) parents outs (body parents run))
+      module _ (well : end .run .fault ≡ sound) where
+        abbrev this : QuerySchedule
+        this = front n (sheetAt t) parents query outs run
 
-        -- ---- its schedule
+        well-last : last .run .fault ≡ sound
+        well-last = ap (λ (r : Run). r .fault) (beside .run) ∙ well
 
-        module _ (well : end .run .fault ≡ sound) where
-          abbrev this : QuerySchedule
-          this = front n (sheetAt t) parents query outs run
+        -- Its own names are those from before the outputs; inputs rose since.
+        scope-agrees : Agrees (withInputsOf (s .scope) (v .scope)) spans (end .scope)
+        scope-agrees =
+            let same = keeps-outputs (sheetAt t) (nestedBy t n) parents outs (body parents run) in
+            let clear = outputs-sound (sheetAt t) (wayBy t n parents) (body parents run) outs well in
+            let own = body-agrees parents run o fine table .whole clear .scope in
+            let rose = last-agrees .whole well-last .scope .sets in
+            record {
+              sets = record {
+                locals = λ i. same-local same i ∙ own .sets .locals i;
+                unscoped = λ i. ap (λ (names : NameSet). contains names i) (same .unscoped) ∙ own .sets .unscoped i;
+                inputs = λ i. ap (λ (names : NameSet). contains names i) (sym (opened-inputs beside)) ∙ rose .inputs i;
+                flag = sym (opened-flag beside) ∙ rose .flag;
+              };
+              placed = λ i p e. own .placed i p (ap (λ (l : List Span). spanIn l i) (sym (same .locals)) ∙ e);
+            }
 
-          well-last : last .run .fault ≡ sound
-          well-last = ap (λ (r : Run). r .fault) (beside .run) ∙ well
+        this-low : Low (64 * Widths.setWords z) (this .scope) (this .definitions)
+        this-low =
+            front-low n (sheetAt t) parents query outs run well (64 * Widths.setWords z) (some-names z) (table .narrow)
+            (chains-low (64 * Widths.setWords z) (some-names z) (sheetAt t) (table .narrow) key value) (table .low)
 
-          -- Its own names are those from before the outputs; inputs rose since.
-          scope-agrees : Agrees (withInputsOf (s .scope) (v .scope)) spans (end .scope)
-          scope-agrees =
-              let same = keeps-outputs (sheetAt t) (nestedBy t n) parents outs (body parents run) in
-              let clear = outputs-sound (sheetAt t) (wayBy t n parents) (body parents run) outs well in
-              let own = body-agrees parents run o fine table .whole clear .scope in
-              let rose = last-agrees .whole well-last .scope .sets in
-              record {
-                sets = record {
-                  locals = λ i. same-local same i ∙ own .sets .locals i;
-                  unscoped = λ i. ap (λ (names : NameSet). contains names i) (same .unscoped) ∙ own .sets .unscoped i;
-                  inputs = λ i. ap (λ (names : NameSet). contains names i) (sym (opened-inputs beside)) ∙ rose .inputs i;
-                  flag = sym (opened-flag beside) ∙ rose .flag;
-                };
-                placed = λ i p e. own .placed i p (ap (λ (l : List Span). spanIn l i) (sym (same .locals)) ∙ e);
-              }
+        this-fits : FitsSchedule (sheetAt t) this
+        this-fits = front-fits n (sheetAt t) parents query outs run well (table .fits)
 
-          this-low : Low (64 * Widths.setWords z) (this .scope) (this .definitions)
-          this-low =
-              front-low n (sheetAt t) parents query outs run well (64 * Widths.setWords z) (some-names z) (table .narrow)
-              (chains-low (64 * Widths.setWords z) (some-names z) (sheetAt t) (table .narrow) key value) (table .low)
+        ending : Ending (v .width) t w₂ query (withInputsOf (s .scope) (v .scope)) spans (v .count) this
+        unfolding sheetAt
+        ending = record {
+          query = refl;
+          whole = refl;
+          scope = scope-agrees;
+          rows = subst (Held (v .width) w₂ (v .count)) (beside .definitions) (last-agrees .whole well-last .rows);
+          few = omega (arith, last-agrees .count, ap length (beside .definitions));
+          bounds = rw last-width (in-bounds (countsAt t) (specialAt t) t (ok .within) (ok .fine) z this this-fits this-low);
+          fits = this-fits;
+          low = rw last-width this-low;
+        }
 
-          this-fits : FitsSchedule (sheetAt t) this
-          this-fits = front-fits n (sheetAt t) parents query outs run well (table .fits)
+      -- ---- the end
 
-          ending : Ending (v .width) t w₂ query (withInputsOf (s .scope) (v .scope)) spans (v .count) this
-          unfolding sheetAt
-          ending = record {
-            query = refl;
-            whole = refl;
-            scope = scope-agrees;
-            rows = subst (Held (v .width) w₂ (v .count)) (beside .definitions) (last-agrees .whole well-last .rows);
-            few = omega (arith, last-agrees .count, ap length (beside .definitions));
-            bounds = rw last-width (in-bounds (countsAt t) (specialAt t) t (ok .within) (ok .fine) z this this-fits this-low);
-            fits = this-fits;
-            low = rw last-width this-low;
-          }
+      module _ (r : Fault) (w₃ : List ℕ) (done : Finished t w₂ query (s .scope) v spans r w₃) where
+        abbrev Ends : Run → Type 0
+        Ends e = (meaning r ≡ e .fault) × (e .fault ≡ sound → Table z t w₃ (e .schedules))
 
-        -- ---- the end
+        same-fault : meaning r ≡ end .run .fault
+        same-fault = ap meaning (done .fault) ∙ last-agrees .fault ∙ ap (λ (u : Run). u .fault) (beside .run)
 
-        module _ (r : Fault) (w₃ : List ℕ) (done : Finished t w₂ query (s .scope) v spans r w₃) where
-          abbrev Ends : Run → Type 0
-          Ends e = (meaning r ≡ e .fault) × (e .fault ≡ sound → Table z t w₃ (e .schedules))
+        ends : Ends (analyzeOnce (suc n) (sheetAt t) parents query outs run)
+        ends = go (fault-cases (end .run .fault))
+          where
+            go : (end .run .fault ≡ sound) ⊎ (end .run .fault ≡ sound → ⊥) → Ends (analyzeOnce (suc n) (sheetAt t) parents query outs run)
+            go (inl well) =
+                let held : Table (v .width) t w₂ (end .run .schedules) =
+                subst (λ (u : Run). Table (v .width) t w₂ (u .schedules)) (beside .run) (last-agrees .whole (well-last well) .table) in
+                let there = done .enters (is-sound (v .fault) (last-agrees .fault ∙ well-last well)) (this well) (end .run .schedules) (ending well) held in
+                subst Ends (sym (analyze-sound n (sheetAt t) parents query outs run well)) (same-fault ∙ well, λ e. rw last-width at there)
+            go (inr faulty) =
+                subst Ends (sym (analyze-faulty n (sheetAt t) parents query outs run faulty)) (same-fault, λ e. absurd (faulty e))
 
-          same-fault : meaning r ≡ end .run .fault
-          same-fault = ap meaning (done .fault) ∙ last-agrees .fault ∙ ap (λ (u : Run). u .fault) (beside .run)
+    -- Without a fault, its rows are a list that the scheduler takes.
+    pub takes-last : isSound (v .fault) ≡ true → Schedulable (v .width) t w₂ query (v .count)
+    takes-last fine =
+        let run = runWith (b .schedules) in
+        let well = sym (ap (λ (r : Run). r .fault) (beside (b .parents) run (b .beneath) refl (b .table) .run))
+        ∙ sym (last-agrees (b .parents) run (b .beneath) refl (b .table) .fault) ∙ sound-is (v .fault) fine in
+        schedulable (v .width) t w₂ query _ spans (v .count) _ (omega (arith, room-last)) (ending (b .parents) run (b .beneath) refl (b .table) well)
 
-          ends : Ends (analyzeOnce (suc n) (sheetAt t) parents query outs run)
-          ends = go (fault-cases (end .run .fault))
-            where
-              go : (end .run .fault ≡ sound) ⊎ (end .run .fault ≡ sound → ⊥) → Ends (analyzeOnce (suc n) (sheetAt t) parents query outs run)
-              go (inl well) =
-                  let held : Table (v .width) t w₂ (end .run .schedules) =
-                  subst (λ (u : Run). Table (v .width) t w₂ (u .schedules)) (beside .run) (last-agrees .whole (well-last well) .table) in
-                  let there = done .enters (is-sound (v .fault) (last-agrees .fault ∙ well-last well)) (this well) (end .run .schedules) (ending well) held in
-                  subst Ends (sym (analyze-sound n (sheetAt t) parents query outs run well)) (same-fault ∙ well, λ e. rw last-width at there)
-              go (inr faulty) =
-                  subst Ends (sym (analyze-faulty n (sheetAt t) parents query outs run faulty)) (same-fault, λ e. absurd (faulty e))
-
-      -- Without a fault, its rows are a list that the scheduler takes.
-      pub takes-last : isSound (v .fault) ≡ true → Schedulable (v .width) t w₂ query (v .count)
-      takes-last fine =
-          let run = runWith (b .schedules) in
-          let well = sym (ap (λ (r : Run). r .fault) (beside (b .parents) run (b .beneath) refl (b .table) .run))
-          ∙ sym (last-agrees (b .parents) run (b .beneath) refl (b .table) .fault) ∙ sound-is (v .fault) fine in
-          schedulable (v .width) t w₂ query _ spans (v .count) _ (omega (arith, room-last)) (ending (b .parents) run (b .beneath) refl (b .table) well)
-
-      pub does-query : (levels : ℕ) → levels ≡ suc n → (r : Fault) (w₃ : List ℕ) → Finished t w₂ query (s .scope) v spans r w₃
-          → DoesQuery t z outer query key value levels work r w₃
-      does-query levels e r w₃ done = rw e (record {
-        none = λ e₀. absurd (omega (arith, b .from, e₀));
-        one = λ ne parents run o fine table. ends parents run o fine table r w₃ done;
-      })
+    pub does-query : (levels : ℕ) → levels ≡ suc n → (r : Fault) (w₃ : List ℕ) → Finished t w₂ query (s .scope) v spans r w₃
+        → DoesQuery t z outer query key value levels work r w₃
+    does-query levels e r w₃ done = rw e (record {
+      none = λ e₀. absurd (omega (arith, b .from, e₀));
+      one = λ ne parents run o fine table. ends parents run o fine table r w₃ done;
+    })

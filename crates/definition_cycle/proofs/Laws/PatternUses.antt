@@ -1,6 +1,6 @@
 -- What the parts of a some-in pattern use that are no variables.
 use mathlib.Core.Path.{_≡_, sym, ap, _∙_, subst}
-use mathlib.Core.Bool.{true, false, cond}
+use mathlib.Core.Bool.{false, cond}
 use mathlib.Core.List.{List, [], _++_, append-assoc, append-nil}
 use Prim.Native.Nat.{ℕ, _≤_}
 use Rattle.names.specs.Inner.Sets.{Empty}
@@ -23,6 +23,7 @@ use Rattle.definition_walk.specs.Inner.Own.{Holds}
 use Rattle.definition_walk.specs.Inner.Adds.{Adds}
 use Rattle.definition_walk.proofs.Laws.Adds.{adds-none, adds-then, adds-holds}
 use Rattle.definition_expr.proofs.Laws.UsesMods.{holds-none}
+use Rattle.definition_comprs.specs.Inner.Lists.{bothAt}
 use Rattle.definition_comprs.specs.Inner.Used.{ComprsUsed}
 use Rattle.definition_literal.specs.declared.context.Context.{Context}
 use Rattle.definition_literal.specs.Inner.SomeIn.{NonVar}
@@ -30,7 +31,6 @@ use Rattle.definition_literal.specs.Inner.Used.{NamesWalk}
 use Rattle.definition_cycle.specs.Inner.Asks.{otherAt}
 use Rattle.definition_steps.specs.Inner.Pairs.{leavesAt}
 use Rattle.definition_cycle.specs.Inner.AllUsed.{laterMods, partsUse, othersUse, OtherUsed, LeavesUsed, OthersUsed}
-use Rattle.definition_cycle.proofs.Laws.UsedBy.{use-both}
 use Rattle.definition_cycle.proofs.Laws.Patterns.{other-is, non-vars-append, non-vars-none, non-vars-row}
 
 module _ (t : List ℕ) (v : Width) (k : Scope) (work : List ℕ) where
@@ -39,23 +39,21 @@ module _ (t : List ℕ) (v : Width) (k : Scope) (work : List ℕ) where
   pub other-none : (row : ℕ) → row ≡ 0 → (mods : ℕ) (a : Names) → OtherUsed t v k row mods work a a
   other-none row z mods a nested parents s h stored = rw z (adds-none a)
 
-  pub other-one : (row : ℕ) → (row ≡ 0 → ⊥) → (mods : ℕ) (none a by own b : Names) → Empty (none .words)
-      → NamesWalk t k none row false a by → ComprsUsed t v k work row false by own → ComprsUsed t v k work mods true own b
+  pub other-one : (row : ℕ) → (row ≡ 0 → ⊥) → (mods : ℕ) (none a by b : Names) → Empty (none .words)
+      → NamesWalk t k none row false a by → (cs : List Tree) → cs ≡ bothAt t false row mods → ComprsUsed v k work cs by b
       → OtherUsed t v k row mods work a b
   unfolding allUsed
-  other-one row some mods none a by own b clear u₀ u₁ u₂ nested parents s h stored =
+  other-one row some mods none a by b clear names-walk cs both used nested parents s h stored =
       let way = onceWay (sheetAt t) nested parents in
       let e = exprBy t false row in
+      let later = comprs (treeAt (sheetAt t) mods) in
       let names = usedVars (sheetAt t) (s .scope) [] e in
-      let cs = comprs (treeAt (sheetAt t) mods) in
-      let whole : (names ++ comprsUse (sheetAt t) way (comprs e) s) ++ comprsUse (sheetAt t) way cs s ≡ partsUse t way s cs (otherAt t row) =
-      append-assoc names (comprsUse (sheetAt t) way (comprs e) s) (comprsUse (sheetAt t) way cs s)
-      ∙ ap (λ (l : List ℕ). names ++ l) (sym (use-both (sheetAt t) way (comprs e) cs s))
-      ∙ sym (append-nil (allUsed (sheetAt t) way [] (laterMods cs) e s))
-      ∙ ap (partsUse t way s cs) (sym (other-is t row some)) in
+      let whole : names ++ comprsUse (sheetAt t) way cs s ≡ partsUse t way s later (otherAt t row) =
+      ap (λ (c : List Tree). names ++ comprsUse (sheetAt t) way c s) both
+      ∙ sym (append-nil (allUsed (sheetAt t) way [] (laterMods later) e s))
+      ∙ ap (partsUse t way s later) (sym (other-is t row some)) in
       subst (λ (l : List ℕ). Adds a l b) whole
-      (adds-then a own b (names ++ comprsUse (sheetAt t) way (comprs e) s) (comprsUse (sheetAt t) way cs s)
-      (adds-then a by own names (comprsUse (sheetAt t) way (comprs e) s) (u₀ (s .scope) h [] (holds-none none clear)) (u₁ (sheetAt t) nested parents s h stored)) (u₂ (sheetAt t) nested parents s h stored))
+      (adds-then a by b names (comprsUse (sheetAt t) way cs s) (names-walk (s .scope) h [] (holds-none none clear)) (used (sheetAt t) nested parents s h stored))
 
   -- ---- all of them
 

@@ -1,11 +1,12 @@
--- `use_expr`: the uses of an expression, then its comprehensions, then those of the modifiers.
+-- `use_expr`: the uses of an expression, then its comprehensions and those of the modifiers, which are one list.
 use mathlib.Core.Path.{_≡_, sym, ap, ap₂, _∙_, subst}
 use mathlib.Core.Bool.{Bool, true, false}
-use mathlib.Core.List.{List, _++_}
+use mathlib.Core.List.{List, [], _++_}
 use mathlib.Core.Logic.{_⊎_, inl, inr}
-use Prim.Native.Nat.{ℕ, _≤_}
+use Prim.Native.Nat.{ℕ, _-_, _≤_}
 use native.Mathlib.Omega.{arith}
 use lib.ListN.{length}
+use Rattle.base.specs.Limits as limits
 use Rattle.base.proofs.Laws.Truth.{bool-cases}
 use Rattle.names.specs.declared.Names.{Names}
 use Rattle.answer_blocks.specs.Inner.Layout.{answersSize}
@@ -23,6 +24,8 @@ use Rattle.definition_walk.specs.Inner.Own.{Holds}
 use Rattle.definition_expr.specs.declared.Using.{Using}
 use Rattle.definition_expr.specs.Inner.Defined.{ListedExtras}
 use Rattle.definition_expr.specs.Inner.UsesVars.{UsesVars}
+use Rattle.definition_comprs.specs.Inner.Lists.{mostListed, listedAt, bothAt, ListsBoth}
+use Rattle.definition_comprs.proofs.Laws.Lists.{no-comprs}
 use Rattle.definition_comprs.proofs.Laws.Used.{used-none}
 use Rattle.definition_literal.specs.declared.context.Context.{Context}
 use Rattle.definition_literal.specs.Inner.Contexts.{Stands}
@@ -33,13 +36,13 @@ use Rattle.definition_state.specs.Inner.Frames.{guarded, Agree, Ready}
 use Rattle.definition_steps.proofs.Laws.Guards.{fault-cases, guarded-sound, guarded-stays, comprs-stay, comprs-sound}
 use Rattle.definition_steps.proofs.Laws.Same.{same-used}
 use Rattle.definition_steps.proofs.Laws.KeepsNested.{keeps-use-expr}
-use Rattle.definition_cycle.specs.Inner.Sites.{nestedBy, wayBy, Surrounds, RunsIn}
+use Rattle.definition_cycle.specs.Inner.Sites.{nestedBy, wayBy, Surrounds, Inside, RunsIn}
 use Rattle.definition_cycle.proofs.Laws.Moves.{at-ready, inside-next, runs-in, runs-in-then, runs-in-as}
 use Rattle.definition_cycle.proofs.Laws.Steadies.{steady-gather}
 use Rattle.definition_cycle.specs.Inner.Asks.{AsksComprs, AsksExpr}
 use Rattle.definition_cycle.specs.Inner.Does.{DoesComprs, DoesUse}
-use Rattle.definition_cycle.proofs.Laws.ComprRows.{at-lies, does-at}
-use Rattle.definition_cycle.proofs.Laws.ComprWalk.{does-then, does-none, asks-next}
+use Rattle.definition_cycle.proofs.Laws.ComprRows.{at-lies}
+use Rattle.definition_cycle.proofs.Laws.ComprLists.{does-none, inside-after, both-asks}
 use Rattle.definition_cycle.specs.Inner.AllUsed.{AllUsed, WithoutComprs}
 use Rattle.definition_cycle.proofs.Laws.UsedBy.{all-used}
 
@@ -72,46 +75,38 @@ module _ (t inner : List ℕ) (extras : Names) (row : ℕ) (rest : Bool) (x : Co
     use-ready = at-ready t (h .inside .spans) p firsts work (bracketVars expr) (h .inside .at)
 
     module _ (u : Using) (f₁ w₁ : List ℕ) (uses : UsesVars t extras (x .statement) row rest p firsts work u f₁ w₁) where
-      -- Its comprehensions.
-      abbrev pub own-asks : AsksComprs t inner (u .comprs) (u .progress) f₁ w₁
-      own-asks = record {
-        inside = inside-next t inner p (u .progress) firsts f₁ work w₁ (bracketVars expr) (bracketVars expr) 0
-            (λ parents. gather t (x .levels) (x .statement) (listed .list) expr) (λ parents. steady-gather t (x .levels) (x .statement) (listed .list) expr) (omega arith)
-            (runs-in t inner (gather t (x .levels) (x .statement) (listed .list) expr) p (u .progress) firsts f₁ work w₁ (uses .runs (listed .list) (listed .holds)))
-            (h .inside);
-        lies = at-lies t rest row (u .comprs) (uses .comprs) (h .inside .at .query) (h .first-lies);
-      }
+      use-inside : Inside t inner (u .progress) f₁ w₁ 0
+      use-inside = inside-next t inner p (u .progress) firsts f₁ work w₁ (bracketVars expr) (bracketVars expr) 0
+          (λ parents. gather t (x .levels) (x .statement) (listed .list) expr) (λ parents. steady-gather t (x .levels) (x .statement) (listed .list) expr) (omega arith)
+          (runs-in t inner (gather t (x .levels) (x .statement) (listed .list) expr) p (u .progress) firsts f₁ work w₁ (uses .runs (listed .list) (listed .holds)))
+          (h .inside)
 
-      -- Those of the modifiers.
-      pub mods-asks : (s₂ : Progress) (f₂ w₂ : List ℕ) → DoesComprs t inner (comprs (exprBy t rest (u .comprs))) (x .levels) (u .progress) f₁ w₁ s₂ f₂ w₂
-          → AsksComprs t inner (x .mods) s₂ f₂ w₂
-      mods-asks s₂ f₂ w₂ d =
-          asks-next t inner (x .levels) (u .comprs) (comprs (exprBy t rest (u .comprs))) (u .progress) s₂ f₁ f₂ w₁ w₂ own-asks d (x .mods) (h .mods-lie)
+      -- The comprehensions, those of the modifiers with them.
+      pub comprs-asks : Accepted t → limits.perName ≤ length inner → limits.perName ≤ length f₁ → (rows : List ℕ) (end : ℕ)
+          → ListsBoth t rest (u .comprs) (x .mods) rows end → mostListed ≤ length rows → AsksComprs t inner rows 0 end (u .progress) f₁ w₁
+      unfolding use-inside
+      comprs-asks ok inner-room firsts-room rows end l rows-room =
+          both-asks t rest (u .comprs) (x .mods) rows end l inner ok inner-room rows-room (u .progress) f₁ w₁ firsts-room use-inside
+          (at-lies t rest row (u .comprs) (uses .comprs) (h .inside .at .query) (h .first-lies)) (h .mods-lie)
 
-      -- After both there is room for the table, as there was.
-      pub use-room : (s₂ : Progress) (f₂ w₂ : List ℕ) → DoesComprs t inner (comprs (exprBy t rest (u .comprs))) (x .levels) (u .progress) f₁ w₁ s₂ f₂ w₂
-          → (s₃ : Progress) (f₃ w₃ : List ℕ) → DoesComprs t inner (comprs (exprBy t true (x .mods))) (x .levels) s₂ f₂ w₂ s₃ f₃ w₃
-          → answersSize (s₃ .width) ≤ length w₃
-      use-room s₂ f₂ w₂ d s₃ f₃ w₃ e =
-          let before = mods-asks s₂ f₂ w₂ d in
-          let after = asks-next t inner (x .levels) (x .mods) (comprs (exprBy t true (x .mods))) s₂ s₃ f₂ f₃ w₂ w₃ before e (x .mods) (before .lies) in
-          after .inside .at .room .enough
+      -- After them there is room for the table, as there was.
+      pub use-room : (cs : List Tree) (s₂ : Progress) (f₂ w₂ : List ℕ) → DoesComprs t inner cs (x .levels) (u .progress) f₁ w₁ s₂ f₂ w₂
+          → answersSize (s₂ .width) ≤ length w₂
+      use-room cs s₂ f₂ w₂ d = inside-after t inner (x .levels) cs (u .progress) s₂ f₁ f₂ w₁ w₂ d use-inside .at .room .enough
 
   module _ (u : Using) (f₁ w₁ : List ℕ) (uses : UsesVars t extras (x .statement) row rest p firsts work u f₁ w₁)
-      (s₂ : Progress) (f₂ w₂ : List ℕ) (at₂ : DoesComprs t inner (comprs (exprBy t rest (u .comprs))) (x .levels) (u .progress) f₁ w₁ s₂ f₂ w₂)
-      (s₃ : Progress) (f₃ w₃ : List ℕ) (d₃ : DoesComprs t inner (comprs (exprBy t true (x .mods))) (x .levels) s₂ f₂ w₂ s₃ f₃ w₃)
-      (names : Names) (all : AllUsed t (s₃ .width) (s₃ .scope) (u .names) (comprs (exprBy t rest (u .comprs))) x w₃ names) where
-    d₂ : DoesComprs t inner (comprs expr) (x .levels) (u .progress) f₁ w₁ s₂ f₂ w₂
-    d₂ = does-at t rest row (u .comprs) (uses .comprs) inner (x .levels) (u .progress) f₁ w₁ s₂ f₂ w₂ at₂
+      (cs : List Tree) (both : cs ≡ bothAt t rest (u .comprs) (x .mods)) (s₃ : Progress) (f₃ w₃ : List ℕ)
+      (did : DoesComprs t inner cs (x .levels) (u .progress) f₁ w₁ s₃ f₃ w₃)
+      (names : Names) (all : AllUsed t (s₃ .width) (s₃ .scope) (u .names) cs x w₃ names) where
+    all-comprs : (m : Mods) → Stands t x m → cs ≡ comprs expr ++ m .comprs
+    all-comprs m st = both ∙ ap₂ (λ (a b : List Tree). a ++ b) (uses .comprs .same) (sym (st .comprs))
 
     module _ (m : Mods) (st : Stands t x m) (l : List ℕ) (hl : Holds extras l) where
       abbrev whole-use : List Scope → State → State
       whole-use parents = useExpr (sheetAt t) (wayBy t (x .levels) parents) (x .statement) l m expr
 
       comprs-done : DoesComprs t inner (comprs expr ++ m .comprs) (x .levels) (u .progress) f₁ w₁ s₃ f₃ w₃
-      comprs-done =
-          subst (λ (cs : List Tree). DoesComprs t inner (comprs expr ++ cs) (x .levels) (u .progress) f₁ w₁ s₃ f₃ w₃) (sym (st .comprs))
-          (does-then t inner (x .levels) (comprs expr) (comprs (exprBy t true (x .mods))) (u .progress) s₂ s₃ f₁ f₂ f₃ w₁ w₂ w₃ d₂ d₃)
+      comprs-done = subst (λ (l : List Tree). DoesComprs t inner l (x .levels) (u .progress) f₁ w₁ s₃ f₃ w₃) (all-comprs m st) did
 
       use-runs : RunsIn t inner whole-use p firsts work s₃ f₃ w₃
       use-runs =
@@ -150,18 +145,28 @@ module _ (t inner : List ℕ) (extras : Names) (row : ℕ) (rest : Bool) (x : Co
             let held = end .whole clear in
             let own : Holds (u .names) (usedVars (sheetAt t) (s .scope) l expr) = uses .names l hl spans s a fine-before in
             let same = same-used (keeps-use-expr (sheetAt t) (nestedBy t (x .levels)) parents (x .statement) l m expr s) (sheetAt t) l expr in
-            all expr (sym (uses .comprs .same)) m st l (nestedBy t (x .levels)) parents (whole-use parents s) (held .scope .sets) (held .table .stored) (subst (Holds (u .names)) (sym same) own)
+            all expr m st (all-comprs m st) l (nestedBy t (x .levels)) parents (whole-use parents s) (held .scope .sets) (held .table .stored) (subst (Holds (u .names)) (sym same) own)
 
-    pub does-use : DoesUse t inner extras expr x p firsts work (record { progress = s₃; names = names; comprs = u .comprs }) f₃ w₃
+    does-use : DoesUse t inner extras expr x p firsts work (record { progress = s₃; names = names; comprs = u .comprs }) f₃ w₃
     does-use = record { runs = use-runs; names = use-names }
+
+  -- The list that was made.
+  pub does-listed : (u : Using) (f₁ w₁ : List ℕ) → UsesVars t extras (x .statement) row rest p firsts work u f₁ w₁ → (rows : List ℕ) (end : ℕ)
+      → ListsBoth t rest (u .comprs) (x .mods) rows end → (s₃ : Progress) (f₃ w₃ : List ℕ)
+      → DoesComprs t inner (listedAt t rows 0 (end - 0)) (x .levels) (u .progress) f₁ w₁ s₃ f₃ w₃
+      → (names : Names) → AllUsed t (s₃ .width) (s₃ .scope) (u .names) (listedAt t rows 0 end) x w₃ names
+      → DoesUse t inner extras expr x p firsts work (record { progress = s₃; names = names; comprs = u .comprs }) f₃ w₃
+  does-listed u f₁ w₁ uses rows end l s₃ f₃ w₃ did names all =
+      let e : end - 0 ≡ end = omega arith in
+      does-use u f₁ w₁ uses (listedAt t rows 0 end) (l .expressions) s₃ f₃ w₃
+      (subst (λ (n : ℕ). DoesComprs t inner (listedAt t rows 0 n) (x .levels) (u .progress) f₁ w₁ s₃ f₃ w₃) e did) names all
 
   -- There are no comprehensions.
   module _ (ok : Accepted t) (u : Using) (f₁ w₁ : List ℕ) (uses : UsesVars t extras (x .statement) row rest p firsts work u f₁ w₁)
       (none : u .comprs ≡ 0) (no-mods : x .mods ≡ 0) (r : Using) (w : WithoutComprs u x r) where
-    all-own : AllUsed t (u .progress .width) (u .progress .scope) (u .names) (comprs (exprBy t rest (u .comprs))) x w₁ (r .names)
-    all-own =
-        all-used t (u .progress .width) (u .progress .scope) (u .names) (u .comprs) rest x w₁ (r .names) (r .names) (r .names) (w .names)
-        (used-none t ok (u .progress .width) (u .progress .scope) w₁ (u .comprs) none rest (r .names)) (used-none t ok (u .progress .width) (u .progress .scope) w₁ (x .mods) no-mods true (r .names))
+    nothing-listed : [] ≡ bothAt t rest (u .comprs) (x .mods)
+    nothing-listed =
+        sym (ap₂ (λ (a b : List Tree). a ++ b) (no-comprs t ok rest (u .comprs) none) (no-comprs t ok true (x .mods) no-mods))
 
     is : record { progress = u .progress; names = r .names; comprs = u .comprs } ≡ r
     is = ap₂ (λ (q : Progress) (n : ℕ). record { progress = q; names = r .names; comprs = n }) (sym (w .progress)) (sym (w .comprs))
@@ -169,5 +174,6 @@ module _ (t inner : List ℕ) (extras : Names) (row : ℕ) (rest : Bool) (x : Co
     pub does-without : DoesUse t inner extras expr x p firsts work r f₁ w₁
     does-without =
         subst (λ (v : Using). DoesUse t inner extras expr x p firsts work v f₁ w₁) is
-        (does-use u f₁ w₁ uses (u .progress) f₁ w₁ (does-none t inner (x .levels) ok (u .comprs) none rest (u .progress) f₁ w₁)
-        (u .progress) f₁ w₁ (does-none t inner (x .levels) ok (x .mods) no-mods true (u .progress) f₁ w₁) (r .names) all-own)
+        (does-use u f₁ w₁ uses [] nothing-listed (u .progress) f₁ w₁ (does-none t inner (x .levels) (u .progress) f₁ w₁) (r .names)
+        (all-used t (u .progress .width) (u .progress .scope) (u .names) [] x w₁ (r .names) (r .names) (w .names)
+        (used-none (u .progress .width) (u .progress .scope) w₁ (r .names))))

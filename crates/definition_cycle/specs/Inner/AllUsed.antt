@@ -45,10 +45,10 @@ pub record WithoutComprs (u : Using) (x : Context) (r : Using) : Type 0 where
   pub comprs : r .comprs ≡ u .comprs
 
 module _ (t : List ℕ) (v : Width) (k : Scope) where
-  -- Of every expression that has these comprehensions.
+  -- Of every expression that has these comprehensions, those of the modifiers with them.
   abbrev pub AllUsed : Names → List Tree → Context → List ℕ → Names → Type 0
   AllUsed names cs x work r =
-      (e : Tree) → comprs e ≡ cs → (m : Mods) → Stands t x m → (l : List ℕ) (nested : Nested) (parents : List spec.Scope) (s : State)
+      (e : Tree) (m : Mods) → Stands t x m → cs ≡ comprs e ++ m .comprs → (l : List ℕ) (nested : Nested) (parents : List spec.Scope) (s : State)
       → Sets k (s .scope) → Stored v (answersOf v work) (s .run .schedules)
       → Holds names (usedVars (sheetAt t) (s .scope) l e) → Holds r (allUsed (sheetAt t) (onceWay (sheetAt t) nested parents) l m e s)
 

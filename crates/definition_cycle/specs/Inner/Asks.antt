@@ -28,6 +28,7 @@ use Rattle.definition_literal.specs.declared.context.Context.{Context}
 use Rattle.definition_state.specs.declared.Progress.{Progress}
 use Rattle.definition_state.specs.Inner.Table.{Table}
 use Rattle.definition_state.specs.Inner.Frames.{Room}
+use Rattle.definition_comprs.specs.Inner.Lists.{ListedComprs}
 use Rattle.definition_cycle.specs.Inner.Budgets.{budget, budgetAt, aboveAt}
 use Rattle.definition_cycle.specs.Inner.Sites.{LiesIn, Inside, Under}
 
@@ -71,10 +72,15 @@ module _ (t : List ℕ) where
     pub mods-in : mods ≤ exprCount t
     pub answers-room : answersSize v ≤ length work
 
-  -- `process_comprs`: comprehensions add no definition to the query that they stand in.
-  pub record AsksComprs (inner : List ℕ) (row : ℕ) (p : Progress) (firsts work : List ℕ) : Type 0 where
+  -- `process_comprs`: comprehensions of the query, from place `at` of a list on, before place `end`. They add no definition to it.
+  pub record AsksComprs (inner rows : List ℕ) (at end : ℕ) (p : Progress) (firsts work : List ℕ) : Type 0 where
+    pub accepted : Accepted t
+    pub inner-room : limits.perName ≤ length inner
+    pub firsts-room : limits.perName ≤ length firsts
+    pub up : at ≤ end
+    pub in-list : end ≤ length rows
     pub inside : Inside t inner p firsts work 0
-    pub lies : LiesIn t (inside .at .query) row
+    pub comprehensions : ListedComprs t (λ q. q ≡ inside .at .query) rows at end
 
   -- A function that is given a context, and rows of the query.
   pub record AsksExpr (inner : List ℕ) (a b : ℕ) (x : Context) (p : Progress) (firsts work : List ℕ) (more : ℕ) : Type 0 where

@@ -1,7 +1,8 @@
 -- One part of a pattern, or none.
-use mathlib.Core.Bool.{true}
+use mathlib.Core.Bool.{false}
 use borrow.Author.Needs.{needs}
-use Rattle.definition_comprs.proofs.Laws.Used.{used-none}
+use native.Mathlib.Omega.{arith}
+use Rattle.definition_cycle.proofs.Laws.ComprLists.{both-is, both-used}
 use Rattle.definition_cycle.proofs.Laws.PatternUses.{other-none, other-one}
 use Rattle.definition_after.proofs.used_by.other_used.Statement.{statement}
 use Rattle.definition_after.proofs.used_by.other_used.Tie as tie
@@ -17,29 +18,28 @@ empty-requires c κs = search needs
 used-names-requires : tie.Need-used-names-requires
 used-names-requires c κs = search needs
 
+slice-aggregate-list-both : tie.Need-slice-aggregate-list-both
+slice-aggregate-list-both c = search needs
+
+list-both-requires : tie.Need-list-both-requires
+list-both-requires c κs = search needs
+
+slice-aggregate-comprs-used : tie.Need-slice-aggregate-comprs-used
+slice-aggregate-comprs-used c = search needs
+
 comprs-used-requires : tie.Need-comprs-used-requires
-comprs-used-requires c κs = search needs
+comprs-used-requires c κs =
+    let both = c .before .before .list-both in
+    let start = c .before .before .before .before .before .before .before .before .before in
+    let pre = start .pre in
+    both-used (start .args .tables .now) false _ _ _ _ (both .ensures) (start .args .width) (pre .accepted) (omega (arith, both .kept .1 .1 .1 .1 .0)) _ (pre .answers-room)
 
 returns-2 : tie.Need-returns-2
 returns-2 c =
-    let own = c .before in
-    let none = own .before .before in
-    let start = none .before .before .before .before in
-    let args = start .args in
-    other-one (args .tables .now) (args .width) (args .scope) (args .work .now) _ (none .before .if1 .left) (args .mods) _ _ _ _ _ (none .empty .ensures)
-    (own .before .used-names .ensures) (own .comprs-used .ensures)
-    (used-none (args .tables .now) (start .pre .accepted) (args .width) (args .scope) (args .work .now) (args .mods) (c .if2 .taken) true (own .comprs-used .result))
-
-comprs-used-requires-2 : tie.Need-comprs-used-requires-2
-comprs-used-requires-2 c κs = search needs
-
-returns-3 : tie.Need-returns-3
-returns-3 c =
-    let own = c .before .before in
-    let none = own .before .before in
-    let args = none .before .before .before .before .args in
-    other-one (args .tables .now) (args .width) (args .scope) (args .work .now) _ (none .before .if1 .left) (args .mods) _ _ _ _ _ (none .empty .ensures)
-    (own .before .used-names .ensures) (own .comprs-used .ensures) (c .comprs-used2 .ensures)
+    let none = c .before .before .before .before .before .before in
+    let a = none .before .before .before .before .args in
+    other-one (a .tables .now) (a .width) (a .scope) (a .work .now) _ (none .before .if1 .left) (a .mods) _ _ _ _ (none .empty .ensures)
+    (c .before .before .before .before .before .used-names .ensures) _ (both-is (a .tables .now) false _ _ _ _ (c .before .before .before .list-both .ensures)) (c .comprs-used .ensures)
 
 pub other-used-spec : {M : Type 1} → statement M
 other-used-spec =
@@ -48,7 +48,8 @@ other-used-spec =
     returns
     empty-requires
     used-names-requires
+    slice-aggregate-list-both
+    list-both-requires
+    slice-aggregate-comprs-used
     comprs-used-requires
-    returns-2
-    comprs-used-requires-2
-    returns-3)
+    returns-2)

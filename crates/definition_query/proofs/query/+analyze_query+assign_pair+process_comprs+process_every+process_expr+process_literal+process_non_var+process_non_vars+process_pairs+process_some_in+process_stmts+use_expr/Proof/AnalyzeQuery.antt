@@ -1,24 +1,23 @@
 -- `analyze_query`: what is known at each place (`begins`, `starts`, `encloses`) is all that the calls and the end ask for (OneQuery.antt).
-use mathlib.Core.Path.{sym}
+use mathlib.Core.Path.{sym, _∙_}
 use mathlib.Core.Bool.{true}
-use mathlib.Core.List.{List}
 use Prim.Native.Nat.{ℕ, _-_}
 use native.Mathlib.Omega.{arith}
 use lib.ListN.{replicate}
 use borrow.Author.Needs.{needs}
 use Rattle.order_rows.proofs.Laws.Zeros.{zero-at}
-use Rattle.scope.specs.Traverse.{comprs}
-use Rattle.scope_walk.specs.Inner.Exprs.{exprBy}
+use Rattle.definition_comprs.specs.Inner.Lists.{bothAt}
 use Rattle.definition_cycle.specs.Inner.Asks.{Begun}
 use Rattle.definition_cycle.specs.Inner.Does.{DoesComprs}
-use Rattle.definition_cycle.proofs.Laws.Guards.{KeepsLengths, walked-comprs, last-comprs}
-use Rattle.definition_cycle.proofs.Laws.OneQuery.{stmts-below, comprs-below, does-none, does-nothing, begun-of, Started, row-high, asks-stmts, Enclosed, asks-key, asks-value, room-last, based-last, takes-last, does-query}
+use Rattle.definition_cycle.proofs.Laws.ComprLists.{both-do}
+use Rattle.definition_cycle.proofs.Laws.OneQuery.{stmts-below, comprs-below, does-none, does-nothing, begun-of, Started, row-high, asks-stmts, Enclosed, asks-outputs, room-last, based-last, takes-last, does-query}
 use Rattle.definition_after.proofs.finish.begun.Reads as begun-reads
 use Rattle.definition_after.proofs.finish.finish.Reads as finish-reads
 use Rattle.definition_after.proofs.finish.opened.Reads as opened-reads
 use Rattle.definition_query.proofs.query.analyze_query.Reads as analyze-query
 use Rattle.definition_query.proofs.query.process_comprs.Reads as process-comprs
 use Rattle.definition_query.proofs.query.process_stmts.Reads as process-stmts
+use Rattle.definition_comprs.proofs.list.list_both.Reads as list-both-reads
 use Rattle.scope_state.proofs.enclose.enclose.Reads as enclose-reads
 use Rattle.scope_gather.proofs.local_vars.gather_local_vars.Reads as gather-local-vars-reads
 use Rattle.sheet_rows.proofs.first_at.Reads as first-at-reads
@@ -39,6 +38,8 @@ known m = (
   opened-reads.Learnt,
   enclose-reads.Asked,
   enclose-reads.Learnt,
+  list-both-reads.Asked,
+  list-both-reads.Learnt,
   process-comprs-below m,
   process-comprs.Post,
   finish-reads.Asked,
@@ -156,94 +157,59 @@ pub enclose-requires : (m : ℕ) → analyze-query-lts.Need-enclose-requires (kn
 enclose-requires m c κs =
     (c .before .before .before .before .before .before .before .before .before .before .before .before .before .before .before .before .before .before .before .before .pre .1 .1, omega (arith, c .before .before .before .before .before .before .before .before .before .before .before .before .before .gather-local-vars .kept .1 .1 .1 .1 .1 .0), omega arith)
 
+pub slice-aggregate-list-both : (m : ℕ) → analyze-query-lts.Need-slice-aggregate-list-both (known m) (analyze-query-at m) analyze-query.Post
+slice-aggregate-list-both m c = search needs
+
+pub list-both-requires : (m : ℕ) → analyze-query-lts.Need-list-both-requires (known m) (analyze-query-at m) analyze-query.Post
+list-both-requires m c κs =
+    let some = c .before .before .before .before .before .before .before .before .before .before .before .before .before .before .before .before .before .before in
+    let b = begins m some in
+    record { accepted = some .before .before .before .before .before .pre .1 .0; one-in = b .key-low; two-in = b .value-low; room = search needs }
+
 pub slice-aggregate-process-comprs : (m : ℕ) → analyze-query-lts.Need-slice-aggregate-process-comprs (known m) (analyze-query-at m) analyze-query.Post
 slice-aggregate-process-comprs m c = search needs
-
-pub sub-process-comprs : (m : ℕ) → analyze-query-lts.Need-sub-process-comprs (known m) (analyze-query-at m) analyze-query.Post
-sub-process-comprs m c = omega (arith, c .before .before .before .before .before .before .before .before .before .before .before .before .before .before .before .before .before .before .before .if2 .left)
 
 pub slice-aggregate-process-comprs-2 : (m : ℕ) → analyze-query-lts.Need-slice-aggregate-process-comprs-2 (known m) (analyze-query-at m) analyze-query.Post
 slice-aggregate-process-comprs-2 m c = search needs
 
-pub process-comprs-requires : (m : ℕ) → analyze-query-lts.Need-process-comprs-requires (known m) (analyze-query-at m) analyze-query.Post
-process-comprs-requires m c κs =
-    let e = c .before .before .before .before .before in
-    let some = e .before .before .before .before .before .before .before .before .before .before .before .before .before .before .before .before in
-    let start = some .before .before .before .before .before in
-    let pre = start .pre .1 in (
-      comprs-below _ (pre .0) _ m (some .if2 .left) (start .pre .0) _,
-      record {
-        accepted = pre .0;
-        inner-room = omega (arith, e .enclose .kept .1 .1 .1 .0);
-        firsts-room = omega (arith, e .before .before .before .before .before .before .before .process-stmts .kept .1 .1 .1 .1 .1 .1 .1 .0);
-        row-in = begins m some .key-low;
-        asks = asks-key _ _ _ _ _ _ _ _ _ _ _ _ _ _ (encloses m e);
-      },
-    )
-
--- The comprehensions of the outputs, each walked where there is a row.
-key-walk : (m : ℕ) (c : analyze-query-lts.Joined3 (known m) (analyze-query-at m) analyze-query.Post) →
-    let e = c .before .before in
-    let did = e .before .before .before .before .before .before .before .process-stmts in
-    let a = e .before .before .before .before .before .before .before .before .before .before .before .before .before .before .before .before .before .before .before .before .before .args in
-    KeepsLengths (DoesComprs (a .tables .now) (e .enclose .last .1 .1 .1 .0) (comprs (exprBy (a .tables .now) true (a .key))) (a .levels - 1))
-    (e .before .before .before .opened .result) (did .last .1 .1 .1 .1 .1 .1 .1 .0) (did .last .1 .1 .1 .1 .1 .1 .1 .1 .0) (c .if3 .t) (c .if3 .firsts) (c .if3 .work)
-key-walk m c =
-    let start = c .before .before .before .before .before .before .before .before .before .before .before .before .before .before .before .before .before .before .before .before .before .before .before in
-    walked-comprs _ _ _ (start .pre .1 .0) true _ _ _ _ _ _ _
-    (λ w. (_, _, _, (w .4 .ensures, w .4 .kept .1 .1 .1 .1 .1 .1 .0, w .4 .kept .1 .1 .1 .1 .1 .1 .1 .0), w .9, w .8, w .10))
-    (λ w. (w .0 .left, w .2, w .1, w .3)) (c .if3 .came)
+pub sub-process-comprs : (m : ℕ) → analyze-query-lts.Need-sub-process-comprs (known m) (analyze-query-at m) analyze-query.Post
+sub-process-comprs m c = omega (arith, c .before .before .before .before .before .before .before .before .before .before .before .before .before .before .before .before .before .before .before .before .before .before .if2 .left)
 
 pub slice-aggregate-process-comprs-3 : (m : ℕ) → analyze-query-lts.Need-slice-aggregate-process-comprs-3 (known m) (analyze-query-at m) analyze-query.Post
 slice-aggregate-process-comprs-3 m c = search needs
 
-pub sub-process-comprs-2 : (m : ℕ) → analyze-query-lts.Need-sub-process-comprs-2 (known m) (analyze-query-at m) analyze-query.Post
-sub-process-comprs-2 m c = omega (arith, c .before .before .before .before .before .before .before .before .before .before .before .before .before .before .before .before .before .before .before .before .if2 .left)
-
-pub slice-aggregate-process-comprs-4 : (m : ℕ) → analyze-query-lts.Need-slice-aggregate-process-comprs-4 (known m) (analyze-query-at m) analyze-query.Post
-slice-aggregate-process-comprs-4 m c =
-    let j3 = c .before .before .before in
-    omega (arith, key-walk m j3 .1, j3 .before .before .before .before .before .before .before .before .before .process-stmts .kept .1 .1 .1 .1 .1 .1 .1 .0)
-
-pub process-comprs-requires-2 : (m : ℕ) → analyze-query-lts.Need-process-comprs-requires-2 (known m) (analyze-query-at m) analyze-query.Post
-process-comprs-requires-2 m c κs =
-    let j3 = c .before .before .before .before in
-    let e = j3 .before .before in
+pub process-comprs-requires : (m : ℕ) → analyze-query-lts.Need-process-comprs-requires (known m) (analyze-query-at m) analyze-query.Post
+process-comprs-requires m c κs =
+    let both = c .before .before .before .before .before .list-both in
+    let e = c .before .before .before .before .before .before .before .before in
     let some = e .before .before .before .before .before .before .before .before .before .before .before .before .before .before .before .before in
-    let start = some .before .before .before .before .before in
-    let pre = start .pre .1 in (
-      comprs-below _ (pre .0) _ m (some .if2 .left) (start .pre .0) _,
-      record {
-        accepted = pre .0;
-        inner-room = omega (arith, e .enclose .kept .1 .1 .1 .0);
-        firsts-room = omega (arith, key-walk m j3 .1, e .before .before .before .before .before .before .before .process-stmts .kept .1 .1 .1 .1 .1 .1 .1 .0);
-        row-in = begins m some .value-low;
-        asks = asks-value _ _ _ _ _ _ _ _ _ _ _ _ _ _ (encloses m e) _ _ _ (key-walk m j3 .0);
-      },
+    let start = some .before .before .before .before .before in (
+      comprs-below _ m (some .if2 .left) (start .pre .0) _ (both .ensures .fits),
+      asks-outputs _ _ _ _ _ _ _ _ _ _ _ _ _ _ (encloses m e) (omega (arith, e .enclose .kept .1 .1 .1 .0)) (omega (arith, e .before .before .before .before .before .before .before .process-stmts .kept .1 .1 .1 .1 .1 .1 .1 .0)) _ _ (both .ensures)
+          (omega (arith, both .kept .1 .1 .1 .1 .0)),
     )
 
-value-walk : (m : ℕ) (c : analyze-query-lts.Joined4 (known m) (analyze-query-at m) analyze-query.Post) →
-    let e = c .before .before .before in
+-- The comprehensions of the outputs.
+outputs-done : (m : ℕ) (c : analyze-query-lts.After-process-comprs (known m) (analyze-query-at m) analyze-query.Post) →
+    let e = c .before .before .before .before .before .before .before .before .before in
+    let did = e .before .before .before .before .before .before .before .process-stmts in
     let a = e .before .before .before .before .before .before .before .before .before .before .before .before .before .before .before .before .before .before .before .before .before .args in
-    (gs : List ℕ) × DoesComprs (a .tables .now) (e .enclose .last .1 .1 .1 .0) (comprs (exprBy (a .tables .now) true (a .value))) (a .levels - 1)
-    (c .before .if3 .t) (c .before .if3 .firsts) (c .before .if3 .work) (c .if4 .t) gs (c .if4 .work)
-value-walk m c =
-    let start = c .before .before .before .before .before .before .before .before .before .before .before .before .before .before .before .before .before .before .before .before .before .before .before .before in
-    last-comprs _ _ _ (start .pre .1 .0) true _ _ _ _ _ _
-    (λ w. (_, _, _, w .4 .ensures, w .8, w .9)) (λ w. (w .0 .left, w .1, w .2)) (c .if4 .came)
+    DoesComprs (a .tables .now) (e .enclose .last .1 .1 .1 .0) (bothAt (a .tables .now) true (a .key) (a .value)) (a .levels - 1)
+    (e .before .before .before .opened .result) (did .last .1 .1 .1 .1 .1 .1 .1 .0) (did .last .1 .1 .1 .1 .1 .1 .1 .1 .0) (c .process-comprs .result) (c .process-comprs .last .1 .1 .1 .1 .1 .1 .1 .0) (c .process-comprs .last .1 .1 .1 .1 .1 .1 .1 .1 .0)
+outputs-done m c =
+    let a = c .before .before .before .before .before .before .before .before .before .before .before .before .before .before .before .before .before .before .before .before .before .before .before .before .before .before .before .before .before .before .args in
+    both-do (a .tables .now) true (a .key) (a .value) _ _ (c .before .before .before .before .before .before .list-both .ensures) _ _ _ _ _ _ _ _ (c .process-comprs .ensures)
 
 pub slice-aggregate-finish : (m : ℕ) → analyze-query-lts.Need-slice-aggregate-finish (known m) (analyze-query-at m) analyze-query.Post
-slice-aggregate-finish m c = sym (c .before .before .before .before .before .before .before .before .before .before .before .before .before .before .before .before .before .before .gather-local-vars .kept .1 .1 .1 .1 .1 .0)
+slice-aggregate-finish m c = sym (c .before .before .before .before .before .before .before .before .before .before .before .before .before .before .before .before .before .before .before .before .before .before .before .before .before .before .before .gather-local-vars .kept .1 .1 .1 .1 .1 .0)
 
 pub finish-requires : (m : ℕ) → analyze-query-lts.Need-finish-requires (known m) (analyze-query-at m) analyze-query.Post
 finish-requires m c κs =
-    let j4 = c .before .before in
-    let e = j4 .before .before .before in
+    let done = outputs-done m (c .before .before .before .before .before) in
+    let e = c .before .before .before .before .before .before .before .before .before .before .before .before .before .before in
     let some = e .before .before .before .before .before .before .before .before .before .before .before .before .before .before .before .before in
     let b = begins m some in
-    let x = encloses m e in
-    let key = key-walk m (j4 .before) .0 in
-    let value = value-walk m j4 .1 in (
+    let x = encloses m e in (
       (
         record {
           accepted = some .before .before .before .before .before .pre .1 .0;
@@ -251,21 +217,16 @@ finish-requires m c κs =
           to = b .to;
           spans-room = omega (arith, e .before .before .before .before .before .before .before .before .before .before .before .before .before .before .gather-local-vars .kept .1 .1 .1 .1 .1 .0);
         },
-        room-last _ _ _ _ _ _ _ _ _ _ _ _ _ _ x _ _ _ key _ _ _ value,
-        based-last _ _ _ _ _ _ _ _ _ _ _ _ _ _ x _ _ _ key _ _ _ value,
+        room-last _ _ _ _ _ _ _ _ _ _ _ _ _ _ x _ _ _ done,
+        based-last _ _ _ _ _ _ _ _ _ _ _ _ _ _ x _ _ _ done,
       ),
-      takes-last _ _ _ _ _ _ _ _ _ _ _ _ _ _ x _ _ _ key _ _ _ value,
+      takes-last _ _ _ _ _ _ _ _ _ _ _ _ _ _ x _ _ _ done,
     )
 
 pub same-length : (m : ℕ) → analyze-query-lts.Need-same-length (known m) (analyze-query-at m) analyze-query.Post
-same-length m c =
-    let j4 = c .before .before .before .before .before in
-    let did = j4 .before .before .before .before .before .before .before .before .before .before .process-stmts in
-    omega (arith, c .before .before .finish .kept .1 .1 .1 .1 .1 .0, value-walk m j4 .1 .grown .long, key-walk m (j4 .before) .2, did .kept .1 .1 .1 .1 .1 .1 .1 .1 .0)
+same-length m c = c .before .before .finish .kept .1 .1 .1 .1 .1 .0 ∙ c .before .before .before .before .before .before .before .before .process-comprs .kept .1 .1 .1 .1 .1 .1 .1 .1 .0 ∙ c .before .before .before .before .before .before .before .before .before .before .before .before .before .before .before .before .before .before .before .before .before .before .before .before .process-stmts .kept .1 .1 .1 .1 .1 .1 .1 .1 .0
 
 pub returns-3 : (m : ℕ) → analyze-query-lts.Need-returns-3 (known m) (analyze-query-at m) analyze-query.Post
 returns-3 m c =
-    let j4 = c .before .before .before .before .before in
-    let e = j4 .before .before .before in
-    does-query _ _ _ _ _ _ _ _ _ _ _ _ _ _ (encloses m e) _ _ _ (key-walk m (j4 .before) .0) _ _ _
-    (value-walk m j4 .1) _ (omega (arith, e .before .before .before .before .before .before .before .before .before .before .before .before .before .before .before .before .if2 .left)) _ _ (c .before .before .finish .ensures)
+    let e = c .before .before .before .before .before .before .before .before .before .before .before .before .before .before .before .before .before in
+    does-query _ _ _ _ _ _ _ _ _ _ _ _ _ _ (encloses m e) _ _ _ (outputs-done m (c .before .before .before .before .before .before .before .before)) _ (omega (arith, e .before .before .before .before .before .before .before .before .before .before .before .before .before .before .before .before .if2 .left)) _ _ (c .before .before .finish .ensures)

@@ -1,5 +1,5 @@
--- What falls from call to call: the levels left, and within a level where the analysis is.
-use Prim.Native.Nat.{ℕ, _+_, _*_, _<_}
+-- What falls from call to call: the levels left, and within a level where the analysis is. A list has at most 64 comprehensions.
+use Prim.Native.Nat.{ℕ, _+_, _-_, _*_, _<_}
 use borrow.Fn.Kinds.{In}
 use borrow.Fn.PlainCycle.{Measures, is, falls, and}
 use Rattle.scope_walk.specs.Inner.Walking.{remains}
@@ -35,8 +35,8 @@ abbrev pub μ-analyze-query : Measures 3 analyze-query-kinds.ps ℕ
 abbrev pub μ-assign-pair : Measures 4 assign-pair-kinds.ps ℕ
 μ-assign-pair κs a = (a .1 .1 .1 .1 .1 .0) .levels * 8192 + 521
 
-abbrev pub μ-process-comprs : Measures 4 process-comprs-kinds.ps ℕ
-μ-process-comprs κs a = a .1 .1 .1 .1 .0 * 8192 + (remains (a .0 .now) (a .1 .1 .0) + 1)
+abbrev pub μ-process-comprs : Measures 5 process-comprs-kinds.ps ℕ
+μ-process-comprs κs a = a .1 .1 .1 .1 .1 .0 * 8192 + ((a .1 .1 .1 .1 .0 - a .1 .1 .1 .0) + 1)
 
 abbrev pub μ-process-every : Measures 5 process-every-kinds.ps ℕ
 μ-process-every κs a = (a .1 .1 .1 .0) .levels * 8192 + 1100
@@ -85,20 +85,20 @@ abbrev pub assign-pair-below : ℕ → In 4 assign-pair-kinds.ps
 assign-pair-below t =
     and 4 assign-pair-kinds.ps (falls 4 assign-pair-kinds.ps _<_ μ-assign-pair t) assign-pair.Pre
 
-abbrev pub process-comprs-at : ℕ → In 4 process-comprs-kinds.ps
+abbrev pub process-comprs-at : ℕ → In 5 process-comprs-kinds.ps
 process-comprs-at t =
     and
-    4
+    5
     process-comprs-kinds.ps
-    (is 4 process-comprs-kinds.ps μ-process-comprs t)
+    (is 5 process-comprs-kinds.ps μ-process-comprs t)
     process-comprs.Pre
 
-abbrev pub process-comprs-below : ℕ → In 4 process-comprs-kinds.ps
+abbrev pub process-comprs-below : ℕ → In 5 process-comprs-kinds.ps
 process-comprs-below t =
     and
-    4
+    5
     process-comprs-kinds.ps
-    (falls 4 process-comprs-kinds.ps _<_ μ-process-comprs t)
+    (falls 5 process-comprs-kinds.ps _<_ μ-process-comprs t)
     process-comprs.Pre
 
 abbrev pub process-every-at : ℕ → In 5 process-every-kinds.ps
