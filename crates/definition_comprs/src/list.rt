@@ -1,33 +1,30 @@
 // The rows of an expression's comprehensions, as a list: what is done with each of them needs no walk over the expression.
 
-use definition_walk::row::is_compr;
-use scope_walk::kids_of;
 use scope_walk::next_of;
+use scope_walk::none;
+use scope_walk::one;
+use scope_walk::three;
+use scope_walk::two;
 use sheet::Row;
 use sheet_rows::row_at;
 ghost use mathlib.Core.Path.{_≡_};
-ghost use mathlib.Core.Bool.{true};
-ghost use Prim.Native.Nat.{_≤_, _<_};
-ghost use lib.ListN.{length, getD};
+ghost use Prim.Native.Nat.{_+_, _≤_, _<_};
+ghost use lib.ListN.{length, getD, set};
 ghost use Rattle.base.specs.Limits as limits;
 ghost use Rattle.sheet.specs.Inner.Sheet.{rowAt};
-ghost use Rattle.sheet.specs.Kinds.{isCompr};
 ghost use Rattle.scope_walk.specs.Inner.Sheets.{Accepted, exprCount};
-ghost use Rattle.definition_comprs.specs.Inner.Lists.{Lists, AtRow, comprsBy, AsksList, AsksBoth, ListsBoth, ListsRow};
+ghost use Rattle.definition_comprs.specs.Inner.Lists.{Lists, AtRow, comprsBy, AsksList, AsksBoth, ListsBoth};
 
 // Room for those of two expressions: a comprehension has a query of its own, so neither has more than there are queries.
 pub const LISTED: usize = 2 * base::QUERIES;
 
-// The row, if it is a comprehension. Hands back how many are listed.
-fn list_row(w: Row, row: usize, rows: &mut [u16], count: usize) -> usize
-    requires { ⌜ (row ≤ limits.mostExpressions) × (isCompr w ≡ true → count < length (now rows)) ⌝ }
-    ensures { λ r. ⌜ ListsRow w row (now (rows .entry)) count (now (rows .exit)) r ⌝ }
+// A comprehension. Hands back how many are listed.
+fn list_row(row: usize, rows: &mut [u16], count: usize) -> usize
+    requires { ⌜ (row ≤ limits.mostExpressions) × (count < length (now rows)) ⌝ }
+    ensures { λ r. ⌜ (now (rows .exit) ≡ set (now (rows .entry)) count row) × (r ≡ count + 1) ⌝ }
 {
-    if is_compr(w) {
-        rows[count] = row as u16;
-        return count + 1;
-    }
-    count
+    rows[count] = row as u16;
+    count + 1
 }
 
 // Those of the expression at a row, with the rest of its chain if `rest`, behind the first `count`. No call is made on no row.
@@ -39,9 +36,65 @@ fn list_comprs(tables: &[u16], row: usize, rest: bool, rows: &mut [u16], count: 
         return count;
     }
     let w = row_at(tables, row);
-    let k = kids_of(w);
     let next = next_of(w, rest);
-    let mut n = list_row(w, row, rows, count);
+    let kind = w.kind;
+    let mut n = count;
+    let k = match kind {
+        // String
+        1 => none(),
+        // RawString
+        2 => none(),
+        // Number
+        3 => none(),
+        // Bool
+        4 => none(),
+        // Null
+        5 => none(),
+        // Var
+        6 => none(),
+        // Array: items
+        7 => one(w.first),
+        // Set: items
+        8 => one(w.first),
+        // Object: fields, keys and values in turn
+        9 => one(w.first),
+        // ArrayCompr
+        10 => {
+            n = list_row(row, rows, count);
+            none()
+        }
+        // SetCompr
+        11 => {
+            n = list_row(row, rows, count);
+            none()
+        }
+        // ObjectCompr
+        12 => {
+            n = list_row(row, rows, count);
+            none()
+        }
+        // Call: params
+        13 => one(w.second),
+        // UnaryExpr: expr
+        14 => one(w.first),
+        // RefDot: refr
+        15 => one(w.first),
+        // RefBrack: refr, index
+        16 => two(w.first, w.second),
+        // BinExpr: lhs, rhs
+        17 => two(w.first, w.second),
+        // BoolExpr: lhs, rhs
+        18 => two(w.first, w.second),
+        // ArithExpr: lhs, rhs
+        19 => two(w.first, w.second),
+        // AssignExpr `Eq`: lhs, rhs
+        20 => two(w.first, w.second),
+        // AssignExpr `ColEq`: lhs, rhs
+        21 => two(w.first, w.second),
+        // Membership: key, value, collection
+        22 => three(w.first, w.second, w.third),
+        _ => none(),
+    };
     if k.first != 0 {
         n = list_comprs(tables, k.first, true, rows, n);
     }

@@ -1,5 +1,5 @@
 -- An expression has no more comprehensions than its sheet has queries: each row is named at most once, and an expression by an earlier one.
-use mathlib.Core.Path.{_≡_, refl, ap, _∙_}
+use mathlib.Core.Path.{_≡_, refl, sym, ap, _∙_, subst}
 use mathlib.Core.Bool.{Bool, true, false, cond}
 use mathlib.Core.List.{List, [], _∷_}
 use mathlib.Core.Logic.{_⊎_, inl, inr}
@@ -19,8 +19,10 @@ use Rattle.sheet.specs.Kinds.{isCompr}
 use Rattle.sheet.specs.Naming.{Entry, exprRow, rowIn, exprEntry, exprEntries, namings}
 use Rattle.sheet.proofs.Laws.Origins.{targetOf}
 use Rattle.sheet_facts.proofs.Laws.Accepted.{FineRows, fine-rows}
-use Rattle.scope.specs.Traverse.{Enters, nothing, params, fields}
-use Rattle.scope_walk.specs.Inner.Kids.{entersOf, kidsBy, kidsOf}
+use Rattle.scope.specs.Trees.{thirdOf}
+use Rattle.scope.specs.Traverse.{Child, childrenOf}
+use Rattle.scope.proofs.Laws.Children.{of-children}
+use Rattle.scope_walk.specs.Inner.Kids.{kidsBy, kidsOf}
 use Rattle.scope_walk.proofs.Laws.Kids.{compr-enters-nothing}
 use Rattle.scope_walk.specs.Inner.Sheets.{countsAt, Accepted, exprCount, queryCount}
 use Rattle.scope_walk.specs.Inner.Exprs.{exprBy}
@@ -47,15 +49,20 @@ one-or-none x true = refl
 one-or-none x false = refl
 
 -- What is entered is among the fields.
-kids-fit : (g : ℕ → ℕ) → g 0 ≡ 0 → (w : Row) (e : Enters) → (isCompr w ≡ true → e ≡ nothing) → (n : ℕ)
-    → g (kidsBy e w .first) + (g (kidsBy e w .second) + (g (kidsBy e w .third) + n)) ≤ g (w .first) + (g (w .second) + (g (cond (isCompr w) 0 (w .third)) + n))
-kids-fit g none w nothing only n = omega (arith, none)
-kids-fit g none w params only n = omega (arith, none)
-kids-fit g none w fields only n = go (isCompr w) only
-  where
-    go : (b : Bool) → (b ≡ true → fields ≡ nothing) → g (w .first) + (g (w .second) + (g (w .third) + n)) ≤ g (w .first) + (g (w .second) + (g (cond b 0 (w .third)) + n))
-    go true h = let never : fields ≡ nothing = h refl in let z : _≡_ {A = ℕ} 0 1 = cc in absurd (omega arith)
-    go false h = omega arith
+module _ (g : ℕ → ℕ) (none : g 0 ≡ 0) (w : Row) (n : ℕ) where
+  abbrev Fits : ℕ → List Child → Type 0
+  Fits third ks = g (kidsBy ks w .first) + (g (kidsBy ks w .second) + (g (kidsBy ks w .third) + n)) ≤ g (w .first) + (g (w .second) + (g third + n))
+
+  kids-fit : g (kidsOf w .first) + (g (kidsOf w .second) + (g (kidsOf w .third) + n)) ≤ g (w .first) + (g (w .second) + (g (thirdOf w) + n))
+  unfolding kidsOf
+  kids-fit = go (bool-cases (isCompr w))
+    where
+      go : (isCompr w ≡ true) ⊎ (isCompr w ≡ false) → Fits (thirdOf w) (childrenOf w)
+      go (inl p) = subst (Fits (thirdOf w)) (sym (compr-enters-nothing w p)) (omega (arith, none))
+      go (inr p) =
+          let third : w .third ≡ thirdOf w = rw p in
+          subst (λ (v : ℕ). Fits v (childrenOf w)) third
+          (of-children (Fits (w .third)) (omega (arith, none)) (omega (arith, none)) (omega (arith, none)) (omega (arith, none)) (omega arith) (w .kind))
 
 module _ (t : List ℕ) (ok : Accepted t) where
   abbrev fine : FineRows (countsAt t) (inTables t)
@@ -124,7 +131,7 @@ module _ (t : List ℕ) (ok : Accepted t) where
       omega (
         arith,
         row-counts t ok r (λ z. omega arith) b w refl true (kidsOf w) refl (w .next) refl,
-        kids-fit counts counts-none w (entersOf w) (compr-enters-nothing w) (counts (w .next)),
+        kids-fit counts counts-none w (counts (w .next)),
         one-or-none (exprBy t false r) (isCompr w),
       )
 

@@ -1,14 +1,15 @@
 -- Laws of `Lists`: the comprehensions at a row are the row itself, if it is one, and those at the rows that a walk enters.
 use mathlib.Core.Path.{_≡_, refl, sym, ap, _∙_, subst}
-use mathlib.Core.Bool.{Bool, true, false, cond}
+use mathlib.Core.Bool.{Bool, true, false, cond, _&&_}
 use mathlib.Core.List.{List, [], _∷_, _++_}
 use mathlib.Core.Logic.{_⊎_, inl, inr}
 use Prim.Native.Nat.{ℕ, zero, suc, _+_, _-_, _≤_, _<_}
 use native.Mathlib.Omega.{arith}
+use lib.Dec.{leb}
 use lib.ListN.{length, getD, set, length-append, length-set}
 use lib.Seq.{getD-set-same, getD-set-other}
 use Rattle.base.specs.Limits as limits
-use Rattle.base.proofs.Laws.Truth.{bool-cases, lt-cases}
+use Rattle.base.proofs.Laws.Truth.{bool-cases, lt-cases, not-both}
 use Rattle.sheet.specs.declared.Row.{Row}
 use Rattle.sheet.specs.Inner.Sheet.{rowAt}
 use Rattle.sheet.specs.Kinds.{isCompr}
@@ -16,6 +17,7 @@ use Rattle.scope.specs.Trees.{Tree, rowOf}
 use Rattle.scope_walk.specs.declared.Kids.{Kids}
 use Rattle.scope_walk.specs.Inner.Kids.{kidsOf}
 use Rattle.scope_walk.specs.Inner.Walks.{alone}
+use Rattle.scope_walk.proofs.Laws.Arms.{Turn}
 use Rattle.scope_walk.proofs.Laws.Walks.{aloneAt}
 use Rattle.scope_walk.specs.Inner.Sheets.{countsAt, specialAt, sheetAt, Accepted, exprCount}
 use Rattle.scope_walk.specs.Inner.Exprs.{exprBy}
@@ -232,3 +234,21 @@ module _ (t : List ℕ) (ok : Accepted t) (Home : ℕ → Type 0) (v : ℕ) (row
 
   pub compr-is : rowOf (exprBy t false v) ≡ w
   compr-is = row-is t ok v (λ z. omega (arith, row .from)) (row .to) false ∙ sym is
+
+-- ---- the arms of `list_comprs`, on how many are listed and the list
+
+abbrev pub ListTurn : Row → ℕ → ℕ × List ℕ → ℕ × List ℕ → Kids → Type 0
+ListTurn w row = Turn (λ a b. ListsRow w row (a .1) (a .0) (b .1) (b .0)) w
+
+abbrev pub isComprKind : ℕ → Bool
+isComprKind kind = leb 10 kind && leb kind 12
+
+pub compr-kind : (w : Row) (n : ℕ) → w .kind ≡ n → isComprKind n ≡ true → isCompr w ≡ true
+compr-kind w n e is = ap isComprKind e ∙ is
+
+module _ (w : Row) (row : ℕ) (a : ℕ × List ℕ) where
+  pub lists-still : isComprKind (w .kind) ≡ false → ListsRow w row (a .1) (a .0) (a .1) (a .0)
+  lists-still n = record { other = λ _. (refl, refl); compr = λ y. absurd (not-both y n) }
+
+  pub lists-compr : isCompr w ≡ true → (b : ℕ × List ℕ) → (b .1 ≡ set (a .1) (a .0) row) × (b .0 ≡ a .0 + 1) → ListsRow w row (a .1) (a .0) (b .1) (b .0)
+  lists-compr y b h = record { other = λ n. absurd (not-both y n); compr = λ _. h }
