@@ -83,13 +83,7 @@ fn assigned_var(scope: Scope, w: Row, names: Names) -> Names
 
 // The pattern at a row, with the rest of its chain if `rest`. Its names come to `names`.
 // A call on no row would only copy the scope and the names: none is made but for an empty array or object.
-pub fn assigned_vars(
-    tables: &[u16],
-    scope: Scope,
-    row: usize,
-    rest: bool,
-    names: Names,
-) -> Names
+pub fn assigned_vars(tables: &[u16], scope: Scope, row: usize, rest: bool, names: Names) -> Names
     requires { ⌜ Accepted (now tables) × (row ≤ exprCount (now tables)) ⌝ }
     ensures { λ r. ⌜ AssignedWalk (now (tables .entry)) scope row rest names r ⌝ }
 {

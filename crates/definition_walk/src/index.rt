@@ -105,11 +105,29 @@ pub fn define_index(
         // Var
         6 => define_var(scope, statement, w, used, count, definitions, width),
         // Array: items
-        7 => define_index(tables, scope, statement, first, used, count, definitions, width),
+        7 => define_index(
+            tables,
+            scope,
+            statement,
+            first,
+            used,
+            count,
+            definitions,
+            width,
+        ),
         // Set
         8 => count,
         // Object: fields, keys and values in turn
-        9 => define_index(tables, scope, statement, first, used, count, definitions, width),
+        9 => define_index(
+            tables,
+            scope,
+            statement,
+            first,
+            used,
+            count,
+            definitions,
+            width,
+        ),
         // ArrayCompr
         10 => count,
         // SetCompr

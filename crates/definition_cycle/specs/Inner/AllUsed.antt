@@ -6,6 +6,7 @@ use Rattle.names.specs.Inner.Sets.{Union}
 use Rattle.names.specs.declared.Names.{Names}
 use Rattle.names_width.specs.declared.Width.{Width}
 use Rattle.base.specs.Lists.{concatMap}
+use Rattle.sheet.specs.declared.Row.{Row}
 use Rattle.scope.specs.Trees.{Tree, treeAt}
 use Rattle.scope.specs.Traverse.{leaves, comprs}
 use Rattle.scope.specs.Scopes as spec
@@ -23,6 +24,7 @@ use Rattle.definition_walk.specs.Inner.Adds.{Adds}
 use Rattle.definition_expr.specs.declared.Using.{Using}
 use Rattle.definition_literal.specs.declared.context.Context.{Context}
 use Rattle.definition_literal.specs.Inner.Contexts.{Stands}
+use Rattle.definition_literal.specs.Inner.SomeIn.{NonVar}
 use Rattle.definition_state.specs.Inner.Table.{answersOf}
 use Rattle.definition_cycle.specs.Inner.Asks.{otherAt}
 
@@ -56,6 +58,12 @@ module _ (t : List ℕ) (v : Width) (k : Scope) where
   OtherUsed row mods work a b =
       (nested : Nested) (parents : List spec.Scope) (s : State) → Sets k (s .scope) → Stored v (answersOf v work) (s .run .schedules)
       → Adds a (partsUse t (onceWay (sheetAt t) nested parents) s (comprs (treeAt (sheetAt t) mods)) (otherAt t row)) b
+
+  -- A leaf of the pattern, where it is a part by itself.
+  pub record PartUsed (row : ℕ) (w : Row) (mods : ℕ) (work : List ℕ) (a b : Names) : Type 0 where
+    pub part : ℕ
+    pub is : NonVar t k row w part
+    pub used : OtherUsed part mods work a b
 
   abbrev pub LeavesUsed : ℕ → ℕ → List ℕ → Names → Names → Type 0
   LeavesUsed row mods work a b =

@@ -3,13 +3,14 @@ use mathlib.Core.Path.{_≡_}
 use mathlib.Core.Bool.{true, false}
 use mathlib.Core.List.{List, [], _∷_}
 use mathlib.Core.Logic.{_⊎_}
-use Prim.Native.Nat.{ℕ, zero, suc, _+_, _*_, _≤_}
+use Prim.Native.Nat.{ℕ, zero, suc, _+_, _*_, _≤_, _<_}
 use lib.ListN.{length}
 use Rattle.base.specs.Limits as limits
 use Rattle.base.specs.Lists.{all}
 use Rattle.names_width.specs.declared.Width.{Width}
 use Rattle.names_width.specs.Inner.Widths as Widths
 use Rattle.answer_blocks.specs.Inner.Layout.{answersSize}
+use Rattle.sheet.specs.declared.Row.{Row}
 use Rattle.sheet.specs.declared.Statement.{Statement}
 use Rattle.sheet.specs.Inner.Records.{statementRowAt}
 use Rattle.scope.specs.Trees.{Tree, treeAt}
@@ -71,6 +72,13 @@ module _ (t : List ℕ) where
     pub row-in : row ≤ exprCount t
     pub mods-in : mods ≤ exprCount t
     pub answers-room : answersSize v ≤ length work
+
+  -- The same of a variable of a some-in pattern.
+  pub record AsksVarUsed (v : Width) (row : ℕ) (w : Row) (mods : ℕ) (work : List ℕ) : Type 0 where
+    pub var : w .kind ≡ 6
+    pub name-low : w .name < limits.perName
+    pub some-row : row ≡ 0 → ⊥
+    pub used-by : AsksUsedBy v row mods work
 
   -- `process_comprs`: comprehensions of the query, from place `at` of a list on, before place `end`. They add no definition to it.
   pub record AsksComprs (inner rows : List ℕ) (at end : ℕ) (p : Progress) (firsts work : List ℕ) : Type 0 where

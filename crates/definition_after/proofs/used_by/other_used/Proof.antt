@@ -1,16 +1,11 @@
--- One part of a pattern, or none.
+-- One part of a pattern.
 use mathlib.Core.Bool.{false}
 use borrow.Author.Needs.{needs}
 use native.Mathlib.Omega.{arith}
 use Rattle.definition_cycle.proofs.Laws.ComprLists.{both-is, both-used}
-use Rattle.definition_cycle.proofs.Laws.PatternUses.{other-none, other-one}
+use Rattle.definition_cycle.proofs.Laws.PatternUses.{other-one}
 use Rattle.definition_after.proofs.used_by.other_used.Statement.{statement}
 use Rattle.definition_after.proofs.used_by.other_used.Tie as tie
-
-returns : tie.Need-returns
-returns c =
-    let args = c .before .before .before .args in
-    other-none (args .tables .now) (args .width) (args .scope) (args .work .now) _ (c .if1 .taken) (args .mods) _
 
 empty-requires : tie.Need-empty-requires
 empty-requires c κs = search needs
@@ -30,26 +25,26 @@ slice-aggregate-comprs-used c = search needs
 comprs-used-requires : tie.Need-comprs-used-requires
 comprs-used-requires c κs =
     let both = c .before .before .list-both in
-    let start = c .before .before .before .before .before .before .before .before .before in
-    let pre = start .pre in
+    let start = c .before .before .before .before .before .before .before .before in
+    let pre = start .pre .1 in
     both-used (start .args .tables .now) false _ _ _ _ (both .ensures) (start .args .width) (pre .accepted) (omega (arith, both .kept .1 .1 .1 .1 .0)) _ (pre .answers-room)
 
-returns-2 : tie.Need-returns-2
-returns-2 c =
+returns : tie.Need-returns
+returns c =
     let none = c .before .before .before .before .before .before in
-    let a = none .before .before .before .before .args in
-    other-one (a .tables .now) (a .width) (a .scope) (a .work .now) _ (none .before .if1 .left) (a .mods) _ _ _ _ (none .empty .ensures)
+    let start = none .before .before .before in
+    let a = start .args in
+    other-one (a .tables .now) (a .width) (a .scope) (a .work .now) _ (start .pre .0) (a .mods) _ _ _ _ (none .empty .ensures)
     (c .before .before .before .before .before .used-names .ensures) _ (both-is (a .tables .now) false _ _ _ _ (c .before .before .before .list-both .ensures)) (c .comprs-used .ensures)
 
 pub other-used-spec : {M : Type 1} → statement M
 other-used-spec =
     tie.close
     (tie.spec
-    returns
     empty-requires
     used-names-requires
     slice-aggregate-list-both
     list-both-requires
     slice-aggregate-comprs-used
     comprs-used-requires
-    returns-2)
+    returns)
