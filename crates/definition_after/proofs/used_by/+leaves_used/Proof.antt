@@ -71,7 +71,12 @@ var-requires : (m : ℕ) → lts.Need-var-used-requires (known m) (here m) leave
 var-requires m c κs =
     let r = c .before .before in
     let pre = r .before .before .before .before .pre .1 in
-    (c .match .keys6, rw (row-is m r) (low-name _ (pre .accepted) _ (r .before .if1 .left) (pre .row-in)), r .before .if1 .left, pre)
+    record {
+      var = c .match .keys6;
+      name-low = rw (row-is m r) (low-name _ (pre .accepted) _ (r .before .if1 .left) (pre .row-in));
+      some-row = r .before .if1 .left;
+      used-by = pre;
+    }
 
 -- The call on the first part.
 first-asks : (m : ℕ) (c : lts.After-row-at (known m) (here m) leaves-used.Post)

@@ -6,7 +6,7 @@ use Rattle.definition_after.proofs.used_by.var_used.Statement.{statemen
 use Rattle.definition_after.proofs.used_by.var_used.Tie as tie
 
 is-name-requires : tie.Need-is-name-requires
-is-name-requires c κs = let pre = c .before .pre in (pre .used-by .accepted .room, pre .name-low)
+is-name-requires c κs = let pre = c .before .before .pre in (pre .var, pre .used-by .accepted .room, pre .name-low)
 
 returns : tie.Need-returns
 returns c =
