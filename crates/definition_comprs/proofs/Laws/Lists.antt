@@ -17,7 +17,7 @@ use Rattle.scope.specs.Trees.{Tree, rowOf}
 use Rattle.scope_walk.specs.declared.Kids.{Kids}
 use Rattle.scope_walk.specs.Inner.Kids.{kidsOf}
 use Rattle.scope_walk.specs.Inner.Walks.{alone}
-use Rattle.scope_walk.proofs.Laws.Arms.{Turn}
+use Rattle.scope_walk.proofs.Laws.Arms.{KidsTurn}
 use Rattle.scope_walk.proofs.Laws.Walks.{aloneAt}
 use Rattle.scope_walk.specs.Inner.Sheets.{countsAt, specialAt, sheetAt, Accepted, exprCount}
 use Rattle.scope_walk.specs.Inner.Exprs.{exprBy}
@@ -238,7 +238,7 @@ module _ (t : List ℕ) (ok : Accepted t) (Home : ℕ → Type 0) (v : ℕ) (row
 -- ---- the arms of `list_comprs`, on how many are listed and the list
 
 abbrev pub ListTurn : Row → ℕ → ℕ × List ℕ → ℕ × List ℕ → Kids → Type 0
-ListTurn w row = Turn (λ a b. ListsRow w row (a .1) (a .0) (b .1) (b .0)) w
+ListTurn w row = KidsTurn (λ a b. ListsRow w row (a .1) (a .0) (b .1) (b .0)) w
 
 abbrev pub isComprKind : ℕ → Bool
 isComprKind kind = leb 10 kind && leb kind 12

@@ -27,7 +27,7 @@ use Rattle.sheet.specs.Kinds.{isPattern, isCompr, isAssign}
 use Rattle.scope.specs.Traverse.{Child, childrenOf}
 use Rattle.scope.proofs.Laws.Children.{of-children}
 use Rattle.scope_walk.specs.declared.Kids.{Kids}
-use Rattle.scope_walk.specs.Inner.Kids.{fieldsOf, kidsBy, kidsOf}
+use Rattle.scope_walk.specs.Inner.Kids.{allFields, kidsBy, kidsOf}
 use Rattle.scope_walk.proofs.Laws.Kids.{compr-enters-nothing}
 use Rattle.definition_room.proofs.Laws.Listed.{comprKind, kind-holds, HoldsField}
 use Rattle.definition_room.proofs.Laws.Named.{target-row, next-holds}
@@ -111,7 +111,7 @@ module _ (c : Counts) (t : List ℕ) (few : Within c) (fine : firstLine c (inTab
       go false = refl
 
   -- The fields of any kind but a comprehension: of a pattern, an assignment or a call among others.
-  pub fields-lie : isCompr (rowAt t r) ≡ false → KidsInside c t q (fieldsOf (rowAt t r))
+  pub fields-lie : isCompr (rowAt t r) ≡ false → KidsInside c t q (allFields (rowAt t r))
   unfolding rowAt
   fields-lie other =
       let kind = exprAt t r .kind in
@@ -134,7 +134,7 @@ module _ (c : Counts) (t : List ℕ) (few : Within c) (fine : firstLine c (inTab
       none : Inside []
       none = record { first = inl refl; second = inl refl; third = inl refl }
 
-      by-kind : KidsInside c t q (fieldsOf (rowAt t r)) → Inside (childrenOf (rowAt t r))
+      by-kind : KidsInside c t q (allFields (rowAt t r)) → Inside (childrenOf (rowAt t r))
       by-kind h =
           of-children Inside none (record { first = h .first; second = inl refl; third = inl refl })
           (record { first = h .second; second = inl refl; third = inl refl }) (record { first = h .first; second = h .second; third = inl refl }) h

@@ -16,7 +16,7 @@ use Rattle.sheet.specs.declared.Row.{Row}
 use Rattle.sheet.specs.Sheet.{isInput, isSpecial}
 use Rattle.sheet.specs.Kinds.{isVar, isCompr}
 use Rattle.scope_walk.specs.declared.Kids.{Kids}
-use Rattle.scope_walk.proofs.Laws.Arms.{Turn, NoKind, no-such-kind, no-compr-kind}
+use Rattle.scope_walk.proofs.Laws.Arms.{KidsTurn, NoKind, no-such-kind, no-compr-kind}
 use Rattle.scope_state.specs.declared.Scope.{Scope}
 use Rattle.scope_walk.specs.Inner.Sheets.{sheetAt, exprCount}
 use Rattle.definition_walk.specs.declared.found.Used.{Used}
@@ -194,7 +194,7 @@ module _ (t : List ℕ) (k : Scope) (extras : Names) (row : ℕ) (w : Row) (a : 
 -- ---- the arms of `used_from`, on what is found and the first uses
 
 abbrev pub FoundTurn : List ℕ → Scope → Names → ℕ → Row → Used × List ℕ → Used × List ℕ → Kids → Type 0
-FoundTurn t k extras row w = Turn (λ a b. RowUsed t k extras row w (a .0) (a .1) (b .0) (b .1) × (length (b .1) ≡ length (a .1))) w
+FoundTurn t k extras row w = KidsTurn (λ a b. RowUsed t k extras row w (a .0) (a .1) (b .0) (b .1) × (length (b .1) ≡ length (a .1))) w
 
 -- The kinds at which something is done: a Var, a RefBrack, a comprehension.
 abbrev pub isFound : ℕ → Bool

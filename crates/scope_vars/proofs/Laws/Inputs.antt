@@ -16,7 +16,7 @@ use Rattle.scope.specs.Scopes as spec
 use Rattle.scope.specs.Gather.{inputVar, gatherInputVars}
 use Rattle.scope_walk.specs.declared.Kids.{Kids}
 use Rattle.scope_walk.specs.Inner.Kids.{kidsOf}
-use Rattle.scope_walk.proofs.Laws.Arms.{Turn}
+use Rattle.scope_walk.proofs.Laws.Arms.{KidsTurn}
 use Rattle.scope_walk.specs.Inner.Walks.{alone, overBy}
 use Rattle.scope_state.specs.declared.Scope.{Scope}
 use Rattle.scope_walk.specs.Inner.Sheets.{countsAt, specialAt, sheetAt, Accepted, exprCount}
@@ -103,7 +103,7 @@ module _ (t outer : List ℕ) where
 -- ---- what is done at a row, on the flag and the inputs
 
 abbrev pub InputTurn : List ℕ → List ℕ → Row → List ℕ → List ℕ × Bool → List ℕ × Bool → Kids → Type 0
-InputTurn t outer w u = Turn (λ a b. InputStepIn t outer w u (a .0) (a .1) (b .0) (b .1)) w
+InputTurn t outer w u = KidsTurn (λ a b. InputStepIn t outer w u (a .0) (a .1) (b .0) (b .1)) w
 
 module _ (t outer : List ℕ) (w : Row) (u i : List ℕ) (f : Bool) where
   pub input-still : isVar w ≡ false → InputStepIn t outer w u i f i f

@@ -19,7 +19,7 @@ use Rattle.scope.specs.Scopes.{addUnscoped, addInput, useInput, varExists}
 use Rattle.scope.specs.Gather.{assignVar, gatherAssignedVars, loopVar, gatherLoopVars}
 use Rattle.scope_walk.specs.declared.Kids.{Kids}
 use Rattle.scope_walk.specs.Inner.Kids.{kidsOf}
-use Rattle.scope_walk.proofs.Laws.Arms.{Turn}
+use Rattle.scope_walk.proofs.Laws.Arms.{KidsTurn}
 use Rattle.scope_walk.proofs.Laws.Walks.{aloneAt}
 use Rattle.scope_walk.specs.Inner.Walks.{overBy}
 use Rattle.scope_state.specs.declared.Scope.{Scope}
@@ -129,7 +129,7 @@ LoopState = Bool × List ℕ × List ℕ × List ℕ
 
 abbrev pub LoopTurn : List ℕ → List ℕ → List ℕ → Row → LoopState → LoopState → Kids → Type 0
 LoopTurn t outer o w =
-    Turn (λ a b. LoopStepIn t outer w o (a .1) (a .2) (a .0) (a .3) (b .1) (b .2) (b .0) (b .3) × (length (b .3) ≡ length (a .3))) w
+    KidsTurn (λ a b. LoopStepIn t outer w o (a .1) (a .2) (a .0) (a .3) (b .1) (b .2) (b .0) (b .3) × (length (b .3) ≡ length (a .3))) w
 
 module _ (t outer o : List ℕ) (w : Row) (a : LoopState) where
   pub loop-still : (isVar w || isRefBrack w) ≡ false

@@ -21,5 +21,5 @@ unfoldable pub kidsOf : Row → Kids
 kidsOf w = kidsBy (childrenOf w) w
 
 -- All three fields.
-abbrev pub fieldsOf : Row → Kids
-fieldsOf w = record { first = w .first; second = w .second; third = w .third }
+abbrev pub allFields : Row → Kids
+allFields w = record { first = w .first; second = w .second; third = w .third }

@@ -14,7 +14,7 @@ use Rattle.scope_walk.specs.Inner.Sheets.{Accepted, exprCount}
 use Rattle.scope_walk.specs.Inner.Walking.{remains}
 use Rattle.definition_walk.specs.Inner.UsedVars.{UsedStep}
 use Rattle.scope_walk.proofs.Laws.Walking.{Falls, FieldCalls, row-low, low-name, second-low, field-calls}
-use Rattle.scope_walk.proofs.Laws.Arms.{FullTurn, kids-walked, full-arm, quiet-full-arm, last-full-arm, no-such-kinds, no-compr}
+use Rattle.scope_walk.proofs.Laws.Arms.{FullTurn, kids-walked, full-arm, quiet-full-arm, last-full-arm, no-such-kinds, membership-no-compr}
 use Rattle.definition_literal.specs.Inner.Used.{NamesWalk}
 use Rattle.definition_literal.proofs.Laws.Used.{names-walk-none, names-walk-turn, isUsed, used-still, used-at-var, used-at-bracket}
 use Rattle.definition_literal.proofs.used_names.used_names.Reads as used-names
@@ -184,7 +184,7 @@ pub +used-names-spec : {M : Type 1} → statement M
     (λ c κs. asks m (c .before .before .before .before .before .before) _ (ready m (c .before .before .before .before .before .before) .second))
     (λ c κs. asks m (c .before .before .before .before .before) _ (ready m (c .before .before .before .before .before) .first))
     (λ c κs. asks m (c .before .before .before .before .before .before) _ (ready m (c .before .before .before .before .before .before) .second))
-    (λ c κs. asks m (c .before .before .before .before .before .before .before) _ (ready m (c .before .before .before .before .before .before .before) .third (no-compr (c .before .before .before .before .before .before .before .row-at .result) (c .before .before .match .keys22))))
+    (λ c κs. asks m (c .before .before .before .before .before .before .before) _ (ready m (c .before .before .before .before .before .before .before) .third (membership-no-compr (c .before .before .before .before .before .before .before .row-at .result) (c .before .before .match .keys22))))
     (returns-2 m)
     (next-requires m)
     (returns-3 m)
