@@ -1,4 +1,5 @@
-// The kinds of expressions and the forms of statements that are told apart, by their numbers in a sheet. The code says these numbers here alone.
+// The kinds of expressions and the forms of statements that are told apart, by their numbers in a sheet. The code says these numbers here
+// and, of the kinds, in the arms of a match, each under the kind's name.
 
 // ---- kinds
 
@@ -8,15 +9,11 @@ pub const VAR: u16 = 6;
 
 pub const ARRAY: u16 = 7;
 
-pub const OBJECT: u16 = 9;
-
 pub const ARRAY_COMPR: u16 = 10;
 
 pub const OBJECT_COMPR: u16 = 12;
 
 pub const CALL: u16 = 13;
-
-pub const REF_DOT: u16 = 15;
 
 pub const REF_BRACK: u16 = 16;
 

@@ -41,8 +41,8 @@ no-such-kind w j a b none = ne-eqb (w .kind) j (not-among 22 j (w .kind) a b non
 pub no-such-kinds : (w : Row) (i j : ℕ) → 1 ≤ i → i ≤ 22 → 1 ≤ j → j ≤ 22 → NoKind w → (eqb (w .kind) i || eqb (w .kind) j) ≡ false
 no-such-kinds w i j a b c d none = ap₂ _||_ (no-such-kind w i a b none) (no-such-kind w j c d none)
 
-pub membership-no-compr-kind : (w : Row) → NoKind w → isCompr w ≡ false
-membership-no-compr-kind w none = go (bool-cases (isCompr w))
+pub no-compr-kind : (w : Row) → NoKind w → isCompr w ≡ false
+no-compr-kind w none = go (bool-cases (isCompr w))
   where
     among : (j : ℕ) → 1 ≤ j → j ≤ 22 → w .kind ≡ j → ⊥
     among j a b = not-among 22 j (w .kind) a b none
