@@ -7,16 +7,15 @@ use scope_state::special::is_input;
 use scope_walk::next_of;
 use sheet::Row;
 use sheet_rows::row_at;
-ghost use mathlib.Core.Path.{_≡_};
-ghost use Prim.Native.Nat.{_≤_, _<_};
+ghost use Prim.Native.Nat.{_≤_};
 ghost use lib.ListN.{length};
 ghost use Rattle.base.specs.Limits as limits;
 ghost use Rattle.scope_walk.specs.Inner.Sheets.{Accepted, exprCount};
-ghost use Rattle.definition_record.specs.Inner.SomeVars.{Binds, SomeStep, SomeVars, EnterStep, SomeEntered};
+ghost use Rattle.definition_record.specs.Inner.SomeVars.{AsksSome, Binds, SomeStep, SomeVars, EnterStep, SomeEntered};
 
 // Is a variable a local, and not `input`?
 fn is_bound(tables: &[u16], scope: Scope, w: Row) -> bool
-    requires { ⌜ (w .kind ≡ 6) × (limits.tableEntries ≤ length (now tables)) × (w .name < limits.perName) ⌝ }
+    requires { ⌜ AsksSome (now tables) w ⌝ }
     ensures { λ r. ⌜ Binds (now (tables .entry)) scope w r ⌝ }
 {
     if is_input(tables, w.name) {
@@ -28,7 +27,7 @@ fn is_bound(tables: &[u16], scope: Scope, w: Row) -> bool
 
 // A variable: one that is bound is a name.
 fn some_var(tables: &[u16], scope: Scope, w: Row, names: Names) -> Names
-    requires { ⌜ (w .kind ≡ 6) × (limits.tableEntries ≤ length (now tables)) × (w .name < limits.perName) ⌝ }
+    requires { ⌜ AsksSome (now tables) w ⌝ }
     ensures { λ r. ⌜ SomeStep (now (tables .entry)) scope w names r ⌝ }
 {
     if is_bound(tables, scope, w) {
@@ -106,7 +105,7 @@ pub fn some_vars(tables: &[u16], scope: Scope, row: usize, names: Names) -> Name
 
 // A variable: one that is bound is used here.
 fn enter_var(tables: &[u16], scope: Scope, w: Row, firsts: &mut [u64])
-    requires { ⌜ (w .kind ≡ 6) × (limits.tableEntries ≤ length (now tables)) × (w .name < limits.perName) × (limits.perName ≤ length (now firsts)) ⌝ }
+    requires { ⌜ AsksSome (now tables) w × (limits.perName ≤ length (now firsts)) ⌝ }
     ensures { λ _. ⌜ EnterStep (now (tables .entry)) scope w (now (firsts .entry)) (now (firsts .exit)) ⌝ }
 {
     if is_bound(tables, scope, w) {

@@ -2,7 +2,9 @@
 use mathlib.Core.Path.{_≡_}
 use mathlib.Core.Bool.{Bool, cond, not, _&&_}
 use mathlib.Core.List.{List, [], _∷_, foldl, map}
-use Prim.Native.Nat.{ℕ}
+use Prim.Native.Nat.{ℕ, _≤_, _<_}
+use lib.ListN.{length}
+use Rattle.base.specs.Limits as limits
 use Rattle.names.specs.declared.Names.{Names}
 use Rattle.sheet.specs.declared.Row.{Row}
 use Rattle.sheet.specs.Sheet.{isInput}
@@ -23,6 +25,12 @@ module _ (t : List ℕ) where
   -- Does the pattern bind it, if it is a variable?
   abbrev pub binds : spec.Scope → Row → Bool
   binds s w = isLocal s (w .name) && not (isInput (sheetAt t) (w .name))
+
+  -- What is asked of a variable.
+  pub record AsksSome (w : Row) : Type 0 where
+    pub var : w .kind ≡ 6
+    pub tables-room : limits.tableEntries ≤ length t
+    pub name-low : w .name < limits.perName
 
   module _ (k : Scope) (w : Row) where
     abbrev pub Binds : Bool → Type 0

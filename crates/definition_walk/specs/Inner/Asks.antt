@@ -13,16 +13,7 @@ use Rattle.scope_walk.specs.Inner.Sheets.{Accepted, exprCount}
 use Rattle.definition_walk.specs.Inner.Defining.{RoomFor}
 
 module _ (t : List ℕ) where
-  -- A row that was read; `firsts` has a word for each name.
-  pub record AsksRow (row : ℕ) (w : Row) (firsts : List ℕ) : Type 0 where
-    pub accepted : Accepted t
-    pub name-low : w .name < limits.perName
-    pub second-in : w .second ≤ exprCount t
-    pub some-row : row ≡ 0 → ⊥
-    pub row-in : row ≤ exprCount t
-    pub firsts-room : limits.perName ≤ length firsts
-
-  -- A variable's.
+  -- The row of a variable; `firsts` has a word for each name.
   pub record AsksVar (row : ℕ) (w : Row) (firsts : List ℕ) : Type 0 where
     pub tables-room : limits.tableEntries ≤ length t
     pub var : w .kind ≡ 6

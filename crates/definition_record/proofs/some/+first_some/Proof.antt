@@ -66,7 +66,7 @@ var-requires : (m : ℕ) → lts.Need-enter-var-requires (known m) (here m) firs
 var-requires m c κs =
     let r = c .before .before .before .before in
     let pre = r .before .before .before .before .pre .1 in
-    (c .before .match .keys6, pre .0 .room, rw (row-is m r) (low-name _ (pre .0) _ (r .before .if1 .left) (pre .1)), pre .2)
+    (record { var = c .before .match .keys6; tables-room = pre .0 .room; name-low = rw (row-is m r) (low-name _ (pre .0) _ (r .before .if1 .left) (pre .1)) }, pre .2)
 
 -- A call on a later row, with n words.
 asks : (m : ℕ) (c : lts.After-row-at (known m) (here m) first-some.Post) (v : ℕ)

@@ -63,7 +63,7 @@ var-requires : (m : ℕ) → lts.Need-some-var-requires (known m) (here m) some-
 var-requires m c κs =
     let r = c .before .before .before in
     let pre = r .before .before .before .pre .1 in
-    (c .match .keys6, pre .0 .room, rw (row-is m r) (low-name _ (pre .0) _ (r .before .if1 .left) (pre .1)))
+    record { var = c .match .keys6; tables-room = pre .0 .room; name-low = rw (row-is m r) (low-name _ (pre .0) _ (r .before .if1 .left) (pre .1)) }
 
 -- The call on the first part.
 first-asks : (m : ℕ) (c : lts.After-row-at (known m) (here m) some-vars.Post)
