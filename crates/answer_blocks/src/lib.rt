@@ -1,6 +1,8 @@
 // Where the answers of a sheet's queries stand in lent memory, by the width of sets: a block for each query, and the places of all queries
 // behind the blocks. Whoever reads or writes a part of a block does it here.
 
+#![tactic(auto)]
+
 ghost use Rattle.std.specs.Prelude.{◌≡◌, ◌+◌, ◌-◌, ◌*◌, ◌≤◌, ◌<◌, length, get_or};
 ghost use Rattle.base.specs.Limits as limits;
 ghost use Rattle.names_width.specs.Inner.Widths.{set_words, Same, Put};

@@ -1,5 +1,7 @@
 // The end of a query's analysis: its statements are scheduled, and its answer is stored.
 
+#![tactic(auto)]
+
 ghost use Rattle.std.specs.Prelude.{◌+◌, ◌*◌, ◌≤◌, length};
 ghost use Rattle.base.specs.Limits as limits;
 ghost use Rattle.names_width.specs.Inner.Widths.{row_words};

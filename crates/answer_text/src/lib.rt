@@ -1,5 +1,7 @@
 // The text of an answer, from the words that the analysis stores (specs/Inner/Stored.antt).
 
+#![tactic(auto)]
+
 pub mod places;
 pub mod queries;
 pub mod rows;

@@ -1,5 +1,7 @@
 // Text into lent bytes. A place past the end counts as one past the end: so what is written is told to fit or not when all is written.
 
+#![tactic(auto)]
+
 ghost use Rattle.std.specs.Prelude.{◌≡◌, [], ◌∷◌, ◌++◌, ◌≤◌, length};
 ghost use Rattle.base.specs.Limits as limits;
 ghost use Rattle.answer_write.specs.Inner.Writes.{Puts};

@@ -1,5 +1,7 @@
 // Every limit of the calls, as specs/Limits.antt has it: the code says these numbers here alone.
 
+#![tactic(auto)]
+
 // The words of a set of names, and the words of work, in the library.
 pub const WORDS: usize = 8;
 

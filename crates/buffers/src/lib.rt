@@ -1,5 +1,7 @@
 // What is written into lent buffers whole: zeros, and the numbers from 0 up.
 
+#![tactic(auto)]
+
 ghost use Rattle.std.specs.Prelude.{◌≡◌, ◌++◌, ◌≤◌, length, drop, replicate};
 ghost use Rattle.base.specs.Lists.{range};
 

@@ -1,5 +1,7 @@
 // The whole call: all questions put to a sheet, and the text of its answer in lent bytes.
 
+#![tactic(auto)]
+
 mod answering;
 pub mod replies;
 

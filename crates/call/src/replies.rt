@@ -8,7 +8,7 @@ ghost use Rattle.call.specs.Inner.Replies.{outcome_reply, fault_reply};
 use definition_state::Fault;
 use sheet::Outcome;
 
-#[derive(Drop)]
+#[derive(Clone, Copy)]
 pub struct Reply {
     pub number: u16,
     pub line: u16,

@@ -12,7 +12,7 @@ use names::Names;
 use names_width::{Width, load_set};
 
 // The inputs, and whether `input` is read.
-#[derive(Drop)]
+#[derive(Clone, Copy)]
 pub struct Taken {
     pub inputs: Names,
     pub uses: bool,

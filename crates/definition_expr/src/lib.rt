@@ -1,5 +1,7 @@
 // What the uses of expressions do to the analysis of a query.
 
+#![tactic(auto)]
+
 pub mod mods;
 pub mod vars;
 
@@ -10,7 +12,7 @@ use definition_state::Progress;
 use names::Names;
 
 // The analysis, the names used, and the row whose comprehensions are to be analysed: 0 where there are none.
-#[derive(Drop)]
+#[derive(Clone, Copy)]
 pub struct Using {
     pub progress: Progress,
     pub names: Names,

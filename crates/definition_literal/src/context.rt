@@ -4,7 +4,7 @@ use names::Names;
 
 // The statement's number, the row of its modifiers' chain or 0 where they have no comprehension, the names that they use, and the levels
 // left for nested queries.
-#[derive(Drop)]
+#[derive(Clone, Copy)]
 pub struct Context {
     pub statement: usize,
     pub mods: usize,

@@ -1,5 +1,7 @@
 // What the analysis of a literal is made of, besides its comprehensions.
 
+#![tactic(auto)]
+
 pub mod body;
 pub mod context;
 pub mod extra;

@@ -14,7 +14,7 @@ use sheet::Row;
 use sheet_rows::kinds::ARRAY;
 
 // Rows to assign to each other, chains of rows to pair, 0 where there are none; or arrays whose lengths differ.
-#[derive(Drop)]
+#[derive(Clone, Copy)]
 pub struct Pair {
     pub left: usize,
     pub right: usize,

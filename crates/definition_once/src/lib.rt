@@ -1,1 +1,3 @@
 // The way that analyses each query once, and laws that follow its steps: see specs/Inner/ and proofs/Laws/.
+
+#![tactic(auto)]

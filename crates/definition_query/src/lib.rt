@@ -1,4 +1,6 @@
 // The analysis of a sheet's queries.
 
+#![tactic(auto)]
+
 pub mod query;
 pub mod snippet;

@@ -1,6 +1,8 @@
 // What the analysis of one query has come to, as a value that each step takes and hands back. Its first uses, its definitions and the
 // answers of the queries before it are kept beside it, in lent memory.
 
+#![tactic(auto)]
+
 ghost use Rattle.std.specs.Prelude.{◌≡◌};
 ghost use Rattle.definition_state.specs.Inner.Faults.{is_sound};
 ghost use Rattle.definition_state.specs.Inner.Frames.{failed, scoped, with_count};
@@ -10,7 +12,7 @@ use scope_state::Scope;
 
 // No fault so far; an undefined variable, a use before its definition, arrays whose lengths differ, each with its line and column; an
 // index variable inside a some-in pattern.
-#[derive(Drop)]
+#[derive(Clone, Copy)]
 pub enum Fault {
     Sound,
     Undefined(u16, u16),
@@ -34,7 +36,7 @@ impl Fault {
 }
 
 // The scope, how many rows of definitions there are, the first fault, and the width of sets in lent memory, which stays.
-#[derive(Drop)]
+#[derive(Clone, Copy)]
 pub struct Progress {
     pub scope: Scope,
     pub count: usize,

@@ -7,7 +7,7 @@ use names::Names;
 
 // The names used, how many definitions there are, the row of the first undefined variable or 0, whether `input` is read, and whether
 // there is a comprehension.
-#[derive(Drop)]
+#[derive(Clone, Copy)]
 pub struct Used {
     pub names: Names,
     pub count: usize,

@@ -3,6 +3,8 @@
 // By value, words are read and stored in loops over WORDS alone: unrolled, these have constant indexes, where an index that a name gives would have
 // the set stored to memory and loaded back at once, which stalls. A set in lent words has no such cost (`has`, `add`).
 
+#![tactic(auto)]
+
 pub mod statements;
 
 ghost use Rattle.std.specs.Prelude.{◌≡◌, cond, ◌-◌, ◌<◌, length, get_or};
@@ -20,7 +22,7 @@ pub const CAPACITY: usize = 64 * WORDS;
 
 // The name n is bit n % 64 of word n / 64. Laid out for C: it is part of what an exported call takes.
 #[repr(C)]
-#[derive(Drop)]
+#[derive(Clone, Copy)]
 pub struct Names {
     pub words: [u64; WORDS],
 }

@@ -9,7 +9,7 @@ use crate::{above, lowest, pick};
 // How many statements there are.
 pub const STATEMENTS: usize = base::STATEMENTS;
 
-#[derive(Drop)]
+#[derive(Clone, Copy)]
 pub struct Statements {
     pub words: [u64; 2],
 }

@@ -1,5 +1,7 @@
 // Sets in lent memory, of as many words as a width says: one text for every width. By value a set has room for the widest.
 
+#![tactic(auto)]
+
 ghost use Rattle.std.specs.Prelude.{◌≡◌, ◌+◌, ◌-◌, ◌*◌, ◌/◌, ◌≤◌, ◌<◌, length};
 ghost use Rattle.names.specs.Inner.Sets.{Next};
 ghost use Rattle.names_width.specs.Inner.Widths.{set_words, names, work, row_words, Same, Put};
@@ -8,7 +10,7 @@ ghost use Rattle.base.specs.Sets.{words_at};
 use names::{Names, above, lowest};
 
 // How many words a set has: a call's limits say it.
-#[derive(Drop)]
+#[derive(Clone, Copy)]
 pub enum Width {
     Two,
     Eight,

@@ -1,5 +1,7 @@
 // The exported calls, with C linkage. A slice passes as a pointer and a length.
 
+#![tactic(auto)]
+
 ghost use Rattle.std.specs.Prelude.{◌≡◌, List, ◌≤◌, length};
 ghost use Rattle.base.specs.Limits.{library};
 ghost use Rattle.order.specs.Call.{refusal};

@@ -1,7 +1,9 @@
 // Walks, definitions and turns, as definitions: see specs/. The scheduler's outcome stands here.
 
+#![tactic(auto)]
+
 // What the call comes to.
-#[derive(Drop)]
+#[derive(Clone, Copy)]
 pub enum Outcome {
     Refused,
     Placed,

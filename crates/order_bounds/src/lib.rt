@@ -1,5 +1,7 @@
 // The one question put to a list of definitions before it is scheduled.
 
+#![tactic(auto)]
+
 ghost use Rattle.std.specs.Prelude.{◌≡◌};
 ghost use Rattle.base.specs.Lists.{all};
 ghost use Rattle.names_width.specs.Widths.{limits};

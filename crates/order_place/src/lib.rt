@@ -1,5 +1,7 @@
 // The turn rule: statements are placed in lent buffers, turn by turn.
 
+#![tactic(auto)]
+
 ghost use Rattle.std.specs.Prelude.{◌≡◌, ℕ, ◌<◌, ◌≤◌, length, get_or};
 ghost use Rattle.base.specs.Limits as limits;
 ghost use Rattle.base.specs.Lists.{range};
@@ -19,7 +21,7 @@ use order_rows::{CELLS, MASKS};
 
 // What is placed so far. The order is in a lent buffer, and a mark for each statement placed is in another. The names that these define are in
 // lent words: in the state they would be copied at each call.
-#[derive(Drop)]
+#[derive(Clone, Copy)]
 pub struct State {
     // The statements placed.
     pub placed: Statements,

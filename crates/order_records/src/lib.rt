@@ -1,6 +1,8 @@
 // Definitions as records: a lent run of them copied, and the scheduler's call over the copy.
 // Whatever holds a lent run of structs is proved by a walk of its code by hand. Here that is `copied` alone, which leaves an array by value.
 
+#![tactic(auto)]
+
 ghost use Rattle.std.specs.Prelude.{◌≡◌, List, ◌*◌, ◌<◌, ◌≤◌, length, take};
 ghost use Rattle.base.specs.Inner.Sizes as sizes;
 ghost use Rattle.base.specs.Limits as limits;
@@ -24,7 +26,7 @@ pub const ROWS: usize = ROW * DEFINITIONS;
 
 // A statement, the name that it defines, and the names that it uses; laid out for C.
 #[repr(C)]
-#[derive(Drop)]
+#[derive(Clone, Copy)]
 pub struct Definition {
     pub statement: u16,
     pub name: u16,

@@ -1,5 +1,7 @@
 // Whether the definitions of a statement resolve from the names known.
 
+#![tactic(auto)]
+
 ghost use Rattle.std.specs.Prelude.{◌≡◌, ℕ, ◌<◌, length};
 ghost use Rattle.base.specs.Limits as limits;
 ghost use Rattle.names_width.specs.Inner.Widths.{row_words};
@@ -13,7 +15,7 @@ use names_width::Width;
 use order_rows::CELLS;
 
 // What a pass found: whether a definition still waits, and whether there is a name more than before.
-#[derive(Drop)]
+#[derive(Clone, Copy)]
 pub struct Passed {
     pub waiting: bool,
     pub grew: bool,

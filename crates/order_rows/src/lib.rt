@@ -1,5 +1,7 @@
 // A list of definitions as rows of words, and its two indexes: the rows of each statement, and the statements of each name.
 
+#![tactic(auto)]
+
 ghost use Rattle.std.specs.Prelude.{◌≡◌, ℕ, ◌+◌, ◌*◌, ◌<◌, ◌≤◌, length, get_or};
 ghost use Rattle.base.specs.Limits as limits;
 ghost use Rattle.base.specs.Inner.Sizes as sizes;

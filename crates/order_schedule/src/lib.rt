@@ -1,5 +1,7 @@
 // The scheduler's call over lent numbers.
 
+#![tactic(auto)]
+
 ghost use Rattle.std.specs.Prelude.{◌≡◌, ℕ, length, get_or};
 ghost use Rattle.base.specs.Limits as limit;
 ghost use Rattle.order.specs.Inner.Orders.{placed_order};

@@ -1,5 +1,7 @@
 // The printing program: a sheet from standard input, its answer or its refusal to standard output.
 
+#![tactic(auto)]
+
 mod printing;
 
 use crate::printing::put_printed;

@@ -1,5 +1,7 @@
 // The printing program's call with C linkage, for comparisons and benchmarks: a host has `nokchbem_analyze`, which takes more names.
 
+#![tactic(auto)]
+
 ghost use Rattle.std.specs.Prelude.{length};
 ghost use Rattle.base.specs.Limits.{printing};
 ghost use Rattle.nokchbem.specs.Calls.{AnalyzeCall};

@@ -1,1 +1,3 @@
 // Expressions as trees, scopes, and gathering, as definitions: see specs/.
+
+#![tactic(auto)]

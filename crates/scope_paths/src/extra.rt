@@ -12,7 +12,7 @@ use sheet_rows::kinds::CALL;
 use sheet_rows::{next_at, row_at};
 
 // How many expressions a chain has, and the row of the last, or 0.
-#[derive(Drop)]
+#[derive(Clone, Copy)]
 pub struct End {
     pub count: usize,
     pub last: usize,

@@ -11,7 +11,7 @@ use sheet_rows::kinds::STRING;
 use sheet_rows::row_at;
 
 // `size` is 0 for no path at all, one more than the number of names up to 3, and 5 for more.
-#[derive(Drop)]
+#[derive(Clone, Copy)]
 pub struct Path {
     pub size: u16,
     pub first: u16,

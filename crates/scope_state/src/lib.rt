@@ -1,5 +1,7 @@
 // A scope by value, where its locals stand, the special names, and the scopes around a nested query.
 
+#![tactic(auto)]
+
 pub mod enclose;
 pub mod outer;
 pub mod spans;
@@ -11,7 +13,7 @@ ghost use Rattle.scope_state.specs.Inner.Agrees.{Sets, NoNames, WithLocal, WithU
 
 use names::Names;
 
-#[derive(Drop)]
+#[derive(Clone, Copy)]
 pub struct Scope {
     pub locals: Names,
     pub unscoped: Names,

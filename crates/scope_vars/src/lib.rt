@@ -1,5 +1,7 @@
 // The walks that gather the variables of an expression: patterns, inputs, loops.
 
+#![tactic(auto)]
+
 pub mod assigned;
 pub mod each;
 pub mod input;

@@ -1,12 +1,14 @@
 // Where a walk over an expression goes from a row: into its parts, and on to the rest of its chain.
 
+#![tactic(auto)]
+
 ghost use Rattle.std.specs.Prelude.{◌≡◌, cond, [], ◌∷◌};
 ghost use Rattle.scope_walk.specs.Inner.Kids.{kids_from};
 
 use sheet::Row;
 
 // The rows that are entered, in order; 0 behind the last.
-#[derive(Drop)]
+#[derive(Clone, Copy)]
 pub struct Kids {
     pub first: usize,
     pub second: usize,

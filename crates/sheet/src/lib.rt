@@ -1,9 +1,11 @@
 // The rows of a sheet, and where they stand in the tables.
 
+#![tactic(auto)]
+
 use base::{BUILT_INS, EXPRESSIONS, NAMES, QUERIES, STATEMENTS};
 
 // Room for rows of so many values: row r, counted from 1, stands at start + width * r.
-#[derive(Drop)]
+#[derive(Clone, Copy)]
 pub struct Area {
     pub start: usize,
     pub width: usize,
@@ -43,7 +45,7 @@ pub const QUERY_AREA: Area = Area {
 };
 
 // What a field holds: the number of a row of a section.
-#[derive(Drop)]
+#[derive(Clone, Copy)]
 pub struct Field {
     pub section: u32,
     // It may not be 0.
@@ -59,7 +61,7 @@ pub struct Field {
 }
 
 // The rows of the names that the language gives a meaning, or 0.
-#[derive(Drop)]
+#[derive(Clone, Copy)]
 pub struct Special {
     pub blank: usize,
     pub input: usize,
@@ -67,7 +69,7 @@ pub struct Special {
 }
 
 // What a sheet comes to: read, or the first question that it fails, with the first line at fault.
-#[derive(Drop)]
+#[derive(Clone, Copy)]
 pub enum Outcome {
     Read,
     NoRoom,
@@ -79,7 +81,7 @@ pub enum Outcome {
 }
 
 // A built-in's arity and path.
-#[derive(Drop)]
+#[derive(Clone, Copy)]
 pub struct Builtin {
     pub arity: u16,
     pub first: u16,
@@ -87,7 +89,7 @@ pub struct Builtin {
     pub third: u16,
 }
 
-#[derive(Drop)]
+#[derive(Clone, Copy)]
 pub struct Statement {
     pub form: u16,
     pub first: u16,
@@ -99,7 +101,7 @@ pub struct Statement {
 }
 
 // An expression and its position.
-#[derive(Drop)]
+#[derive(Clone, Copy)]
 pub struct Row {
     pub kind: u16,
     pub name: u16,
@@ -112,7 +114,7 @@ pub struct Row {
 }
 
 // How many rows each section has.
-#[derive(Drop)]
+#[derive(Clone, Copy)]
 pub struct Counts {
     pub names: usize,
     pub builtins: usize,

@@ -1,6 +1,8 @@
 // What is asked of the members of a chain: a row, then the row that its `next` names, as long as that is a later one. What the chain from
 // each row on comes to is kept as one number in lent memory, behind the marks, so that no chain is walked.
 
+#![tactic(auto)]
+
 ghost use Rattle.std.specs.Prelude.{◌≡◌, ◌≤◌, length};
 ghost use Rattle.base.specs.Limits as limits;
 ghost use Rattle.base.specs.Inner.Sizes as sizes;

@@ -1,5 +1,7 @@
 // Question 5: are the counts of rows in bounds?
 
+#![tactic(auto)]
+
 ghost use Rattle.std.specs.Prelude.{◌≡◌, [], ◌∷◌};
 ghost use Rattle.names_width.specs.Widths.{limits};
 ghost use Rattle.sheet.specs.Questions.{count_fault};

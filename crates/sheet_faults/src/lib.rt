@@ -1,5 +1,7 @@
 // Which rows of a sheet are at fault by what their fields hold and name, and the first line of such a row.
 
+#![tactic(auto)]
+
 mod builtins;
 mod field;
 mod rows;

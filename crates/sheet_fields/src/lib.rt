@@ -1,5 +1,7 @@
 // What the fields of a row hold, by its kind or form.
 
+#![tactic(auto)]
+
 ghost use Rattle.std.specs.Prelude.{◌≡◌};
 ghost use Rattle.sheet.specs.Fields.{limit_of};
 ghost use Rattle.sheet_fields.specs.Inner.Packed.{kind_fields, form_fields, field_from};

@@ -1,5 +1,7 @@
 // The sheet as a whole: question 3, and the tables.
 
+#![tactic(auto)]
+
 ghost use Rattle.std.specs.Prelude.{◌≡◌, [], ◌≤◌, length};
 ghost use Rattle.base.specs.Limits as limits;
 ghost use Rattle.sheet.specs.Form.{fault_of};
@@ -9,7 +11,7 @@ ghost use Rattle.sheet_form.specs.Inner.Reads.{SheetRead};
 use sheet_sections::Progress;
 
 // The first line that has not the form, or 0; then how many rows each section has.
-#[derive(Drop)]
+#[derive(Clone, Copy)]
 pub struct Read {
     pub fault: usize,
     pub names: usize,

@@ -1,5 +1,7 @@
 // The level of a query, from the marks: row 1 is level 1, and a nested query one deeper than the query that encloses it.
 
+#![tactic(auto)]
+
 ghost use Rattle.std.specs.Prelude.{◌≡◌, ◌≤◌, length};
 ghost use Rattle.base.specs.Inner.Sizes as sizes;
 ghost use Rattle.base.specs.Limits as limits;

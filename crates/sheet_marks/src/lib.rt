@@ -1,5 +1,7 @@
 // How often and by what each row of a sheet is named, and the query that encloses it, as a mark a row in lent memory.
 
+#![tactic(auto)]
+
 mod homes;
 mod named;
 mod rows;

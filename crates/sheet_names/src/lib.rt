@@ -1,5 +1,7 @@
 // Question 4: are the names well made, and strictly ascending in bytes?
 
+#![tactic(auto)]
+
 ghost use Rattle.std.specs.Prelude.{◌≡◌, true, ◌≤◌, length, drop};
 ghost use Rattle.sheet.specs.Text.{lines};
 ghost use Rattle.sheet.specs.Inner.Lines.{is_line, line_at};

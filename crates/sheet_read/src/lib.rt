@@ -1,5 +1,7 @@
 // The reader's call: the questions put to a sheet, and its rows in the tables.
 
+#![tactic(auto)]
+
 ghost use Rattle.std.specs.Prelude.{◌≡◌, ◌&&◌, ◌≤◌, leb, length};
 ghost use Rattle.std.proofs.lemmas.List.Edits.{sets};
 ghost use Rattle.base.specs.Inner.Sizes as sizes;

@@ -1,5 +1,7 @@
 // The rows of a sheet as they stand in the tables. Rows count from 1, and a section's row r stands at its area and r times its width.
 
+#![tactic(auto)]
+
 pub mod kinds;
 
 ghost use Rattle.std.specs.Prelude.{◌≡◌, ◌≤◌, length};

@@ -1,5 +1,7 @@
 // A section of a sheet: its heading, and its rows up to an empty line, whose values go into the tables.
 
+#![tactic(auto)]
+
 ghost use Rattle.std.specs.Prelude.{◌≡◌, true, ◌+◌, ◌≤◌, length, drop};
 ghost use Rattle.sheet.specs.Text.{lines};
 ghost use Rattle.sheet.specs.Inner.LineBytes.{no_newline};
@@ -13,7 +15,7 @@ use sheet::Area;
 use sheet_values::Line;
 
 // The rows of a section up to its empty line, and the place behind that; where not good, the rows in front of the line at fault.
-#[derive(Drop)]
+#[derive(Clone, Copy)]
 pub struct Rows {
     pub good: bool,
     pub next: usize,
@@ -21,7 +23,7 @@ pub struct Rows {
 }
 
 // How far a sheet is read: the next place and its line, and the rows of the last section; where not good, the line at fault.
-#[derive(Drop)]
+#[derive(Clone, Copy)]
 pub struct Progress {
     pub good: bool,
     pub next: usize,

@@ -1,5 +1,7 @@
 // A row of values, read from the bytes of a sheet.
 
+#![tactic(auto)]
+
 ghost use Rattle.std.specs.Prelude.{◌≡◌, ◌+◌, ◌≤◌, ◌<◌, length, drop};
 ghost use Rattle.base.specs.Limits as limits;
 ghost use Rattle.sheet_values.specs.Inner.Numbers.{digit_at, NumberRead, Checked};
@@ -10,7 +12,7 @@ ghost use Rattle.sheet_values.specs.Inner.Rows.{RowRead};
 const LARGEST: u32 = base::LARGEST_VALUE;
 
 // Digits that are a number, their value, and the place behind them.
-#[derive(Drop)]
+#[derive(Clone, Copy)]
 pub struct Number {
     pub good: bool,
     pub value: u16,
@@ -18,7 +20,7 @@ pub struct Number {
 }
 
 // A number with a separator behind it, and the place behind that.
-#[derive(Drop)]
+#[derive(Clone, Copy)]
 pub struct Field {
     pub good: bool,
     pub value: u16,
@@ -26,7 +28,7 @@ pub struct Field {
 }
 
 // A line that has its form, and the place behind it.
-#[derive(Drop)]
+#[derive(Clone, Copy)]
 pub struct Line {
     pub good: bool,
     pub next: usize,
