@@ -44,6 +44,9 @@ front at (s ∷ ss) [] (ls ∷ rs) d (next w sh) i h = refl
 front at (s ∷ ss) (m ∷ most) (ls ∷ rs) d (next w sh) i h =
     let a = area_of at s m in
     front (area_end a) ss most rs (put_rows a 1 ls d) sh i (omega arith) ∙ put_rows-other a 1 ls d w i (inl (omega arith))
+front at [] most (ls ∷ rs) d x4 i h = elim x4 [ ]
+front at (s ∷ ss) [] [] d x5 i h = elim x5 [ ]
+front at (s ∷ ss) (m ∷ most) [] d x6 i h = elim x6 [ ]
 
 -- No area: it has no row.
 abbrev nowhere : Area
@@ -70,6 +73,9 @@ stored at (s ∷ ss) (m ∷ most) (ls ∷ rs) d (next w sh) fits zero n f h b g 
 stored at (s ∷ ss) (m ∷ most) (ls ∷ rs) d (next w sh) fits (suc k) n f h b g =
     let a = area_of at s m in
     stored (area_end a) ss most rs (put_rows a 1 ls d) sh (omega (arith, length-put_rows a 1 ls d)) k n f h b g
+stored at [] most (ls ∷ rs) d x10 fits k n f h b g = elim x10 [ ]
+stored at (s ∷ ss) [] [] d x8 fits k n f h b g = elim x8 [ ]
+stored at (s ∷ ss) (m ∷ most) [] d x9 fits k n f h b g = elim x9 [ ]
 
 -- ---- the five sections
 
