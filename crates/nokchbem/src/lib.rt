@@ -1,4 +1,4 @@
-// The exported calls, with C linkage. A slice passes as a pointer and a length.
+// The calls of the library. `nokchbem_c` exports them with C linkage.
 
 #![tactic(auto)]
 
@@ -28,8 +28,7 @@ pub fn pack(number: u64, line: usize, col: usize) -> u64
 // `definitions` are rows of ten words: statement, name (0 is the empty one, 511 the largest), and the eight words of the used names. `order`
 // receives the statements in order, `reached` a mark for each; both hold zeros after the first `statements` entries. Returns the mark placed,
 // 1 or 0, or refusal 8 as 8 x 2^32 with both buffers zeroed.
-#[unsafe(no_mangle)]
-pub extern "C" fn nokchbem_schedule(
+pub fn nokchbem_schedule(
     definitions: &[u64],
     statements: usize,
     order: &mut [u16],
@@ -54,8 +53,7 @@ fn schedule_copy(
 }
 
 // The same as `nokchbem_schedule`, of definitions that are records. More than 640 of them are refused as more than 640 rows are.
-#[unsafe(no_mangle)]
-pub extern "C" fn nokchbem_schedule_records(
+pub fn nokchbem_schedule_records(
     records: &[Definition],
     statements: usize,
     order: &mut [u16],
@@ -76,8 +74,7 @@ pub extern "C" fn nokchbem_schedule_records(
 //
 // `tables` has at least 8,192 entries and receives the sheet's counts and rows; `work` has at least 24,576 words, which are zeros
 // afterwards. Returns 0, or a refusal 1 to 6 and the first line at fault as number x 2^32 + line x 2^16, with both buffers zeroed.
-#[unsafe(no_mangle)]
-pub extern "C" fn nokchbem_read(sheet: &[u8], tables: &mut [u16], work: &mut [u64]) -> u64
+pub fn nokchbem_read(sheet: &[u8], tables: &mut [u16], work: &mut [u64]) -> u64
     ensures { ReadCall library sheet.now (length tables.old) (length work.old) result tables.new work.new }
 {
     let outcome = sheet_read::read(sheet, tables, work, Width::Eight);
@@ -89,8 +86,7 @@ pub extern "C" fn nokchbem_read(sheet: &[u8], tables: &mut [u16], work: &mut [u6
 // `tables` and `work` as above; `answer` receives the text, and zeros behind it. Returns 0; or a refusal 1 to 6 and the first line of the
 // sheet at fault, a fault 11 to 14 and its line and column, or 7 where the text does not fit, as number x 2^32 + line x 2^16 + col, with
 // `answer` zeroed. `tables` and `work` are zeros afterwards in any case.
-#[unsafe(no_mangle)]
-pub extern "C" fn nokchbem_analyze(
+pub fn nokchbem_analyze(
     sheet: &[u8],
     tables: &mut [u16],
     work: &mut [u64],
