@@ -9,31 +9,35 @@ use Rattle.names_width.specs.Inner.Widths.{row_words}
 use Rattle.names_width.proofs.Laws.Laws.{row_words_lem, row-whole}
 use Rattle.order.specs.Call.{row_count, statement_at, var_at}
 use Rattle.order_rows.proofs.Laws.MaskLaws.{masked-first, masked-next}
+use Rattle.order_rows.proofs.mask.Goals.{In-loop-k}
 use Rattle.order_rows.proofs.mask.Goals as goal
 
 -- The row at hand is whole, and its statement and name are in bounds.
-module _ (c : tie.In-loop invariant-loop decreases-loop) where
-  there : c.before.loop.k < length c.before.before.before.before.args.rows.now / c.before.before.row.result
+module _ (c : In-loop-k) where
+  there : c.loop-k.k < length c.args.rows.now / c.row-row.result
   there = omega arith
 
-  whole : c.before.before.row.result * c.before.loop.k + c.before.before.row.result
-      ≤ length c.before.before.before.before.args.rows.now
-  whole = row-whole _ c.before.loop.k c.before.before.before.before.args.rows.now there
+  whole : c.row-row.result * c.loop-k.k + c.row-row.result
+      ≤ length c.args.rows.now
+  whole = row-whole _ c.loop-k.k c.args.rows.now there
 
-  small : (statement_at c.before.before.row.result c.before.before.before.before.args.rows.now c.before.loop.k < 128)
-      × (var_at c.before.before.row.result c.before.before.before.before.args.rows.now c.before.loop.k < 512)
+  small : (statement_at c.row-row.result c.args.rows.now c.loop-k.k < 128)
+      × (var_at c.row-row.result c.args.rows.now c.loop-k.k < 512)
   small =
-      let v = c.before.before.row.ensures in
-      let pre = c.before.before.before.before.requires in
-      (rw v (pre.0 c.before.loop.k (rw v at there)), rw v (pre.1.0 c.before.loop.k (rw v at there)))
+      let v = c.row-row.ensures in
+      let pre = c.requires in
+      (rw v (pre.by_index c.loop-k.k (rw v at there)), rw v (pre.by_index_2 c.loop-k.k (rw v at there)))
 
-  wide : 2 ≤ c.before.before.row.result
-  wide = omega (arith, c.before.before.row.ensures, row_words_lem c.before.before.before.before.args.width)
+  wide : 2 ≤ c.row-row.result
+  wide = omega (arith, c.row-row.ensures, row_words_lem c.args.width)
+
+pub nonzero_div-count : goal.nonzero_div-count
+nonzero_div-count c = omega (arith, c.row-row.ensures, row_words_lem c.args.width)
 
 pub loop-k-init : goal.loop-k-init
 loop-k-init c =
     let pre = c.requires in
-    (search rules, pre.by_index_2.1.0, length-replicate {A = ℕ} 8 0, masked-first _ _ _ _ pre.by_index_2.1.0 pre.by_index_2.1.1 (zeros-empty 8))
+    (search rules, pre.masks_len.0, length-replicate {A = ℕ} 8 0, masked-first _ _ _ _ pre.masks_len.0 pre.masks_len.1 (zeros-empty 8))
 
 pub overflow_mul-name : goal.overflow_mul-name
 overflow_mul-name c = record { fits = omega (arith, whole c) }

@@ -1,6 +1,6 @@
 -- The two words of the name.
 use mathlib.Core.Path.{◌≡◌, ap}
-use mathlib.Core.List.{◌∷◌}
+use mathlib.Core.List.{[], ◌∷◌}
 use Prim.Native.Nat.{ℕ, suc, ◌+◌, ◌*◌}
 use native.Mathlib.Omega.{arith}
 use lib.ListN.{get_or}

@@ -15,7 +15,7 @@ use Rattle.sheet_sections.proofs.section_at.Goals as goal
 headed : (c : Else-not-line_is)
     → let start = c.args in
     has_line start.heading.now (lines (drop start.p.next start.s.now)) ≡ true
-headed c = sym c.line_is.ensures ∙ not-false _ c.if-not-line_is.false
+headed c = sym c.line_is.ensures ∙ c.if-not-line_is.false
 
 -- So the rows start inside the sheet.
 inside : (c : Else-not-line_is)
@@ -42,7 +42,7 @@ line_is-requires c =
 pub returns-then-not-line_is : goal.returns-then-not-line_is
 returns-then-not-line_is c =
     section-none _ _ _ _ _ (not-false _ c.if-not-p.false) c.requires.sound_progress
-    (sym c.line_is.ensures ∙ not-true _ c.if-not-line_is.true) _ refl refl _
+    (sym c.line_is.ensures ∙ c.if-not-line_is.true) _ refl refl _
 
 pub overflow_add-at : goal.overflow_add-at
 overflow_add-at c = omega (arith, inside c)

@@ -4,6 +4,7 @@ use mathlib.Core.Path.{◌≡◌, refl, sym, subst, ap, ◌∙◌}
 use mathlib.Core.List.{List}
 use Prim.Native.Nat.{ℕ, ◌+◌}
 use native.Mathlib.Omega.{arith}
+use Rattle.sheet.specs.declared.Statement.{Statement}
 use Rattle.sheet.specs.Naming.{statement_row, by_statements}
 use Rattle.sheet_marks.specs.Inner.Marks.{Marks, row_work}
 use Rattle.sheet_marks.specs.Inner.Rows.{fields_of}

@@ -8,7 +8,7 @@ use Rattle.sheet_marks.proofs.rows.place_of.Goals as goal
 pub returns-then-field : goal.returns-then-field
 unfolding place_of field_from
 returns-then-field c =
-    let a = c.args in rw c.if-field.true (c.Named-by.ensures ∙ ap (λ (f : Field). target a.counts f a.x.third) c.field_from.ensures)
+    let a = c.args in rw c.if-field.true (c.named_by.ensures ∙ ap (λ (f : Field). target a.counts f a.x.third) c.field_from.ensures)
 
 pub returns : goal.returns
 unfolding place_of

@@ -1,0 +1,79 @@
+-- The answers are lent on and come back (Answers.antt); with what the scheduler left, the schedule enters the table (`concluded`).
+use mathlib.Core.Path.{sym, ap}
+use Prim.Native.Nat.{ℕ, ◌+◌, ◌*◌, ◌≤◌}
+use native.Mathlib.Omega.{arith}
+use lib.ListN.{length}
+use lib.Seq.{length-take-le}
+use Rattle.answer_blocks.specs.Inner.Layout.{answers_size}
+use Rattle.order_rows.proofs.Laws.Zeros.{zero-at}
+use Rattle.answer_schedule.proofs.Laws.Bases.{roomy}
+use Rattle.answer_schedule.proofs.Laws.Answers.{lent_is, lent-long, lent-room, answers_back-length, back-answers, back-front}
+use Rattle.answer_schedule.proofs.Laws.Places.{entries_in}
+use Rattle.answer_schedule.proofs.Laws.Entering.{lent-taken, lent_arranged, concluded}
+use Rattle.answer_schedule.proofs.Laws.Counts.{count-few}
+use Rattle.answer_schedule.proofs.conclude.Goals.{After-row}
+use Rattle.answer_schedule.proofs.conclude.Goals as goal
+
+-- The rows lie in front of the answers.
+rows_fit : (c : After-row) → (let a = c.args in c.row.result * a.count + answers_size a.width ≤ length a.work.now)
+rows_fit c =
+    omega (arith, ap (λ (m : ℕ). m * c.args.count) c.row.ensures, c.requires.width_in_bounds.0)
+
+pub overflow_mul-rows : goal.overflow_mul-rows
+overflow_mul-rows c = record { fits = omega (arith, rows_fit c) }
+
+pub slice_bounds-arrange_rows-end : goal.slice_bounds-arrange_rows-end
+slice_bounds-arrange_rows-end c = omega (arith, rows_fit c)
+
+pub slice_bounds-arrange_rows-end-2 : goal.slice_bounds-arrange_rows-end-2
+slice_bounds-arrange_rows-end-2 c =
+    let a = c.args in
+    sym (length-take-le (c.row.result * a.count) a.work.now (omega (arith, rows_fit c)))
+
+pub arrange_rows-placed-requires : goal.arrange_rows-placed-requires
+arrange_rows-placed-requires c =
+    let a = c.args in
+    (lent-taken a.width a.work.now _ a.count _ c.row.ensures _ a.query c.count_stmts-n.ensures c.requires.schedulable, (zero-at 128, zero-at 128))
+
+pub store_answer-requires : goal.store_answer-requires
+store_answer-requires c =
+    let pre = c.requires in
+    let v = c.args.width in
+    let w = c.args.work.now in
+    let enough : answers_size v ≤ length w = omega (arith, pre.width_in_bounds.0) in
+    let count = c.count_stmts-n in
+    let s = c.arrange_rows-placed in
+    let m = c.answers_of in (
+      (
+        record {
+          room = lent-long v w _ m.ensures enough;
+          from = pre.asks_conclude.from;
+          to = omega (arith, pre.asks_conclude.to, pre.asks_conclude.accepted.within.few-queries);
+        },
+        pre.asks_conclude.spans-room,
+      ),
+      record {
+        places-room = lent-room v w _ m.ensures enough _ pre.width_in_bounds.1 (roomy _ pre.asks_conclude.accepted) _ pre.asks_conclude.from pre.asks_conclude.to _ count.ensures;
+        ordered = omega (arith, count.ensures, count-few _ pre.asks_conclude.accepted c.args.query, s.auto.order);
+        marked = entries_in _ _ _ _ _ _ _ _ s.ensures (omega (arith, count.ensures, count-few _ pre.asks_conclude.accepted c.args.query, s.auto.reached));
+      },
+    )
+
+pub returns : goal.returns
+returns c =
+    let pre = c.requires in
+    let a = c.args in
+    let v = a.width in
+    let w = a.work.now in
+    let enough : answers_size v ≤ length w = omega (arith, pre.width_in_bounds.0) in
+    let count = c.count_stmts-n in
+    let row = c.row in
+    let s = c.arrange_rows-placed in
+    let m = c.answers_of in
+    let last = c.store_answer in
+    let p = last.new.answers in
+    concluded v a.tables.now pre.asks_conclude.accepted (roomy _ pre.asks_conclude.accepted) w a.query pre.asks_conclude.from pre.asks_conclude.to a.scope a.spans.now
+    a.count pre.width_in_bounds.0 count.result count.ensures s.result _ _ (lent_arranged v w _ a.count _ row.ensures _ _ _ s.ensures)
+    _ (lent_is v w _ m.ensures enough) p last.ensures _
+    (back-answers v w _ m.ensures enough p last.auto.answers)
+    (answers_back-length v w _ m.ensures enough p last.auto.answers) (back-front v w _ m.ensures enough p last.auto.answers)

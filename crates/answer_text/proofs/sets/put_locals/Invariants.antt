@@ -1,0 +1,11 @@
+-- The loop's invariant: the lines of the locals below x are written.
+use Prim.Native.Nat.{◌-◌}
+use Rattle.answer_text.proofs.Laws.Listed.{ListedLines}
+use Rattle.answer_text.specs.Inner.Texts.{local_line}
+use Rattle.answer_text.proofs.sets.put_locals.Given as goal
+
+abbrev pub invariant-loop-x : goal.invariant-loop-x
+invariant-loop-x l = ListedLines (local_line l.width l.answers l.q) l.names.words l.initial.answer l.initial.place l.x l.answer l.place
+
+abbrev pub decreases-loop-x : goal.decreases-loop-x
+decreases-loop-x l = 512 - l.x

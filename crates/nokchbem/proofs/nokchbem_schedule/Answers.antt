@@ -1,0 +1,9 @@
+-- What `schedule` leaves, with its outcome as a number.
+use mathlib.Core.Path.{ap, ◌∙◌}
+use Rattle.order.specs.Call.{schedule_number}
+use Rattle.nokchbem.proofs.nokchbem_schedule.Goals as goal
+
+pub returns : goal.returns
+returns c =
+    let s = c.schedule.ensures in
+    record { returned = c.number_of.ensures ∙ ap schedule_number s.came-to; ordered = s.ordered; marked = s.marked }

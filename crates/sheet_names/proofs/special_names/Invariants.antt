@@ -1,0 +1,11 @@
+-- The loop's invariant: the names that follow are still to be looked at (`Finding`).
+use Prim.Native.Nat.{◌-◌}
+use lib.ListN.{length}
+use Rattle.sheet_names.proofs.Laws.Finding.{Finding}
+use Rattle.sheet_names.proofs.special_names.Given as goal
+
+abbrev pub invariant-loop-at : goal.invariant-loop-at
+invariant-loop-at l = Finding l.s at row l.at l.row «data»
+
+abbrev pub decreases-loop-at : goal.decreases-loop-at
+decreases-loop-at l = length l.s - at
