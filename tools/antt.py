@@ -38,7 +38,7 @@ def brought(names):
 
 def place(path):
     """The crate, folder and module of a path; None for the kit's."""
-    found = re.match(r"Rattle·(\w+)(?:·\w+)?\.(specs|proofs)(?:\.(.*))?$", path)
+    found = re.match(r"Rattle\.(\w+)\.(specs|proofs)(?:\.(.*))?$", path)
     return found and (found[1], found[2], found[3] or "")
 
 
@@ -60,8 +60,8 @@ class Uses:
         """The places that a text names through these uses."""
         seen, out = words(text), set()
         for here, key in self.names.items():
-            parts = [part for part in here.split("_") if part]
-            if here in seen or any(word.startswith(here + ".") for word in seen) or ("_" in here and parts and seen >= set(parts)):
+            parts = [part for part in here.split("◌") if part]
+            if here in seen or any(word.startswith(here + ".") for word in seen) or ("◌" in here and parts and seen >= set(parts)):
                 out.add(key)
         for word in seen:
             head, _, tail = word.partition(".")
@@ -174,7 +174,7 @@ class Tree:
         seen = words(text)
         own = {d.key for d in module.declarations
             if d.name in seen or any(w.startswith(d.name + ".") for w in seen) or set(d.makes if d.kind == "data" else ()) & seen
-            or ("_" in d.name and seen >= {part for part in d.name.split("_") if part})}
+            or ("◌" in d.name and seen >= {part for part in d.name.split("◌") if part})}
         return {self.index[key] for key in own | module.uses.named(text) if key in self.index}
 
     def refers(self, one):

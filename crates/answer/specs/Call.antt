@@ -45,8 +45,8 @@ after_reading s room (BadCount l) = refused refusals.bad_count l 0
 after_reading s room (BadField l) = refused refusals.bad_field l 0
 
 -- All questions, put to bytes with lent buffers of these lengths: tables, work and the answer.
-unfoldable pub result : Limits → List ℕ → ℕ → ℕ → ℕ → Result
-result lim s tables work room = after_reading s room (questions.verdict lim s tables work)
+unfoldable pub result_of : Limits → List ℕ → ℕ → ℕ → ℕ → Result
+result_of lim s tables work room = after_reading s room (questions.verdict lim s tables work)
 
 -- ---- what is left
 
@@ -74,7 +74,7 @@ left_by tables work room (answered text) = record {
 
 -- All that the call leaves.
 unfoldable pub left : Limits → List ℕ → ℕ → ℕ → ℕ → Left
-left lim s tables work room = left_by tables work room (result lim s tables work room)
+left lim s tables work room = left_by tables work room (result_of lim s tables work room)
 
 -- ---- what is printed
 

@@ -7,7 +7,7 @@ pub mod replies;
 
 ghost use Rattle.std.specs.Prelude.{◌≡◌, length, replicate};
 ghost use Rattle.names_width.specs.Widths.{limits};
-ghost use Rattle.answer.specs.Call.{result, left};
+ghost use Rattle.answer.specs.Call.{result_of, left};
 ghost use Rattle.call.specs.Inner.Replies.{as_left, Replies};
 
 use crate::answering::answer_sheet;
@@ -23,7 +23,7 @@ fn reply_to(
     width: Width,
 ) -> Reply
     requires { answer.old ≡ replicate (length answer.old) 0 }
-    ensures* { λ r. ⌜ Replies (length answer.old) (result (limits width) sheet.now (length tables.old) (length work.old) (length answer.old)) r answer.new ⌝ }
+    ensures { Replies (length answer.old) (result_of (limits width) sheet.now (length tables.old) (length work.old) (length answer.old)) result answer.new }
 {
     let outcome = sheet_read::take(sheet, tables, work, width);
     if sheet_read::number_of(outcome) != 0 {
@@ -40,7 +40,7 @@ pub fn analyze(
     answer: &mut [u8],
     width: Width,
 ) -> Reply
-    ensures* { λ r. ⌜ as_left r tables.new work.new answer.new ≡ left (limits width) sheet.now (length tables.old) (length work.old) (length answer.old) ⌝ }
+    ensures { as_left result tables.new work.new answer.new ≡ left (limits width) sheet.now (length tables.old) (length work.old) (length answer.old) }
 {
     buffers::clear_bytes(answer);
     let reply = reply_to(sheet, tables, work, answer, width);

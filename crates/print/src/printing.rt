@@ -4,7 +4,7 @@ ghost use Rattle.std.specs.Prelude.{◌≡◌, ◌≤◌, length, take};
 ghost use Rattle.base.specs.Limits.{printing};
 ghost use Rattle.answer_write.specs.Inner.Writes.{Puts};
 ghost use Rattle.answer.specs.Text.{refusal_text};
-ghost use Rattle.answer.specs.Call.{result, printed};
+ghost use Rattle.answer.specs.Call.{result_of, printed};
 ghost use Rattle.io.specs.Counts.{IsPrefixLen};
 ghost use Rattle.print.specs.Inner.Ends.{Ends};
 
@@ -14,7 +14,7 @@ use names_width::Width;
 
 fn put_refusal(answer: &mut [u8], number: usize, line: usize, col: usize) -> usize
     requires { (number ≤ 65535) × (line ≤ 65535) × (col ≤ 65535) }
-    ensures* { λ r. ⌜ Puts answer.old 0 (refusal_text number line col) answer.new r ⌝ }
+    ensures { Puts answer.old 0 (refusal_text number line col) answer.new result }
 {
     let row = put_bytes(answer, 0, b"refusal line col\n");
     let end = put_three(answer, row, number, line, col);
@@ -23,7 +23,7 @@ fn put_refusal(answer: &mut [u8], number: usize, line: usize, col: usize) -> usi
 
 // How many bytes stand in front of the first zero.
 fn text_length(text: &[u8]) -> usize
-    ensures* { λ r. ⌜ Ends text.now r ⌝ }
+    ensures { Ends text.now result }
 {
     let mut at = 0;
     while at < text.len() {
@@ -38,7 +38,8 @@ fn text_length(text: &[u8]) -> usize
 // Answers how many bytes are to be printed. Any refusal has room in 64.
 pub fn put_printed(sheet: &[u8], tables: &mut [u16], work: &mut [u64], answer: &mut [u8]) -> usize
     requires { 64 ≤ length answer.old }
-    ensures* { λ r. ⌜ IsPrefixLen r answer.new × (take r answer.new ≡ printed (result printing sheet.now (length tables.old) (length work.old) (length answer.old))) ⌝ }
+    ensures fits { IsPrefixLen result answer.new }
+    ensures text { take result answer.new ≡ printed (result_of printing sheet.now (length tables.old) (length work.old) (length answer.old)) }
 {
     let reply = call::analyze(sheet, tables, work, answer, Width::Two);
     if reply.number != 0 {

@@ -9,7 +9,7 @@ use Rattle.names_width.specs.declared.Width.{Width}
 use Rattle.names_width.specs.Widths.{limits}
 use Rattle.sheet.specs.declared.Outcome.TheVariants.{Read}
 use Rattle.sheet.specs.Verdict.{read_tables, verdict}
-use Rattle.answer.specs.Call.{refused, answered, result}
+use Rattle.answer.specs.Call.{refused, answered, result_of}
 use Rattle.nokchbem.specs.Calls.{AnalyzeCall, ReadCall}
 
 -- The refusals of an input as a whole, and 14, to which the Rust gives no position; those of the sheet; and those of the walk.
@@ -55,9 +55,9 @@ module _ {lim : Limits} {s : List ℕ} {tables work room r : ℕ} {t w a : List 
   -- Either 0 is returned, tables and work are zeros, and the answer is a text with zeros behind it; or a refusal is returned, with a position as
   -- that refusal has it, and every lent element is 0.
   pub data Analyzed : Type 0 where
-    succeeds : (text : List ℕ) → r ≡ 0 → length text ≤ room → result lim s tables work room ≡ answered text
+    succeeds : (text : List ℕ) → r ≡ 0 → length text ≤ room → result_of lim s tables work room ≡ answered text
         → t ≡ replicate tables 0 → w ≡ replicate work 0 → a ≡ text ++ replicate (room - length text) 0 → Analyzed
-    refuses : (n l c : ℕ) → Parts r n l c → Position n l c → result lim s tables work room ≡ refused n l c
+    refuses : (n l c : ℕ) → Parts r n l c → Position n l c → result_of lim s tables work room ≡ refused n l c
         → t ≡ replicate tables 0 → w ≡ replicate work 0 → a ≡ replicate room 0 → Analyzed
 
 module _ (v : Width) {s : List ℕ} {tables work r : ℕ} {t w : List ℕ} (call : ReadCall (limits v) s tables work r t w) where

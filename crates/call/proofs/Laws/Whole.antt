@@ -19,7 +19,7 @@ use Rattle.sheet_read.proofs.Laws.LineBounds.{line-fits}
 use Rattle.sheet.specs.Sheet.{Sheet, sheet_in}
 use Rattle.original.specs.Inner.AnalysedOnce.{analysed_once}
 use Rattle.original.proofs.Laws.AnalysedOnce.{analysed-once}
-use Rattle.answer.specs.Call.{analysed, after_reading, result, left_by, left}
+use Rattle.answer.specs.Call.{analysed, after_reading, result_of, left_by, left}
 use Rattle.scope_walk.specs.Inner.Sheets.{sheet_at, Accepted, name_count}
 use Rattle.call.specs.declared.replies.Reply.{Reply}
 use Rattle.call.specs.Inner.Replies.{outcome_reply, as_left, Replies}
@@ -51,8 +51,8 @@ module _ (w : Width) (s : List ℕ) (room long : ℕ) (o : Outcome) (t : List �
 
   -- One of the questions 1 to 6 refuses the sheet.
   pub whole-refuses : (most : ℕ) → (questions.number o ≡ 0 → ⊥) → (r : Reply) → r ≡ outcome_reply o → (a : List ℕ) → a ≡ replicate most 0
-      → Replies most (result (limits w) s room long most) r a
-  unfolding result
+      → Replies most (result_of (limits w) s room long most) r a
+  unfolding result_of
   whole-refuses most h r e a z entries words =
       ap (λ (x : Reply). as_left x (replicate entries 0) (replicate words 0) a) e
       ∙ ap (as_left (outcome_reply o) (replicate entries 0) (replicate words 0)) z
@@ -91,8 +91,8 @@ module _ (w : Width) (s : List ℕ) (room long : ℕ) (o : Outcome) (t : List �
 
     -- The other questions are put.
     pub call_answers : (most : ℕ) (r : Reply) (a : List ℕ) → Replies most (analysed_once (sheet_at (take limit.table_entries t)) most) r a
-        → Replies most (result (limits w) s room long most) r a
-    unfolding result
+        → Replies most (result_of (limits w) s room long most) r a
+    unfolding result_of
     call_answers most r a replied entries words =
         replied entries words
         ∙ ap (left_by entries words most) (once most)
@@ -100,10 +100,10 @@ module _ (w : Width) (s : List ℕ) (room long : ℕ) (o : Outcome) (t : List �
         ∙ ap (λ (g : Outcome). left_by entries words most (after_reading s most g)) (sym is_read_lem)
 
 -- The lent bytes are as many as they were; then tables and work are cleared.
-pub whole-leaves : (lim : Limits) (s : List ℕ) (room long most : ℕ) (n : ℕ) → n ≡ most → (r : Reply) (a : List ℕ) → Replies n (result lim s room long n) r a
+pub whole-leaves : (lim : Limits) (s : List ℕ) (room long most : ℕ) (n : ℕ) → n ≡ most → (r : Reply) (a : List ℕ) → Replies n (result_of lim s room long n) r a
     → (t w : List ℕ) → t ≡ replicate room 0 → w ≡ replicate long 0 → as_left r t w a ≡ left lim s room long most
 unfolding left
 whole-leaves lim s room long most n is r a replied t w x y =
     ap (λ (l : List ℕ). as_left r l w a) x
     ∙ ap (λ (l : List ℕ). as_left r (replicate room 0) l a) y
-    ∙ subst (λ (m : ℕ). Replies m (result lim s room long m) r a) is replied room long
+    ∙ subst (λ (m : ℕ). Replies m (result_of lim s room long m) r a) is replied room long

@@ -21,7 +21,7 @@ use Rattle.sheet.specs.declared.Outcome.TheVariants.{Read, NoRoom, TooLong, BadF
 use Rattle.sheet.specs.Verdict.{verdict}
 use Rattle.definition.specs.States.{Fault, sound, undefined, used_before, lengths, index_variable, Run, QuerySchedule}
 use Rattle.definition.specs.RustWay.{analyze_query_snippet}
-use Rattle.answer.specs.Call.{Result, refused, answered, fitting, finished, analysed, after_reading, result}
+use Rattle.answer.specs.Call.{Result, refused, answered, fitting, finished, analysed, after_reading, result_of}
 
 abbrev pub no_zeros : List ℕ → Bool
 no_zeros l = all (ltb 0) l
@@ -99,6 +99,6 @@ after_told s room (BadName l) = omega arith
 after_told s room (BadCount l) = omega arith
 after_told s room (BadField l) = omega arith
 
-pub result_told : (lim : Limits) (s : List ℕ) (tables work room : ℕ) → Told (result lim s tables work room)
-unfolding result
+pub result_told : (lim : Limits) (s : List ℕ) (tables work room : ℕ) → Told (result_of lim s tables work room)
+unfolding result_of
 result_told lim s tables work room = after_told s room (verdict lim s tables work)

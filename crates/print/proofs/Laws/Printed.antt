@@ -16,7 +16,7 @@ use Rattle.answer.specs.Text.{digits, row_line, section, refusal_text}
 use Rattle.answer_write.specs.Inner.Writes.{Puts}
 use Rattle.answer_write.proofs.Laws.Writes.{puts_then, starts, fits_whole}
 use Rattle.io.specs.Counts.{IsPrefixLen}
-use Rattle.answer.specs.Call.{Result, refused, answered, result, Left, left_by, left, printed}
+use Rattle.answer.specs.Call.{Result, refused, answered, result_of, Left, left_by, left, printed}
 use Rattle.call.specs.declared.replies.Reply.{Reply}
 use Rattle.call.specs.Inner.Replies.{as_left}
 use Rattle.print.specs.Inner.Ends.{Ends}
@@ -115,15 +115,15 @@ shows_refusal room n l c enough b r put =
 
 module _ (lim : Limits) (s : List ℕ) (tables work room : ℕ) (p : Reply) (t w a : List ℕ) (is : as_left p t w a ≡ left lim s tables work room) where
   abbrev Prints : List ℕ → ℕ → Type 0
-  Prints b r = Shows b r (printed (result lim s tables work room))
+  Prints b r = Shows b r (printed (result_of lim s tables work room))
 
-  left_by_lem : as_left p t w a ≡ left_by tables work room (result lim s tables work room)
+  left_by_lem : as_left p t w a ≡ left_by tables work room (result_of lim s tables work room)
   unfolding left
   left_by_lem = is
 
   pub prints_refusal : (p.number ≡ 0 → ⊥) → 64 ≤ room → (b : List ℕ) (r : ℕ)
       → Puts a 0 (refusal_text p.number p.line p.col) b r → Prints b r
-  prints_refusal some enough b r put = go (result lim s tables work room) left_by_lem
+  prints_refusal some enough b r put = go (result_of lim s tables work room) left_by_lem
     where
       go : (x : Result) → as_left p t w a ≡ left_by tables work room x → Shows b r (printed x)
       go (refused n l c) e =
@@ -134,7 +134,7 @@ module _ (lim : Limits) (s : List ℕ) (tables work room : ℕ) (p : Reply) (t w
       go (answered text) e = absurd (some (ap (λ (k : Left). k.number) e))
 
   pub prints_answer : p.number ≡ 0 → (r : ℕ) → Ends a r → Prints a r
-  prints_answer none r ends = go (result lim s tables work room) (result_told lim s tables work room) left_by_lem
+  prints_answer none r ends = go (result_of lim s tables work room) (result_told lim s tables work room) left_by_lem
     where
       go : (x : Result) → Told x → as_left p t w a ≡ left_by tables work room x → Shows a r (printed x)
       go (refused n l c) h e = absurd (let z : p.number ≡ n = ap (λ (k : Left). k.number) e in omega arith)

@@ -14,7 +14,7 @@ use Rattle.sheet.specs.declared.Outcome.TheVariants.{Read, NoRoom, TooLong, BadF
 use Rattle.sheet.specs.Verdict as read
 use Rattle.sheet.specs.Verdict.{left_tables, verdict}
 use Rattle.sheet_read.proofs.Laws.LineBounds.{line-fits}
-use Rattle.answer.specs.Call.{Result, refused, answered, left_by, left, result}
+use Rattle.answer.specs.Call.{Result, refused, answered, left_by, left, result_of}
 use Rattle.nokchbem.specs.Calls.{AnalyzeCall, ReadCall}
 use Rattle.promises.specs.Demand1.{Position, Parts, Analyzed, succeeds, refuses, HasRead}
 use Rattle.promises.specs.Inner.Positions.{Outcomes, refusal-at, a-text}
@@ -35,10 +35,10 @@ module _ {lim : Limits} {s : List ℕ} {tables work room r : ℕ} {t w a : List 
 
   pub analyze_refuses_or_succeeds : (Analyzed call)
   unfolding left
-  analyze_refuses_or_succeeds = go (result lim s tables work room) refl (outcomes lim s tables work room) analyze-parts
+  analyze_refuses_or_succeeds = go (result_of lim s tables work room) refl (outcomes lim s tables work room) analyze-parts
     where
-      go : (o : Result) → result lim s tables work room ≡ o → Outcomes room o
-          → Parts r (left_by tables work room (result lim s tables work room)).number (left_by tables work room (result lim s tables work room)).line (left_by tables work room (result lim s tables work room)).col
+      go : (o : Result) → result_of lim s tables work room ≡ o → Outcomes room o
+          → Parts r (left_by tables work room (result_of lim s tables work room)).number (left_by tables work room (result_of lim s tables work room)).line (left_by tables work room (result_of lim s tables work room)).col
           → (Analyzed call)
       go (answered text) e (a-text fits) p =
           succeeds text (call.returned ∙ rw e) fits e (call.tabled ∙ rw e) (call.worked ∙ rw e) (call.answered ∙ rw e)
@@ -52,7 +52,7 @@ position_of (refusal-at at) = at
 
 module _ (v : Width) {s : List ℕ} {tables work r : ℕ} {t w : List ℕ} (call : ReadCall (limits v) s tables work r t w) where
   pub read_refuses_or_succeeds : (HasRead v call)
-  unfolding result
+  unfolding result_of
   read_refuses_or_succeeds = go (verdict (limits v) s tables work) refl
     where
       at : (o : Outcome) → verdict (limits v) s tables work ≡ o → Parts r (read.number o) (read.fault_line o) 0

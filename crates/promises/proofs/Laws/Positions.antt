@@ -14,7 +14,7 @@ use Rattle.sheet.specs.Sheet.{sheet_in}
 use Rattle.sheet.specs.Verdict.{fields_fault}
 use Rattle.definition.specs.States.{Fault, sound, undefined, used_before, lengths, index_variable}
 use Rattle.definition.specs.RustWay.{analyze_query_snippet}
-use Rattle.answer.specs.Call.{refused, answered, result}
+use Rattle.answer.specs.Call.{refused, answered, result_of}
 use Rattle.promises.specs.Demand2.{Question, ask, finishes, first_no, text}
 use Rattle.promises.proofs.Laws.Questions.{asked-in_turn}
 use Rattle.promises.specs.Demand1.{Position, whole, at-line, at-span}
@@ -53,7 +53,7 @@ module _ (room : ℕ) where
 some-line : (l : ℕ) → eqb l 0 ≡ false → 1 ≤ l
 some-line l e = let no = eqb-false l 0 e in omega arith
 
-pub outcomes : (lim : Limits) (s : List ℕ) (tables work room : ℕ) → Outcomes room (result lim s tables work room)
+pub outcomes : (lim : Limits) (s : List ℕ) (tables work room : ℕ) → Outcomes room (result_of lim s tables work room)
 outcomes lim s tables work room =
     subst (Outcomes room) (sym (asked-in_turn lim s tables work room))
     (one_more_lem room _ _ _ (λ e. whole refl)

@@ -14,7 +14,7 @@ use Rattle.sheet.specs.Verdict.{fields_fault, asked, verdict}
 use Rattle.sheet.specs.Sheet.{sheet_in}
 use Rattle.definition.specs.States.{Fault, sound, undefined, used_before, lengths, index_variable}
 use Rattle.definition.specs.RustWay.{analyze_query_snippet}
-use Rattle.answer.specs.Call.{finished, analysed, after_reading, result}
+use Rattle.answer.specs.Call.{finished, analysed, after_reading, result_of}
 use Rattle.promises.specs.Demand2.{ask, finishes, first_no, text, questions}
 
 -- The sheet s, with the call's limits, and so many entries of tables, words of work and bytes for the answer.
@@ -30,8 +30,8 @@ module _ (lim : Limits) (s : List ℕ) (tables work room : ℕ) where
   last_two (lengths l c) = refl
   last_two index_variable = refl
 
-  pub asked-in_turn : result lim s tables work room ≡ first_no (questions lim s tables work room) (text s)
-  unfolding result verdict asked analysed first_no
+  pub asked-in_turn : result_of lim s tables work room ≡ first_no (questions lim s tables work room) (text s)
+  unfolding result_of verdict asked analysed first_no
   asked-in_turn =
       go (leb limits.table_entries tables && leb lim.work work) (short_enough s) (eqb (form_fault s) 0) (eqb (names_fault s) 0) (eqb (counts_fault lim s) 0)
       (eqb (fields_fault s) 0)

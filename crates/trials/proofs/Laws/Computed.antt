@@ -32,7 +32,7 @@ use Rattle.definition.specs.RustWay as rust
 use Rattle.definition.specs.RustWay.{rust_way, analyze, analyze_query_snippet, schedule_in}
 use Rattle.definition.proofs.Laws.RustWay.{recorded}
 use Rattle.answer.specs.Text.{all_rows, digits, section, answer_text, refusal_text}
-use Rattle.answer.specs.Call.{Result, analysed, result}
+use Rattle.answer.specs.Call.{Result, analysed, result_of}
 
 -- The sheet in bytes.
 unfoldable pub sheet_read : List ℕ → Sheet
@@ -63,5 +63,5 @@ unfolding sheet_read analysed_sheet before name_fault line_of over_line no_query
     kinds forms kind_of form_of target place_of expr_entries statement_entries query_entries
     namers in_chain entry_naming row_namings by_queries by_statements by_exprs namings grown enclosing parent level_in level
     vars_in ends_in all_vars ends_odd field_fault entries_fault is_named_so is_member expr_fault statement_fault query_fault path_before
-    builtin_fault first_at_fault first_line questions.fields_fault questions.asked questions.verdict result
-computed lim s room work text = result lim s room work text
+    builtin_fault first_at_fault first_line questions.fields_fault questions.asked questions.verdict result_of
+computed lim s room work text = result_of lim s room work text

@@ -12,7 +12,7 @@ use Rattle.sheet.specs.Text.{bytes}
 use Rattle.sheet.specs.Form.{same}
 use Rattle.sheet.specs.Sheet.{Sheet, sheet_in}
 use Rattle.definition.proofs.Laws.RustWay.{recorded}
-use Rattle.answer.specs.Call.{Result, refused, answered, result, printed}
+use Rattle.answer.specs.Call.{Result, refused, answered, result_of, printed}
 
 -- A sheet, the definitions that its queries record, and the text that is printed.
 pub record Trial : Type 0 where
@@ -61,7 +61,7 @@ unless_refused (answered text) s = recorded_rows s
 -- Are these the text and the definitions, where 65,536 bytes are lent for the text, and of tables and work as much as is asked for?
 abbrev pub passes_by : Limits → Trial → Bool
 passes_by lim t =
-    let r = result lim (bytes t.sheet) limits.table_entries lim.work 65536 in
+    let r = result_of lim (bytes t.sheet) limits.table_entries lim.work 65536 in
     same (printed r) (bytes t.answer) && same_rows (unless_refused r (sheet_in (bytes t.sheet))) t.recorded
 
 abbrev pub passes : Trial → Bool
