@@ -7,5 +7,5 @@
 mod staticlib;
 
 fn main() {
-    staticlib::link("print_call");
+    staticlib::link("print_call", "print_call");
 }

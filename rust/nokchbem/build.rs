@@ -4,5 +4,5 @@
 mod staticlib;
 
 fn main() {
-    staticlib::link("nokchbem");
+    staticlib::link("nokchbem_c", "nokchbem");
 }

@@ -21,15 +21,17 @@ fn program() -> &'static Path {
 
 fn compiled() -> PathBuf {
     let root = Path::new(env!("CARGO_MANIFEST_DIR")).join("../..");
+    // It is proved and compiled, and run once on nothing.
     let output = Command::new("rt")
-        .args(["check", "print"])
+        .args(["run", "print"])
         .current_dir(&root)
+        .stdin(Stdio::null())
         .output()
         .expect("the Rattle toolchain's `rt` runs");
     let said = [output.stdout, output.stderr].concat();
     let said = String::from_utf8_lossy(&said);
-    assert!(output.status.success(), "`rt check print` failed:\n{said}");
-    root.join("target/bin/print")
+    assert!(output.status.success(), "`rt run print` failed:\n{said}");
+    root.join("crates/print/out/print")
 }
 
 fn printed(program: &Path, sheet: &[u8]) -> Vec<u8> {
