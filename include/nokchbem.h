@@ -1,4 +1,4 @@
-/* The proved library's C interface. Link libnokchbem.a, which `rt staticlib nokchbem` writes. */
+/* The proved library's C interface. Link libnokchbem.a, which the build of rust/nokchbem writes to target/staticlib. */
 #ifndef NOKCHBEM_H
 #define NOKCHBEM_H
 
