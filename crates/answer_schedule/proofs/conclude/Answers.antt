@@ -33,7 +33,11 @@ slice_bounds-arrange_rows-end-2 c =
 pub arrange_rows-placed-requires : goal.arrange_rows-placed-requires
 arrange_rows-placed-requires c =
     let a = c.args in
-    (lent-taken a.width a.work.now _ a.count _ c.row.ensures _ a.query c.count_stmts-n.ensures c.requires.schedulable, (zero-at 128, zero-at 128))
+    record {
+      accepted_list = lent-taken a.width a.work.now _ a.count _ c.row.ensures _ a.query c.count_stmts-n.ensures c.requires.schedulable;
+      by_index = zero-at 128;
+      by_index_2 = zero-at 128;
+    }
 
 pub store_answer-requires : goal.store_answer-requires
 store_answer-requires c =
@@ -43,21 +47,21 @@ store_answer-requires c =
     let enough : answers_size v ≤ length w = omega (arith, pre.width_in_bounds.0) in
     let count = c.count_stmts-n in
     let s = c.arrange_rows-placed in
-    let m = c.answers_of in (
-      (
+    let m = c.answers_of in record {
+      asks_block = (
         record {
           room = lent-long v w _ m.ensures enough;
           from = pre.asks_conclude.from;
           to = omega (arith, pre.asks_conclude.to, pre.asks_conclude.accepted.within.few-queries);
         },
         pre.asks_conclude.spans-room,
-      ),
-      record {
+      );
+      asks_places = record {
         places-room = lent-room v w _ m.ensures enough _ pre.width_in_bounds.1 (roomy _ pre.asks_conclude.accepted) _ pre.asks_conclude.from pre.asks_conclude.to _ count.ensures;
         ordered = omega (arith, count.ensures, count-few _ pre.asks_conclude.accepted c.args.query, s.auto.order);
         marked = entries_in _ _ _ _ _ _ _ _ s.ensures (omega (arith, count.ensures, count-few _ pre.asks_conclude.accepted c.args.query, s.auto.reached));
-      },
-    )
+      };
+    }
 
 pub returns : goal.returns
 returns c =

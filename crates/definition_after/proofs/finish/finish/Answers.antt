@@ -9,7 +9,11 @@ conclude-requires c =
     let pre = c.requires in
     let fine = sym c.is_sound.ensures ∙ c.if-is_sound.true in
     let asked = pre.asks_conclude in
-    (asked.0, ((asked.1, asked.2 fine), pre.schedulable fine))
+    record {
+      asks_conclude = asked.0;
+      width_in_bounds = (asked.1, asked.2 fine);
+      schedulable = pre.schedulable fine;
+    }
 
 pub returns-then-is_sound : goal.returns-then-is_sound
 returns-then-is_sound c =

@@ -13,7 +13,7 @@ push_definition-requires c =
 pub overflow_add-n : goal.overflow_add-n
 overflow_add-n c =
     let few = defining-few _ _ _ _ _ _ _ _ _ _ c.loop-x.invariant.1 c.loop-x-test.true _ c.requires in
-    record { fits = omega (arith, few, c.well-formed.1.1.1.1.1.0) }
+    record { fits = omega (arith, few, c.well_formed.1.1.1.1.1.0) }
 
 pub loop-x-smaller : goal.loop-x-smaller
 loop-x-smaller c = omega (arith, c.next-x-in-loop-x.ensures.low, c.loop-x-test.true)

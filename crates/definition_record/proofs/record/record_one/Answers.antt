@@ -17,7 +17,7 @@ push_definition-requires c =
 
 pub overflow_add-count : goal.overflow_add-count
 overflow_add-count c =
-    record { fits = omega (arith, one-few c.args.p c.args.work.now c.requires, c.well-formed.1.1.1.0) }
+    record { fits = omega (arith, one-few c.args.p c.args.work.now c.requires, c.well_formed.1.1.1.0) }
 
 pub returns-then-is_sound : goal.returns-then-is_sound
 returns-then-is_sound c =

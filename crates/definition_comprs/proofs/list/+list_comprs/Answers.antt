@@ -1,0 +1,236 @@
+-- The walk goes on to later rows only, and what the calls on the way list is what a row's turn lists.
+use mathlib.Core.Path.{◌≡◌, refl, ◌∙◌}
+use mathlib.Core.Bool.{true}
+use mathlib.Core.List.{List}
+use mathlib.Core.Logic.{⊎_elim}
+use Prim.Native.Nat.{ℕ, ◌≤◌, ◌<◌}
+use native.Mathlib.Omega.{arith}
+use lib.ListN.{length}
+use borrow.Fn.PlainCycle.{is}
+use Rattle.base.specs.Limits as limits
+use Rattle.sheet.specs.Kinds.{is_compr}
+use Rattle.sheet.specs.Inner.Sheet.{row_at}
+use Rattle.sheet.proofs.Laws.Sheet.{row-fields}
+use Rattle.scope_walk.proofs.Laws.Walking.{Calls, row_low, calls, past_guard}
+use Rattle.definition_comprs.specs.Inner.Lists.{Lists, comprs_by, AtRow}
+use Rattle.definition_comprs.proofs.Laws.Lists.{lists_none, PartsRoom, row_room, own-fits, lists_turn, ListTurn, is_compr_kind, compr_kind_lem, lists_still, lists_compr}
+use Rattle.scope_walk.proofs.Laws.Arms.{arm, quiet_arm, last_arm, no_compr_kind}
+use Rattle.definition_comprs.proofs.list.+list_comprs.Goals.{After-row_at-w, Joined-k-ne0, Joined-k-ne0-2, Joined-k-ne0-3, Joined-kind}
+use Rattle.definition_comprs.proofs.list.+list_comprs.Goals as goal
+
+pub returns-then-row-eq0 : goal.returns-then-row-eq0
+returns-then-row-eq0 m c =
+    lists_none _ c.requires.accepted _ c.if-row-eq0.true c.args.rest _ _
+
+pub row_at-w-requires : goal.row_at-w-requires
+row_at-w-requires m c =
+    let pre = c.requires in
+    (pre.accepted.room, row_low _ pre.accepted _ c.if-row-eq0.false pre.row_in)
+
+-- The row that was read.
+row_is : (m : ℕ) (c : After-row_at-w m)
+    → c.row_at-w.result ≡ row_at c.args.tables.now c.args.row
+row_is m c = c.row_at-w.ensures ∙ row-fields _ _
+
+-- There is room for the row, where it is a comprehension.
+fits : (m : ℕ) (c : After-row_at-w m) → is_compr c.row_at-w.result ≡ true
+    → let a = c.args in (a.row ≤ limits.most_expressions) × (a.count < length a.rows.now)
+fits m r is =
+    let a = r.args in
+    let pre = r.requires in (
+      row_low _ pre.accepted _ r.if-row-eq0.false pre.row_in,
+      own-fits _ pre.accepted _ r.if-row-eq0.false pre.row_in _ (row_is m r) a.rest _ refl _ refl a.rows.now a.count pre.room is,
+    )
+
+-- The match: what is done at the row, and its children.
+turn : (m : ℕ) (c : Joined-kind m)
+    →
+    let a = c.args in
+    ListTurn c.row_at-w.result a.row (a.count, a.rows.now) (c.match-kind.n, c.match-kind.rows) c.match-kind.k
+turn m c =
+    let w = c.row_at-w.result in
+    let a = c.args in
+    let row = a.row in
+    let s : ℕ × List ℕ = (a.count, a.rows.now) in
+    let still = lists_still w row s in
+    ⊎_elim (λ x. quiet_arm is_compr_kind still 1 x.0.keys1 refl (λ i. (x.3 i, x.2 i)) (x.4 ∙ x.1.ensures)) (
+    ⊎_elim (λ x. quiet_arm is_compr_kind still 2 x.0.keys2 refl (λ i. (x.3 i, x.2 i)) (x.4 ∙ x.1.ensures)) (
+    ⊎_elim (λ x. quiet_arm is_compr_kind still 3 x.0.keys3 refl (λ i. (x.3 i, x.2 i)) (x.4 ∙ x.1.ensures)) (
+    ⊎_elim (λ x. quiet_arm is_compr_kind still 4 x.0.keys4 refl (λ i. (x.3 i, x.2 i)) (x.4 ∙ x.1.ensures)) (
+    ⊎_elim (λ x. quiet_arm is_compr_kind still 5 x.0.keys5 refl (λ i. (x.3 i, x.2 i)) (x.4 ∙ x.1.ensures)) (
+    ⊎_elim (λ x. quiet_arm is_compr_kind still 6 x.0.keys6 refl (λ i. (x.3 i, x.2 i)) (x.4 ∙ x.1.ensures)) (
+    ⊎_elim (λ x. quiet_arm is_compr_kind still 7 x.0.keys7 refl (λ i. (x.3 i, x.2 i)) (x.4 ∙ x.1.ensures)) (
+    ⊎_elim (λ x. quiet_arm is_compr_kind still 8 x.0.keys8 refl (λ i. (x.3 i, x.2 i)) (x.4 ∙ x.1.ensures)) (
+    ⊎_elim (λ x. quiet_arm is_compr_kind still 9 x.0.keys9 refl (λ i. (x.3 i, x.2 i)) (x.4 ∙ x.1.ensures)) (
+    ⊎_elim (λ x. arm 10 x.0.keys10 (lists_compr w row s (compr_kind_lem w 10 x.0.keys10 refl) _ x.2.ensures) (λ i. (x.7 i, x.6 i)) (x.8 ∙ x.5.ensures)) (
+    ⊎_elim (λ x. arm 11 x.0.keys11 (lists_compr w row s (compr_kind_lem w 11 x.0.keys11 refl) _ x.2.ensures) (λ i. (x.7 i, x.6 i)) (x.8 ∙ x.5.ensures)) (
+    ⊎_elim (λ x. arm 12 x.0.keys12 (lists_compr w row s (compr_kind_lem w 12 x.0.keys12 refl) _ x.2.ensures) (λ i. (x.7 i, x.6 i)) (x.8 ∙ x.5.ensures)) (
+    ⊎_elim (λ x. quiet_arm is_compr_kind still 13 x.0.keys13 refl (λ i. (x.3 i, x.2 i)) (x.4 ∙ x.1.ensures)) (
+    ⊎_elim (λ x. quiet_arm is_compr_kind still 14 x.0.keys14 refl (λ i. (x.3 i, x.2 i)) (x.4 ∙ x.1.ensures)) (
+    ⊎_elim (λ x. quiet_arm is_compr_kind still 15 x.0.keys15 refl (λ i. (x.3 i, x.2 i)) (x.4 ∙ x.1.ensures)) (
+    ⊎_elim (λ x. quiet_arm is_compr_kind still 16 x.0.keys16 refl (λ i. (x.3 i, x.2 i)) (x.4 ∙ x.1.ensures)) (
+    ⊎_elim (λ x. quiet_arm is_compr_kind still 17 x.0.keys17 refl (λ i. (x.3 i, x.2 i)) (x.4 ∙ x.1.ensures)) (
+    ⊎_elim (λ x. quiet_arm is_compr_kind still 18 x.0.keys18 refl (λ i. (x.3 i, x.2 i)) (x.4 ∙ x.1.ensures)) (
+    ⊎_elim (λ x. quiet_arm is_compr_kind still 19 x.0.keys19 refl (λ i. (x.3 i, x.2 i)) (x.4 ∙ x.1.ensures)) (
+    ⊎_elim (λ x. quiet_arm is_compr_kind still 20 x.0.keys20 refl (λ i. (x.3 i, x.2 i)) (x.4 ∙ x.1.ensures)) (
+    ⊎_elim (λ x. quiet_arm is_compr_kind still 21 x.0.keys21 refl (λ i. (x.3 i, x.2 i)) (x.4 ∙ x.1.ensures)) (
+    ⊎_elim (λ x. quiet_arm is_compr_kind still 22 x.0.keys22 refl (λ i. (x.3 i, x.2 i)) (x.4 ∙ x.1.ensures))
+    (λ x. last_arm is_compr_kind still (no_compr_kind w) x.0.rest (λ i. (x.3 i, x.2 i)) (x.4 ∙ x.1.ensures))))))))))))))))))))))) c.match-kind.branch
+
+row_is-at-Joined-kind : (m : ℕ) (c : Joined-kind m)
+    → c.row_at-w.result ≡ row_at c.args.tables.now c.args.row
+row_is-at-Joined-kind m c = c.row_at-w.ensures ∙ row-fields _ _
+
+ready : (m : ℕ) (c : Joined-kind m)
+    →
+    Calls c.args.tables.now m c.args.rest c.row_at-w.result c.match-kind.k
+ready m c =
+    calls _ c.requires.accepted _ c.if-row-eq0.false c.requires.row_in m c.decreases _ _ (row_is-at-Joined-kind m c) _ (turn m c).kids
+
+-- There is room for what the calls list, one after the other.
+rooms : (m : ℕ) (c : Joined-kind m)
+    → PartsRoom c.args.tables.now c.match-kind.k c.next_of-next.result (length c.match-kind.rows) c.match-kind.n
+rooms m c =
+    let pre = c.requires in
+    row_room _ pre.accepted _ c.if-row-eq0.false pre.row_in _ (row_is-at-Joined-kind m c) c.args.rest _ (turn m c).kids _ c.next_of-next.ensures _ _ _ _ pre.room (turn m c).step
+
+pub list_comprs-n-requires : goal.list_comprs-n-requires
+list_comprs-n-requires m c =
+    let pre = c.requires in
+    let k = (ready m (goal.at.list_comprs-n-requires m c).Joined-kind).first in
+    (k.0, record { accepted = pre.accepted; row_in = k.1; room = omega (arith, rooms m (goal.at.list_comprs-n-requires m c).Joined-kind) })
+
+-- From the list and how many it has, to those after the walk over row n.
+abbrev State : Type 0
+State = ℕ × List ℕ
+
+abbrev Walked : List ℕ → ℕ → State → State → Type 0
+Walked t n a b = Lists t (AtRow t n) (comprs_by t true n) a.1 a.0 b.1 b.0
+
+-- The three parts, each walked where there is one.
+first_walk : (m : ℕ) (c : Joined-k-ne0 m)
+    →
+    Walked c.args.tables.now c.match-kind.k.first (c.match-kind.n, c.match-kind.rows) (c.if-k-ne0.n, c.if-k-ne0.rows)
+first_walk m c =
+    past_guard (Walked c.args.tables.now) (λ a. lists_none _ c.requires.accepted _ refl true a.1 a.0) _ _ _
+    (λ w. (_, w.2.ensures, λ i. (w.6 i, w.5 i))) (λ w. (w.0.left, λ i. (w.2 i, w.1 i))) c.if-k-ne0.branch
+
+pub list_comprs-n-requires-then-k-ne0-2 : goal.list_comprs-n-requires-then-k-ne0-2
+list_comprs-n-requires-then-k-ne0-2 m c =
+    let pre = c.requires in
+    let k = (ready m (goal.at.list_comprs-n-requires-then-k-ne0-2 m c).Joined-kind).second in
+    let w1 = first_walk m (goal.at.list_comprs-n-requires-then-k-ne0-2 m c).Joined-k-ne0 in
+    (k.0, record { accepted = pre.accepted; row_in = k.1; room = omega (arith, rooms m (goal.at.list_comprs-n-requires-then-k-ne0-2 m c).Joined-kind, w1.end_is, w1.long) })
+
+second_walk : (m : ℕ) (c : Joined-k-ne0-2 m)
+    →
+    Walked c.args.tables.now c.match-kind.k.second (c.if-k-ne0.n, c.if-k-ne0.rows) (c.if-k-ne0-2.n, c.if-k-ne0-2.rows)
+second_walk m c =
+    past_guard (Walked c.args.tables.now) (λ a. lists_none _ c.requires.accepted _ refl true a.1 a.0) _ _ _
+    (λ w. (_, w.2.ensures, λ i. (w.6 i, w.5 i))) (λ w. (w.0.left, λ i. (w.2 i, w.1 i))) c.if-k-ne0-2.branch
+
+pub list_comprs-n-requires-then-k-ne0-3 : goal.list_comprs-n-requires-then-k-ne0-3
+list_comprs-n-requires-then-k-ne0-3 m c =
+    let pre = c.requires in
+    let k = (ready m (goal.at.list_comprs-n-requires-then-k-ne0-3 m c).Joined-kind).third in
+    let w1 = first_walk m (goal.at.list_comprs-n-requires-then-k-ne0-3 m c).Joined-k-ne0 in
+    let w2 = second_walk m (goal.at.list_comprs-n-requires-then-k-ne0-3 m c).Joined-k-ne0-2 in
+    (k.0, record { accepted = pre.accepted; row_in = k.1; room = omega (arith, rooms m (goal.at.list_comprs-n-requires-then-k-ne0-3 m c).Joined-kind, w1.end_is, w1.long, w2.end_is, w2.long) })
+
+third-walk : (m : ℕ) (c : Joined-k-ne0-3 m)
+    →
+    Walked c.args.tables.now c.match-kind.k.third (c.if-k-ne0-2.n, c.if-k-ne0-2.rows) (c.if-k-ne0-3.n, c.if-k-ne0-3.rows)
+third-walk m c =
+    past_guard (Walked c.args.tables.now) (λ a. lists_none _ c.requires.accepted _ refl true a.1 a.0) _ _ _
+    (λ w. (_, w.2.ensures, λ i. (w.6 i, w.5 i))) (λ w. (w.0.left, λ i. (w.2 i, w.1 i))) c.if-k-ne0-3.branch
+
+pub list_comprs-requires : goal.list_comprs-requires
+list_comprs-requires m c =
+    let pre = c.requires in
+    let k = (ready m (goal.at.list_comprs-requires m c).Joined-kind).next in
+    let w1 = first_walk m (goal.at.list_comprs-requires m c).Joined-k-ne0 in
+    let w2 = second_walk m (goal.at.list_comprs-requires m c).Joined-k-ne0-2 in
+    let w3 = third-walk m (goal.at.list_comprs-requires m c).Joined-k-ne0-3 in (
+      rw c.next_of-next.ensures k.0,
+      record {
+        accepted = pre.accepted;
+        row_in = rw c.next_of-next.ensures k.1;
+        room = omega (arith, rooms m (goal.at.list_comprs-requires m c).Joined-kind, w1.end_is, w1.long, w2.end_is, w2.long, w3.end_is, w3.long);
+      },
+    )
+
+-- The turn of a row, with the walk over the rest of its chain.
+row_is-at-Joined-k-ne0-3 : (m : ℕ) (c : Joined-k-ne0-3 m)
+    → c.row_at-w.result ≡ row_at c.args.tables.now c.args.row
+row_is-at-Joined-k-ne0-3 m c = c.row_at-w.ensures ∙ row-fields _ _
+
+turn-at-Joined-k-ne0-3 : (m : ℕ) (c : Joined-k-ne0-3 m)
+    →
+    let a = c.args in
+    ListTurn c.row_at-w.result a.row (a.count, a.rows.now) (c.match-kind.n, c.match-kind.rows) c.match-kind.k
+turn-at-Joined-k-ne0-3 m c =
+    let w = c.row_at-w.result in
+    let a = c.args in
+    let row = a.row in
+    let s : ℕ × List ℕ = (a.count, a.rows.now) in
+    let still = lists_still w row s in
+    ⊎_elim (λ x. quiet_arm is_compr_kind still 1 x.0.keys1 refl (λ i. (x.3 i, x.2 i)) (x.4 ∙ x.1.ensures)) (
+    ⊎_elim (λ x. quiet_arm is_compr_kind still 2 x.0.keys2 refl (λ i. (x.3 i, x.2 i)) (x.4 ∙ x.1.ensures)) (
+    ⊎_elim (λ x. quiet_arm is_compr_kind still 3 x.0.keys3 refl (λ i. (x.3 i, x.2 i)) (x.4 ∙ x.1.ensures)) (
+    ⊎_elim (λ x. quiet_arm is_compr_kind still 4 x.0.keys4 refl (λ i. (x.3 i, x.2 i)) (x.4 ∙ x.1.ensures)) (
+    ⊎_elim (λ x. quiet_arm is_compr_kind still 5 x.0.keys5 refl (λ i. (x.3 i, x.2 i)) (x.4 ∙ x.1.ensures)) (
+    ⊎_elim (λ x. quiet_arm is_compr_kind still 6 x.0.keys6 refl (λ i. (x.3 i, x.2 i)) (x.4 ∙ x.1.ensures)) (
+    ⊎_elim (λ x. quiet_arm is_compr_kind still 7 x.0.keys7 refl (λ i. (x.3 i, x.2 i)) (x.4 ∙ x.1.ensures)) (
+    ⊎_elim (λ x. quiet_arm is_compr_kind still 8 x.0.keys8 refl (λ i. (x.3 i, x.2 i)) (x.4 ∙ x.1.ensures)) (
+    ⊎_elim (λ x. quiet_arm is_compr_kind still 9 x.0.keys9 refl (λ i. (x.3 i, x.2 i)) (x.4 ∙ x.1.ensures)) (
+    ⊎_elim (λ x. arm 10 x.0.keys10 (lists_compr w row s (compr_kind_lem w 10 x.0.keys10 refl) _ x.2.ensures) (λ i. (x.7 i, x.6 i)) (x.8 ∙ x.5.ensures)) (
+    ⊎_elim (λ x. arm 11 x.0.keys11 (lists_compr w row s (compr_kind_lem w 11 x.0.keys11 refl) _ x.2.ensures) (λ i. (x.7 i, x.6 i)) (x.8 ∙ x.5.ensures)) (
+    ⊎_elim (λ x. arm 12 x.0.keys12 (lists_compr w row s (compr_kind_lem w 12 x.0.keys12 refl) _ x.2.ensures) (λ i. (x.7 i, x.6 i)) (x.8 ∙ x.5.ensures)) (
+    ⊎_elim (λ x. quiet_arm is_compr_kind still 13 x.0.keys13 refl (λ i. (x.3 i, x.2 i)) (x.4 ∙ x.1.ensures)) (
+    ⊎_elim (λ x. quiet_arm is_compr_kind still 14 x.0.keys14 refl (λ i. (x.3 i, x.2 i)) (x.4 ∙ x.1.ensures)) (
+    ⊎_elim (λ x. quiet_arm is_compr_kind still 15 x.0.keys15 refl (λ i. (x.3 i, x.2 i)) (x.4 ∙ x.1.ensures)) (
+    ⊎_elim (λ x. quiet_arm is_compr_kind still 16 x.0.keys16 refl (λ i. (x.3 i, x.2 i)) (x.4 ∙ x.1.ensures)) (
+    ⊎_elim (λ x. quiet_arm is_compr_kind still 17 x.0.keys17 refl (λ i. (x.3 i, x.2 i)) (x.4 ∙ x.1.ensures)) (
+    ⊎_elim (λ x. quiet_arm is_compr_kind still 18 x.0.keys18 refl (λ i. (x.3 i, x.2 i)) (x.4 ∙ x.1.ensures)) (
+    ⊎_elim (λ x. quiet_arm is_compr_kind still 19 x.0.keys19 refl (λ i. (x.3 i, x.2 i)) (x.4 ∙ x.1.ensures)) (
+    ⊎_elim (λ x. quiet_arm is_compr_kind still 20 x.0.keys20 refl (λ i. (x.3 i, x.2 i)) (x.4 ∙ x.1.ensures)) (
+    ⊎_elim (λ x. quiet_arm is_compr_kind still 21 x.0.keys21 refl (λ i. (x.3 i, x.2 i)) (x.4 ∙ x.1.ensures)) (
+    ⊎_elim (λ x. quiet_arm is_compr_kind still 22 x.0.keys22 refl (λ i. (x.3 i, x.2 i)) (x.4 ∙ x.1.ensures))
+    (λ x. last_arm is_compr_kind still (no_compr_kind w) x.0.rest (λ i. (x.3 i, x.2 i)) (x.4 ∙ x.1.ensures))))))))))))))))))))))) c.match-kind.branch
+
+first_walk-at-Joined-k-ne0-3 : (m : ℕ) (c : Joined-k-ne0-3 m)
+    →
+    Walked c.args.tables.now c.match-kind.k.first (c.match-kind.n, c.match-kind.rows) (c.if-k-ne0.n, c.if-k-ne0.rows)
+first_walk-at-Joined-k-ne0-3 m c =
+    past_guard (Walked c.args.tables.now) (λ a. lists_none _ c.requires.accepted _ refl true a.1 a.0) _ _ _
+    (λ w. (_, w.2.ensures, λ i. (w.6 i, w.5 i))) (λ w. (w.0.left, λ i. (w.2 i, w.1 i))) c.if-k-ne0.branch
+
+second_walk-at-Joined-k-ne0-3 : (m : ℕ) (c : Joined-k-ne0-3 m)
+    →
+    Walked c.args.tables.now c.match-kind.k.second (c.if-k-ne0.n, c.if-k-ne0.rows) (c.if-k-ne0-2.n, c.if-k-ne0-2.rows)
+second_walk-at-Joined-k-ne0-3 m c =
+    past_guard (Walked c.args.tables.now) (λ a. lists_none _ c.requires.accepted _ refl true a.1 a.0) _ _ _
+    (λ w. (_, w.2.ensures, λ i. (w.6 i, w.5 i))) (λ w. (w.0.left, λ i. (w.2 i, w.1 i))) c.if-k-ne0-2.branch
+
+turned : (m : ℕ) (c : Joined-k-ne0-3 m) (b : List ℕ) (end : ℕ)
+    →
+    let a = c.args in
+    Walked a.tables.now c.next_of-next.result (c.if-k-ne0-3.n, c.if-k-ne0-3.rows) (end, b)
+    → Lists a.tables.now (AtRow a.tables.now a.row) (comprs_by a.tables.now a.rest a.row) a.rows.now a.count b end
+turned m c b end rest =
+    let pre = c.requires in
+    lists_turn _ pre.accepted _ c.if-row-eq0.false pre.row_in _ (row_is-at-Joined-k-ne0-3 m c) c.args.rest _ (turn-at-Joined-k-ne0-3 m c).kids _ c.next_of-next.ensures _ _ _ _ _ _ _ _ _ _ _ _ pre.room (turn-at-Joined-k-ne0-3 m c).step
+    (first_walk-at-Joined-k-ne0-3 m c) (second_walk-at-Joined-k-ne0-3 m c) (third-walk m c) rest
+
+pub returns-then-next-eq0 : goal.returns-then-next-eq0
+returns-then-next-eq0 m c =
+    turned m (goal.at.returns-then-next-eq0 m c).Joined-k-ne0-3 _ _ (lists_none _ c.requires.accepted _ c.if-next-eq0.true true _ _)
+
+pub shape_of-rows-then-next-eq0 : goal.shape_of-rows-then-next-eq0
+shape_of-rows-then-next-eq0 m c = (returns_2 m c).long
+
+pub returns : goal.returns
+returns m c = turned m (goal.at.returns m c).Joined-k-ne0-3 _ _ c.list_comprs.ensures
+
+pub shape_of-rows : goal.shape_of-rows
+shape_of-rows m c = (returns_3 m c).long

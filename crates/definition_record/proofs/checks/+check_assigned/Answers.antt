@@ -1,0 +1,112 @@
+-- Each arm does what its kind asks, which goes on to later rows only: a row's turn (`checked_turn`).
+use mathlib.Core.Path.{◌≡◌, refl, ◌∙◌}
+use mathlib.Core.Bool.{true}
+use mathlib.Core.Logic.{⊎_elim}
+use Prim.Native.Nat.{ℕ, ◌≤◌, ◌<◌}
+use lib.ListN.{length}
+use borrow.Fn.PlainCycle.{is}
+use Rattle.base.specs.Limits as limits
+use Rattle.sheet.specs.Inner.Sheet.{row_at}
+use Rattle.sheet.proofs.Laws.Sheet.{row-fields}
+use Rattle.scope_walk.specs.Inner.Sheets.{Accepted, expr_count}
+use Rattle.scope_walk.specs.Inner.Walking.{remains}
+use Rattle.scope_walk.proofs.Laws.Walking.{row_low, low-name, first_call, next_call}
+use Rattle.scope_walk.proofs.Laws.Patterns.{pattern_arm, leaf_arm, last_leaf}
+use Rattle.definition_state.specs.declared.Progress.{Progress}
+use Rattle.definition_record.specs.Inner.Checks.{AssignedChecked}
+use Rattle.definition_record.proofs.Laws.Checks.{checked_still, checked_none, CheckedTurn, checked_turn}
+use Rattle.definition_record.proofs.checks.+check_assigned.Goals.{After-row_at-w, Joined-kind}
+use Rattle.definition_record.proofs.checks.+check_assigned.Goals as goal
+
+pub returns-then-row-eq0 : goal.returns-then-row-eq0
+returns-then-row-eq0 m c =
+    checked_none _ _ c.requires.0 _ c.if-row-eq0.true c.args.rest _
+
+pub row_at-w-requires : goal.row_at-w-requires
+row_at-w-requires m c =
+    let pre = c.requires in
+    (pre.0.room, row_low _ pre.0 _ c.if-row-eq0.false pre.1)
+
+-- The row that was read.
+row_is : (m : ℕ) (c : After-row_at-w m)
+    → c.row_at-w.result ≡ row_at c.args.tables.now c.args.row
+row_is m c = c.row_at-w.ensures ∙ row-fields _ _
+
+pub check_local-q-requires : goal.check_local-q-requires
+check_local-q-requires m c =
+    let pre = c.requires in
+    (c.in-6.is, rw (row_is m (goal.at.check_local-q-requires m c).After-row_at-w) (low-name _ pre.0 _ c.if-row-eq0.false pre.1), pre.2)
+
+-- The call on the first part.
+first-asks : (m : ℕ) (c : After-row_at-w m)
+    → let a = c.args in
+    let v = c.row_at-w.result.first in
+    (remains a.tables.now v < m) × (Accepted a.tables.now × (v ≤ expr_count a.tables.now) × (limits.per_name ≤ length a.firsts.now))
+first-asks m c =
+    let pre = c.requires in
+    let k = first_call _ pre.0 _ c.if-row-eq0.false pre.1 m c.decreases _ (row_is m c) in
+    (k.0, (pre.0, k.1, pre.2))
+
+pub check_assigned-q-requires : goal.check_assigned-q-requires
+check_assigned-q-requires m c = first-asks m (goal.at.check_assigned-q-requires m c).After-row_at-w
+
+pub check_assigned-q-requires-in-9 : goal.check_assigned-q-requires-in-9
+check_assigned-q-requires-in-9 m c = first-asks m (goal.at.check_assigned-q-requires-in-9 m c).After-row_at-w
+
+-- The match, an arm a kind.
+turn : (m : ℕ) (c : Joined-kind m)
+    →
+    let a = c.args in
+    CheckedTurn a.tables.now a.firsts.now c.row_at-w.result a.p c.match-kind.q
+turn m c =
+    let g = c.args in
+    let none = checked_none g.tables.now g.firsts.now c.requires.0 0 refl true in
+    let still = checked_still c.row_at-w.result g.firsts.now in
+    ⊎_elim (λ a. leaf_arm none still 1 a.0.keys1 refl refl a.1) (
+    ⊎_elim (λ a. leaf_arm none still 2 a.0.keys2 refl refl a.1) (
+    ⊎_elim (λ a. leaf_arm none still 3 a.0.keys3 refl refl a.1) (
+    ⊎_elim (λ a. leaf_arm none still 4 a.0.keys4 refl refl a.1) (
+    ⊎_elim (λ a. leaf_arm none still 5 a.0.keys5 refl refl a.1) (
+    ⊎_elim (λ a. pattern_arm none still 6 a.0.keys6 a.1.ensures a.2) (
+    ⊎_elim (λ a. pattern_arm none still 7 a.0.keys7 a.1.ensures a.2) (
+    ⊎_elim (λ a. leaf_arm none still 8 a.0.keys8 refl refl a.1) (
+    ⊎_elim (λ a. pattern_arm none still 9 a.0.keys9 a.1.ensures a.2) (
+    ⊎_elim (λ a. leaf_arm none still 10 a.0.keys10 refl refl a.1) (
+    ⊎_elim (λ a. leaf_arm none still 11 a.0.keys11 refl refl a.1) (
+    ⊎_elim (λ a. leaf_arm none still 12 a.0.keys12 refl refl a.1) (
+    ⊎_elim (λ a. leaf_arm none still 13 a.0.keys13 refl refl a.1) (
+    ⊎_elim (λ a. leaf_arm none still 14 a.0.keys14 refl refl a.1) (
+    ⊎_elim (λ a. leaf_arm none still 15 a.0.keys15 refl refl a.1) (
+    ⊎_elim (λ a. leaf_arm none still 16 a.0.keys16 refl refl a.1) (
+    ⊎_elim (λ a. leaf_arm none still 17 a.0.keys17 refl refl a.1) (
+    ⊎_elim (λ a. leaf_arm none still 18 a.0.keys18 refl refl a.1) (
+    ⊎_elim (λ a. leaf_arm none still 19 a.0.keys19 refl refl a.1) (
+    ⊎_elim (λ a. leaf_arm none still 20 a.0.keys20 refl refl a.1) (
+    ⊎_elim (λ a. leaf_arm none still 21 a.0.keys21 refl refl a.1) (
+    ⊎_elim (λ a. leaf_arm none still 22 a.0.keys22 refl refl a.1)
+    (λ a. last_leaf none still a.0.rest a.1)))))))))))))))))))))) c.match-kind.branch
+
+-- With the walk over the rest of the chain.
+row_is-at-Joined-kind : (m : ℕ) (c : Joined-kind m)
+    → c.row_at-w.result ≡ row_at c.args.tables.now c.args.row
+row_is-at-Joined-kind m c = c.row_at-w.ensures ∙ row-fields _ _
+
+turned : (m : ℕ) (c : Joined-kind m) (q : Progress)
+    →
+    let a = c.args in
+    AssignedChecked a.tables.now c.next_of-next.result true c.match-kind.q a.firsts.now q → AssignedChecked a.tables.now a.row a.rest a.p a.firsts.now q
+turned m c q rest =
+    checked_turn _ _ c.requires.0 _ c.if-row-eq0.false c.requires.1 c.args.rest _ (row_is-at-Joined-kind m c) _ c.next_of-next.ensures _ _ _ (turn m c) rest
+
+pub returns-then-next-eq0 : goal.returns-then-next-eq0
+returns-then-next-eq0 m c =
+    turned m (goal.at.returns-then-next-eq0 m c).Joined-kind _ (checked_none _ _ c.requires.0 _ c.if-next-eq0.true true _)
+
+pub check_assigned-requires : goal.check_assigned-requires
+check_assigned-requires m c =
+    let pre = c.requires in
+    let k = next_call _ pre.0 _ c.if-row-eq0.false pre.1 m c.decreases c.args.rest _ (row_is m (goal.at.check_assigned-requires m c).After-row_at-w) _ c.next_of-next.ensures in
+    (k.0, (pre.0, k.1, pre.2))
+
+pub returns : goal.returns
+returns m c = turned m (goal.at.returns m c).Joined-kind _ c.check_assigned.ensures
