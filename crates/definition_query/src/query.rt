@@ -48,7 +48,7 @@ use sheet_rows::{first_at, row_at, statement_at};
 
 // `process_comprs`: the comprehensions at listed rows, from place `at` on, before place `end`. Each query is analysed once, and what it takes
 // from around it rises. The walk that lists them is no part of the cycle.
-#[cycle(analyze_query_assign_pair_process_comprs_process_every_process_expr_process_literal_process_non_var_process_non_vars_process_pairs_process_some_in_process_stmts_use_expr)]
+#[cycle(analysis)]
 fn process_comprs(
     tables: &[u16],
     inner: &[u32],
@@ -85,7 +85,7 @@ fn process_comprs(
 }
 
 // What the expression at a row uses, with its comprehensions and those of the modifiers. Hands back all names that it uses.
-#[cycle(analyze_query_assign_pair_process_comprs_process_every_process_expr_process_literal_process_non_var_process_non_vars_process_pairs_process_some_in_process_stmts_use_expr)]
+#[cycle(analysis)]
 fn use_expr(
     tables: &[u16],
     inner: &[u32],
@@ -137,7 +137,7 @@ fn use_expr(
 }
 
 // A pair of an assignment, both ways; nothing where there is none. `check`: are the first uses of what stands on the left looked at?
-#[cycle(analyze_query_assign_pair_process_comprs_process_every_process_expr_process_literal_process_non_var_process_non_vars_process_pairs_process_some_in_process_stmts_use_expr)]
+#[cycle(analysis)]
 fn assign_pair(
     tables: &[u16],
     inner: &[u32],
@@ -163,7 +163,7 @@ fn assign_pair(
 }
 
 // `process_assign_expr`: the expressions of two chains side by side.
-#[cycle(analyze_query_assign_pair_process_comprs_process_every_process_expr_process_literal_process_non_var_process_non_vars_process_pairs_process_some_in_process_stmts_use_expr)]
+#[cycle(analysis)]
 fn process_pairs(
     tables: &[u16],
     inner: &[u32],
@@ -223,7 +223,7 @@ fn process_pairs(
 }
 
 // A part of a some-in pattern that is no variable; nothing where there is none.
-#[cycle(analyze_query_assign_pair_process_comprs_process_every_process_expr_process_literal_process_non_var_process_non_vars_process_pairs_process_some_in_process_stmts_use_expr)]
+#[cycle(analysis)]
 fn process_non_var(
     tables: &[u16],
     inner: &[u32],
@@ -258,7 +258,7 @@ fn process_non_var(
 }
 
 // The parts of the pattern at a row, with the rest of its chain, that are no variables.
-#[cycle(analyze_query_assign_pair_process_comprs_process_every_process_expr_process_literal_process_non_var_process_non_vars_process_pairs_process_some_in_process_stmts_use_expr)]
+#[cycle(analysis)]
 fn process_non_vars(
     tables: &[u16],
     inner: &[u32],
@@ -291,7 +291,7 @@ fn process_non_vars(
 }
 
 // `Literal::SomeIn`.
-#[cycle(analyze_query_assign_pair_process_comprs_process_every_process_expr_process_literal_process_non_var_process_non_vars_process_pairs_process_some_in_process_stmts_use_expr)]
+#[cycle(analysis)]
 fn process_some_in(
     tables: &[u16],
     outer: &[u32],
@@ -333,7 +333,7 @@ fn process_some_in(
 }
 
 // `Literal::Every`: the domain is read, and the body is a query below key and value.
-#[cycle(analyze_query_assign_pair_process_comprs_process_every_process_expr_process_literal_process_non_var_process_non_vars_process_pairs_process_some_in_process_stmts_use_expr)]
+#[cycle(analysis)]
 fn process_every(
     tables: &[u16],
     outer: &[u32],
@@ -387,7 +387,7 @@ fn process_every(
 }
 
 // `process_expr`: an assignment, or any other expression, which records its uses; `call`: does an extra argument count?
-#[cycle(analyze_query_assign_pair_process_comprs_process_every_process_expr_process_literal_process_non_var_process_non_vars_process_pairs_process_some_in_process_stmts_use_expr)]
+#[cycle(analysis)]
 fn process_expr(
     tables: &[u16],
     outer: &[u32],
@@ -426,7 +426,7 @@ fn process_expr(
 }
 
 // A literal, by its form.
-#[cycle(analyze_query_assign_pair_process_comprs_process_every_process_expr_process_literal_process_non_var_process_non_vars_process_pairs_process_some_in_process_stmts_use_expr)]
+#[cycle(analysis)]
 fn process_literal(
     tables: &[u16],
     outer: &[u32],
@@ -463,7 +463,7 @@ fn process_literal(
 }
 
 // The statements from a row on, the first being statement `statement`.
-#[cycle(analyze_query_assign_pair_process_comprs_process_every_process_expr_process_literal_process_non_var_process_non_vars_process_pairs_process_some_in_process_stmts_use_expr)]
+#[cycle(analysis)]
 fn process_stmts(
     tables: &[u16],
     outer: &[u32],
@@ -509,7 +509,7 @@ fn process_stmts(
 
 // `analyze_query`: the scope is gathered, the statements are processed in their order, then the outputs; last, the query is scheduled.
 // Nothing where there is no query.
-#[cycle(analyze_query_assign_pair_process_comprs_process_every_process_expr_process_literal_process_non_var_process_non_vars_process_pairs_process_some_in_process_stmts_use_expr)]
+#[cycle(analysis)]
 pub fn analyze_query(
     tables: &[u16],
     outer: &[u32],
