@@ -134,7 +134,8 @@ pub fn line_is(s: &[u8], at: usize, heading: &[u8]) -> bool
 // The section that comes next. Where a section before it was at fault, nothing is read.
 pub fn section_at(s: &[u8], p: Progress, heading: &[u8], area: Area, table: &mut [u16]) -> Progress
     requires sound_progress { SoundProgress s.now p }
-    requires heading_value { (no_newline heading.now ≡ true) × (area.width ≤ 8) × (area_end area ≤ length table.old) }
+    requires heading_is_line { no_newline heading.now ≡ true }
+    requires area_fits { (area.width ≤ 8) × (area_end area ≤ length table.old) }
     ensures { SectionRead s.now p heading.now area table.old result table.new }
 {
     if !p.good {

@@ -5,7 +5,7 @@ use Rattle.sheet_names.proofs.Laws.Finding.{Finding}
 use Rattle.sheet_names.proofs.special_names.Given as goal
 
 abbrev pub invariant-loop-at : goal.invariant-loop-at
-invariant-loop-at l = Finding l.s at row l.at l.row «data»
+invariant-loop-at l = Finding l.s l.at l.row l.blank l.input l.«data»
 
 abbrev pub decreases-loop-at : goal.decreases-loop-at
-decreases-loop-at l = length l.s - at
+decreases-loop-at l = length l.s - l.at

@@ -37,7 +37,7 @@ returns-then-not-p c = section-before _ _ _ _ _ (not-true _ c.if-not-p.true) c.r
 pub line_is-requires : goal.line_is-requires
 line_is-requires c =
     let pre = c.requires in
-    (pre.sound_progress.inside (not-false _ c.if-not-p.false), pre.heading_value.0)
+    (pre.sound_progress.inside (not-false _ c.if-not-p.false), pre.heading_is_line)
 
 pub returns-then-not-line_is : goal.returns-then-not-line_is
 returns-then-not-line_is c =
@@ -53,7 +53,7 @@ overflow_add-at-2 c = omega (arith, inside c)
 pub rows_at-r-requires : goal.rows_at-r-requires
 rows_at-r-requires c =
     let pre = c.requires in
-    (inside (goal.at.rows_at-r-requires c).Else-not-line_is, pre.heading_value.1, pre.heading_value.2)
+    (inside (goal.at.rows_at-r-requires c).Else-not-line_is, pre.area_fits.0, pre.area_fits.1)
 
 pub overflow_add-result : goal.overflow_add-result
 overflow_add-result c = omega (arith, few (goal.at.overflow_add-result c).After-rows_at-r)
