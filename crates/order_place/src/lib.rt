@@ -93,7 +93,7 @@ pub fn take_turn(
     order: &mut [u16],
     reached: &mut [u16],
 ) -> State
-    requires name_lt_per_name { (name < limits.per_name) × Indexed (row_words width) rows.now links.now masks.now n }
+    requires indexed { (name < limits.per_name) × Indexed (row_words width) rows.now links.now masks.now n }
     requires holds_placed { HoldsPlaced (definitions (row_words width) rows.now) n state order.old reached.old }
     requires knows { Knows (definitions (row_words width) rows.now) known.old (order_of state order.old) }
     ensures { let defs = definitions (row_words width) rows.now in
@@ -124,7 +124,7 @@ pub fn take_followed(
     order: &mut [u16],
     reached: &mut [u16],
 ) -> State
-    requires name_lt_per_name { (name < limits.per_name) × Indexed (row_words width) rows.now links.now masks.now n }
+    requires indexed { (name < limits.per_name) × Indexed (row_words width) rows.now links.now masks.now n }
     requires holds_placed { HoldsPlaced (definitions (row_words width) rows.now) n state order.old reached.old }
     requires knows { Knows (definitions (row_words width) rows.now) known.old (order_of state order.old) }
     ensures { let defs = definitions (row_words width) rows.now in
@@ -194,9 +194,9 @@ pub fn place_all(
 ) -> State
     requires sound_rows { SoundRows (row_words width) rows.now links.now n }
     requires masked { Masked (row_words width) rows.now masks.now defined.words }
-    requires n_in_bounds { (n ≤ length order.old) × (n ≤ length reached.old) }
-    requires by_index { (i : ℕ) → get_or order.old i 0 ≡ 0 }
-    requires by_index_2 { (i : ℕ) → get_or reached.old i 0 ≡ 0 }
+    requires room { (n ≤ length order.old) × (n ≤ length reached.old) }
+    requires order_zeros { (i : ℕ) → get_or order.old i 0 ≡ 0 }
+    requires reached_zeros { (i : ℕ) → get_or reached.old i 0 ≡ 0 }
     ensures { let defs = definitions (row_words width) rows.now in
         After defs n (placed_order defs n limits.per_name) result order.new reached.new }
 {

@@ -30,8 +30,8 @@ pub fn pass(
     statement: usize,
     seen: &mut [u64; WORDS],
 ) -> Passed
-    requires statement_lt_most_statements { (statement < limits.most_statements) × Linked (row_words width) rows.now links.now }
-    requires by_index { (k : ℕ) → k < row_count (row_words width) rows.now → var_at (row_words width) rows.now k < limits.per_name }
+    requires linked { (statement < limits.most_statements) × Linked (row_words width) rows.now links.now }
+    requires names_low { (k : ℕ) → k < row_count (row_words width) rows.now → var_at (row_words width) rows.now k < limits.per_name }
     requires seen_len { length seen.old ≡ 8 }
     ensures { (length seen.new ≡ 8) × Passes (row_words width) rows.now statement seen.old seen.new result.waiting × GrowsSeen seen.old seen.new result.grew }
 {
@@ -68,8 +68,8 @@ pub fn try_statement(
     statement: usize,
     known: &mut [u64; WORDS],
 ) -> bool
-    requires statement_lt_most_statements { (statement < limits.most_statements) × Linked (row_words width) rows.now links.now }
-    requires by_index { (k : ℕ) → k < row_count (row_words width) rows.now → var_at (row_words width) rows.now k < limits.per_name }
+    requires linked { (statement < limits.most_statements) × Linked (row_words width) rows.now links.now }
+    requires names_low { (k : ℕ) → k < row_count (row_words width) rows.now → var_at (row_words width) rows.now k < limits.per_name }
     requires known_len { length known.old ≡ 8 }
     ensures { (length known.new ≡ 8) × Tries (row_words width) rows.now statement known.old result known.new }
 {

@@ -48,9 +48,9 @@ pub fn name_at(width: Width, rows: &[u64], k: usize) -> usize
 
 // Links the rows of each statement. A proof is not told the length of an array behind a `&mut`, so the contracts below say it.
 pub fn link(width: Width, rows: &[u64], links: &mut [u16; CELLS])
-    requires rows_bound { row_count (row_words width) rows.now ≤ limits.most_definitions }
-    requires by_index { (k : ℕ) → k < row_count (row_words width) rows.now → statement_at (row_words width) rows.now k < limits.most_statements }
-    requires links_len { (length links.old ≡ sizes.cells) × ((i : ℕ) → get_or links.old i 0 ≡ 0) }
+    requires few { row_count (row_words width) rows.now ≤ limits.most_definitions }
+    requires statements_low { (k : ℕ) → k < row_count (row_words width) rows.now → statement_at (row_words width) rows.now k < limits.most_statements }
+    requires links_zeros { (length links.old ≡ sizes.cells) × ((i : ℕ) → get_or links.old i 0 ≡ 0) }
     ensures { Linked (row_words width) rows.now links.new }
 {
     let row = width.row();
@@ -83,9 +83,9 @@ pub fn add_to_mask(masks: &mut [u64; MASKS], name: usize, statement: usize)
 
 // Fills the set of statements of each name, and answers the names that have one.
 pub fn mask(width: Width, rows: &[u64], masks: &mut [u64; MASKS]) -> Names
-    requires by_index { (k : ℕ) → k < row_count (row_words width) rows.now → statement_at (row_words width) rows.now k < limits.most_statements }
-    requires by_index_2 { (k : ℕ) → k < row_count (row_words width) rows.now → var_at (row_words width) rows.now k < limits.per_name }
-    requires masks_len { (length masks.old ≡ sizes.masks) × ((i : ℕ) → get_or masks.old i 0 ≡ 0) }
+    requires statements_low { (k : ℕ) → k < row_count (row_words width) rows.now → statement_at (row_words width) rows.now k < limits.most_statements }
+    requires names_low { (k : ℕ) → k < row_count (row_words width) rows.now → var_at (row_words width) rows.now k < limits.per_name }
+    requires masks_zeros { (length masks.old ≡ sizes.masks) × ((i : ℕ) → get_or masks.old i 0 ≡ 0) }
     ensures { Masked (row_words width) rows.now masks.new result.words }
 {
     let row = width.row();

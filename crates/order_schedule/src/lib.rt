@@ -26,8 +26,8 @@ pub fn place_rows(
     reached: &mut [u16],
 ) -> State
     requires accepted_list { AcceptedList (limits width) rows.now n (length order.old) (length reached.old) }
-    requires by_index { (i : ℕ) → get_or order.old i 0 ≡ 0 }
-    requires by_index_2 { (i : ℕ) → get_or reached.old i 0 ≡ 0 }
+    requires order_zeros { (i : ℕ) → get_or order.old i 0 ≡ 0 }
+    requires reached_zeros { (i : ℕ) → get_or reached.old i 0 ≡ 0 }
     ensures { After (definitions (row_words width) rows.now) n (placed_order (definitions (row_words width) rows.now) n limit.per_name) result order.new reached.new }
 {
     let mut links: [u16; CELLS] = [0; CELLS];
@@ -46,8 +46,8 @@ pub fn arrange_rows(
     reached: &mut [u16],
 ) -> bool
     requires accepted_list { AcceptedList (limits width) rows.now n (length order.old) (length reached.old) }
-    requires by_index { (i : ℕ) → get_or order.old i 0 ≡ 0 }
-    requires by_index_2 { (i : ℕ) → get_or reached.old i 0 ≡ 0 }
+    requires order_zeros { (i : ℕ) → get_or order.old i 0 ≡ 0 }
+    requires reached_zeros { (i : ℕ) → get_or reached.old i 0 ≡ 0 }
     ensures { Arranged (limits width) rows.now n (length order.old) (length reached.old) result order.new reached.new }
 {
     let end = place_rows(width, rows, n, order, reached);

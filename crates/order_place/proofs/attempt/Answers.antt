@@ -24,7 +24,7 @@ bounds-order-count c =
 pub returns : goal.returns
 returns c =
     let pre = c.requires in
-    let passes = not-false c.try_statement.result c.if-not-try_statement.false in
+    let passes = c.if-not-try_statement.false in
     let says = c.try_statement.ensures in (
       goes pre.holds_placed pre.waiting pre.knows says.1.says passes c.insert-all.ensures,
       learns pre.holds_placed pre.waiting pre.knows says.0 (says.1.knows passes),

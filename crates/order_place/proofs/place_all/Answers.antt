@@ -9,7 +9,7 @@ pub take_turn-at-requires : goal.take_turn-at-requires
 take_turn-at-requires c =
     let none = c.empty-none in
     let pre = c.requires in
-    ((omega arith, masked-indexed pre.sound_rows pre.masked), (begins _ none.result none.ensures pre.n_in_bounds pre.by_index pre.by_index_2, knows-none _))
+    ((omega arith, masked-indexed pre.sound_rows pre.masked), (begins _ none.result none.ensures pre.room pre.order_zeros pre.reached_zeros, knows-none _))
 
 pub loop-at-init : goal.loop-at-init
 loop-at-init c =

@@ -9,7 +9,7 @@ returns-then-after-before c =
 
 pub take_turn-requires : goal.take_turn-requires
 take_turn-requires c =
-    ((omega arith, c.requires.name_lt_per_name.1), (c.take_turn-own.ensures.0.holds, c.take_turn-own.ensures.1))
+    ((omega arith, c.requires.indexed.1), (c.take_turn-own.ensures.0.holds, c.take_turn-own.ensures.1))
 
 pub returns : goal.returns
 returns c =

@@ -1,15 +1,8 @@
-use mathlib.Core.Path.{refl, sym, ◌∙◌}
+use mathlib.Core.Path.{sym, ◌∙◌}
 use native.Mathlib.Omega.{arith}
 use borrow.Author.Tests.{not-true, not-false}
-use Rattle.order_resolve.proofs.Laws.Trying.{trying_first, trying_next, trying_less, trying_resolved, trying_fails}
+use Rattle.order_resolve.proofs.Laws.Trying.{trying_next, trying_less, trying_resolved, trying_fails}
 use Rattle.order_resolve.proofs.try_statement.Goals as goal
-
-pub loop-width-init : goal.loop-width-init
-loop-width-init c = (c.requires.known_len, refl, trying_first _ _ _ _)
-
-pub pass-p-requires : goal.pass-p-requires
-pass-p-requires c =
-    (c.requires.statement_lt_most_statements, (c.requires.by_index, c.loop-width.invariant.0))
 
 pub returns-then-not-p : goal.returns-then-not-p
 returns-then-not-p c =

@@ -16,7 +16,7 @@ module _ (c : In-loop-k) where
   there = omega arith
 
   few : c.loop-k.k < 640
-  few = let most = c.requires.rows_bound in omega (arith, rw (sym c.row-row.ensures) at most, there)
+  few = let most = c.requires.few in omega (arith, rw (sym c.row-row.ensures) at most, there)
 
   whole : c.row-row.result * c.loop-k.k + c.row-row.result ≤ length c.args.rows.now
   whole = row-whole _ c.loop-k.k c.args.rows.now there
@@ -24,7 +24,7 @@ module _ (c : In-loop-k) where
   small : statement_at c.row-row.result c.args.rows.now c.loop-k.k < 128
   small =
       let v = c.row-row.ensures in
-      rw v (c.requires.by_index c.loop-k.k (rw v at there))
+      rw v (c.requires.statements_low c.loop-k.k (rw v at there))
 
   some : 0 < c.row-row.result
   some = omega (arith, c.row-row.ensures, row_words_lem c.args.width)
@@ -35,7 +35,7 @@ nonzero_div-count c = omega (arith, c.row-row.ensures, row_words_lem c.args.widt
 pub loop-k-init : goal.loop-k-init
 loop-k-init c =
     let pre = c.requires in
-    (search rules, pre.links_len.0, linked-first _ _ _ pre.links_len.1)
+    (search rules, pre.links_zeros.0, linked-first _ _ _ pre.links_zeros.1)
 
 pub overflow_mul-statement : goal.overflow_mul-statement
 overflow_mul-statement c = record { fits = omega (arith, whole c) }

@@ -26,7 +26,7 @@ module _ (c : In-loop-k) where
   small =
       let v = c.row-row.ensures in
       let pre = c.requires in
-      (rw v (pre.by_index c.loop-k.k (rw v at there)), rw v (pre.by_index_2 c.loop-k.k (rw v at there)))
+      (rw v (pre.statements_low c.loop-k.k (rw v at there)), rw v (pre.names_low c.loop-k.k (rw v at there)))
 
   wide : 2 ≤ c.row-row.result
   wide = omega (arith, c.row-row.ensures, row_words_lem c.args.width)
@@ -37,7 +37,7 @@ nonzero_div-count c = omega (arith, c.row-row.ensures, row_words_lem c.args.widt
 pub loop-k-init : goal.loop-k-init
 loop-k-init c =
     let pre = c.requires in
-    (search rules, pre.masks_len.0, length-replicate {A = ℕ} 8 0, masked-first _ _ _ _ pre.masks_len.0 pre.masks_len.1 (zeros-empty 8))
+    (search rules, pre.masks_zeros.0, length-replicate {A = ℕ} 8 0, masked-first _ _ _ _ pre.masks_zeros.0 pre.masks_zeros.1 (zeros-empty 8))
 
 pub overflow_mul-name : goal.overflow_mul-name
 overflow_mul-name c = record { fits = omega (arith, whole c) }

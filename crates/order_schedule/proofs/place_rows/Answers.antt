@@ -31,4 +31,4 @@ pub place_all-requires : goal.place_all-requires
 place_all-requires c =
     let pre = c.requires in
     let a = pre.accepted_list in
-    (record { few = a.few; stated = a.stated; named = names-low c.args.width a; (goal.at.place_all-requires c).After-link = c.link.ensures }, (c.mask-defined.ensures, ((a.ordered, a.marked), (pre.by_index, pre.by_index_2))))
+    (record { few = a.few; stated = a.stated; named = names-low c.args.width a; (goal.at.place_all-requires c).After-link = c.link.ensures }, (c.mask-defined.ensures, ((a.ordered, a.marked), (pre.order_zeros, pre.reached_zeros))))

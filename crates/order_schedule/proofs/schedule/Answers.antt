@@ -47,9 +47,9 @@ scheduled k taken all o m a =
 pub returns-then-arrange_rows : goal.returns-then-arrange_rows
 returns-then-arrange_rows c =
     let a = c.arrange_rows in
-    scheduled (goal.at.returns-then-arrange_rows c).After-admits (c.if-not-admits.false) _ _ _ (rw c.if-arrange_rows.true at a.ensures)
+    scheduled (goal.at.returns-then-arrange_rows c).After-admits c.if-not-admits.false _ _ _ (rw c.if-arrange_rows.true at a.ensures)
 
 pub returns : goal.returns
 returns c =
     let a = c.arrange_rows in
-    scheduled (goal.at.returns c).After-admits (c.if-not-admits.false) _ _ _ (rw c.if-arrange_rows.false at a.ensures)
+    scheduled (goal.at.returns c).After-admits c.if-not-admits.false _ _ _ (rw c.if-arrange_rows.false at a.ensures)
