@@ -66,7 +66,7 @@ module _ (sheet : Sheet) (q : ℕ) where
   recorded-at_least a e j l =
       let r = schedule_fits a e in
       let n : a.count ≡ length (stmts_of sheet q) = r.0.whole ∙ ap (λ (p : ℕ). length (stmts_of sheet p)) r.1 in
-      rw e (r.0.at_least_lem j (omega arith))
+      rw e (r.0.at_least j (omega arith))
 
   -- The schedule counts the query's statements, of which there are no more than the sheet has.
   pub count_at-most : (a : QuerySchedule) → schedule_once sheet q ≡ some a → a.count ≤ length sheet.statements
