@@ -9,7 +9,7 @@ push_definition-requires c =
 
 pub overflow_add-result : goal.overflow_add-result
 overflow_add-result c =
-    record { fits = omega (arith, c.well-formed.1.1.1.1.1.0, leaf_few _ _ c.args.statement c.args.w c.args.used c.args.definitions.now _ c.requires.0 _ c.owns.ensures c.if-owns.true _ c.requires.2) }
+    record { fits = omega (arith, c.well_formed.1.1.1.1.1.0, leaf_few _ _ c.args.statement c.args.w c.args.used c.args.definitions.now _ c.requires.0 _ c.owns.ensures c.if-owns.true _ c.requires.2) }
 
 pub returns-then-owns : goal.returns-then-owns
 returns-then-owns c =
