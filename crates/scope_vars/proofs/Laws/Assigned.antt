@@ -8,7 +8,7 @@ use borrow.Author.Tests.{eq-eqb}
 use Rattle.sheet.specs.declared.Row.{Row}
 use Rattle.sheet.specs.Inner.Sheet.{row_at}
 use Rattle.sheet.specs.Sheet.{is_input, is_special}
-use Rattle.sheet.specs.Kinds.{is_var, is_pattern}
+use Rattle.sheet.specs.Kinds.{is_var}
 use Rattle.scope.specs.Trees.{Tree, row_of}
 use Rattle.scope.specs.Traverse.{leaves}
 use Rattle.scope.specs.Scopes as spec

@@ -18,6 +18,7 @@ returns-then-has c = record {
   long = refl;
   done = λ l.
       var-unscoped _ _ _ _ (sym c.is_input.ensures ∙ c.if-is_input.false) (sym c.has.ensures ∙ c.if-has.true);
+}
 
 pub returns-then-not-var_exists : goal.returns-then-not-var_exists
 returns-then-not-var_exists c =

@@ -9,7 +9,7 @@ use Rattle.scope_vars.proofs.vars.gather_bound.Goals as goal
 pub returns-then-row-eq0 : goal.returns-then-row-eq0
 returns-then-row-eq0 c =
     let a = c.args in
-    bound-none a.tables.now a.outer.now c.requires.accepted a.row c.if-row-eq0.true a.rest a.can-shadow a.scope a.spans.now
+    bound-none a.tables.now a.outer.now c.requires.accepted a.row c.if-row-eq0.true a.rest a.can_shadow a.scope a.spans.now
 
 pub gather_assigned_vars-s-requires : goal.gather_assigned_vars-s-requires
 gather_assigned_vars-s-requires c =
@@ -35,13 +35,13 @@ gather_assigned_vars-requires c =
 pub returns-then-is_assign : goal.returns-then-is_assign
 returns-then-is_assign c =
     let a = c.args in
-    bound_assign a.tables.now a.outer.now c.requires.accepted a.row c.if-row-eq0.false c.requires.row_in a.rest a.can-shadow
+    bound_assign a.tables.now a.outer.now c.requires.accepted a.row c.if-row-eq0.false c.requires.row_in a.rest a.can_shadow
     c.row_at-w.result (c.row_at-w.ensures ∙ row-fields _ _) _ c.is_assign.ensures c.if-is_assign.true
     _ _ _ _ _ _ c.gather_assigned_vars-s.ensures c.gather_assigned_vars.ensures
 
 pub returns : goal.returns
 returns c =
     let a = c.args in
-    bound-other a.tables.now a.outer.now c.requires.accepted a.row c.if-row-eq0.false c.requires.row_in a.rest a.can-shadow
+    bound-other a.tables.now a.outer.now c.requires.accepted a.row c.if-row-eq0.false c.requires.row_in a.rest a.can_shadow
     c.row_at-w.result (c.row_at-w.ensures ∙ row-fields _ _) _ c.is_assign.ensures c.if-is_assign.false
     _ _ _ _ c.gather_assigned_vars-2.ensures

@@ -5,4 +5,4 @@ use Rattle.scope_vars.proofs.vars.gather_vars.Goals as goal
 pub returns : goal.returns
 returns c =
     let a = c.args in
-    bound_and_read a.tables.now a.outer.now a.row a.rest a.can-shadow _ _ _ _ _ _ c.gather_bound-s.ensures c.gather_read.ensures
+    bound_and_read a.tables.now a.outer.now a.row a.rest a.can_shadow _ _ _ _ _ _ c.gather_bound-s.ensures c.gather_read.ensures
