@@ -14,8 +14,7 @@ loop-i-init c = (search rules, refl, rw (range-nil 0 0 (omega arith)))
 
 pub loop-i-preserved : goal.loop-i-preserved
 loop-i-preserved c =
-    let loop = c.loop-i in
-    (
+    let loop = c.loop-i in (
       omega arith,
       length-set loop.buffer loop.i loop.i ∙ loop.invariant.1,
       ap (λ (l : List ℕ). set l loop.i loop.i) loop.invariant.2 ∙ count-more c.args.buffer.now loop.i (omega arith),
