@@ -2,7 +2,7 @@
 use mathlib.Core.Path.{◌≡◌, refl, ◌∙◌}
 use mathlib.Core.Bool.{true}
 use mathlib.Core.List.{List}
-use mathlib.Core.Logic.{⊎_elim}
+use mathlib.Core.Logic.{inl, inr}
 use Prim.Native.Nat.{ℕ, ◌≤◌, ◌<◌}
 use native.Mathlib.Omega.{arith}
 use lib.ListN.{length}
@@ -16,6 +16,7 @@ use Rattle.definition_comprs.specs.Inner.Lists.{Lists, comprs_by, AtRow}
 use Rattle.definition_comprs.proofs.Laws.Lists.{lists_none, PartsRoom, row_room, own-fits, lists_turn, ListTurn, is_compr_kind, compr_kind_lem, lists_still, lists_compr}
 use Rattle.scope_walk.proofs.Laws.Arms.{arm, quiet_arm, last_arm, no_compr_kind}
 use Rattle.definition_comprs.proofs.list.+list_comprs.Goals.{After-row_at-w, Joined-k-ne0, Joined-k-ne0-2, Joined-k-ne0-3, Joined-kind}
+use Rattle.definition_comprs.proofs.list.+list_comprs.Goals.{in-1, in-2, in-3, in-4, in-5, in-6, in-7, in-8, in-9, in-10, in-11, in-12, in-13, in-14, in-15, in-16, in-17, in-18, in-19, in-20, in-21, in-22, in_default, then-k-ne0, else-k-ne0, then-k-ne0-2, else-k-ne0-2, then-k-ne0-3, else-k-ne0-3}
 use Rattle.definition_comprs.proofs.list.+list_comprs.Goals as goal
 
 pub returns-then-row-eq0 : goal.returns-then-row-eq0
@@ -53,29 +54,40 @@ turn m c =
     let row = a.row in
     let s : ℕ × List ℕ = (a.count, a.rows.now) in
     let still = lists_still w row s in
-    ⊎_elim (λ x. quiet_arm is_compr_kind still 1 x.0.keys1 refl (λ i. (x.3 i, x.2 i)) (x.4 ∙ x.1.ensures)) (
-    ⊎_elim (λ x. quiet_arm is_compr_kind still 2 x.0.keys2 refl (λ i. (x.3 i, x.2 i)) (x.4 ∙ x.1.ensures)) (
-    ⊎_elim (λ x. quiet_arm is_compr_kind still 3 x.0.keys3 refl (λ i. (x.3 i, x.2 i)) (x.4 ∙ x.1.ensures)) (
-    ⊎_elim (λ x. quiet_arm is_compr_kind still 4 x.0.keys4 refl (λ i. (x.3 i, x.2 i)) (x.4 ∙ x.1.ensures)) (
-    ⊎_elim (λ x. quiet_arm is_compr_kind still 5 x.0.keys5 refl (λ i. (x.3 i, x.2 i)) (x.4 ∙ x.1.ensures)) (
-    ⊎_elim (λ x. quiet_arm is_compr_kind still 6 x.0.keys6 refl (λ i. (x.3 i, x.2 i)) (x.4 ∙ x.1.ensures)) (
-    ⊎_elim (λ x. quiet_arm is_compr_kind still 7 x.0.keys7 refl (λ i. (x.3 i, x.2 i)) (x.4 ∙ x.1.ensures)) (
-    ⊎_elim (λ x. quiet_arm is_compr_kind still 8 x.0.keys8 refl (λ i. (x.3 i, x.2 i)) (x.4 ∙ x.1.ensures)) (
-    ⊎_elim (λ x. quiet_arm is_compr_kind still 9 x.0.keys9 refl (λ i. (x.3 i, x.2 i)) (x.4 ∙ x.1.ensures)) (
-    ⊎_elim (λ x. arm 10 x.0.keys10 (lists_compr w row s (compr_kind_lem w 10 x.0.keys10 refl) _ x.2.ensures) (λ i. (x.7 i, x.6 i)) (x.8 ∙ x.5.ensures)) (
-    ⊎_elim (λ x. arm 11 x.0.keys11 (lists_compr w row s (compr_kind_lem w 11 x.0.keys11 refl) _ x.2.ensures) (λ i. (x.7 i, x.6 i)) (x.8 ∙ x.5.ensures)) (
-    ⊎_elim (λ x. arm 12 x.0.keys12 (lists_compr w row s (compr_kind_lem w 12 x.0.keys12 refl) _ x.2.ensures) (λ i. (x.7 i, x.6 i)) (x.8 ∙ x.5.ensures)) (
-    ⊎_elim (λ x. quiet_arm is_compr_kind still 13 x.0.keys13 refl (λ i. (x.3 i, x.2 i)) (x.4 ∙ x.1.ensures)) (
-    ⊎_elim (λ x. quiet_arm is_compr_kind still 14 x.0.keys14 refl (λ i. (x.3 i, x.2 i)) (x.4 ∙ x.1.ensures)) (
-    ⊎_elim (λ x. quiet_arm is_compr_kind still 15 x.0.keys15 refl (λ i. (x.3 i, x.2 i)) (x.4 ∙ x.1.ensures)) (
-    ⊎_elim (λ x. quiet_arm is_compr_kind still 16 x.0.keys16 refl (λ i. (x.3 i, x.2 i)) (x.4 ∙ x.1.ensures)) (
-    ⊎_elim (λ x. quiet_arm is_compr_kind still 17 x.0.keys17 refl (λ i. (x.3 i, x.2 i)) (x.4 ∙ x.1.ensures)) (
-    ⊎_elim (λ x. quiet_arm is_compr_kind still 18 x.0.keys18 refl (λ i. (x.3 i, x.2 i)) (x.4 ∙ x.1.ensures)) (
-    ⊎_elim (λ x. quiet_arm is_compr_kind still 19 x.0.keys19 refl (λ i. (x.3 i, x.2 i)) (x.4 ∙ x.1.ensures)) (
-    ⊎_elim (λ x. quiet_arm is_compr_kind still 20 x.0.keys20 refl (λ i. (x.3 i, x.2 i)) (x.4 ∙ x.1.ensures)) (
-    ⊎_elim (λ x. quiet_arm is_compr_kind still 21 x.0.keys21 refl (λ i. (x.3 i, x.2 i)) (x.4 ∙ x.1.ensures)) (
-    ⊎_elim (λ x. quiet_arm is_compr_kind still 22 x.0.keys22 refl (λ i. (x.3 i, x.2 i)) (x.4 ∙ x.1.ensures))
-    (λ x. last_arm is_compr_kind still (no_compr_kind w) x.0.rest (λ i. (x.3 i, x.2 i)) (x.4 ∙ x.1.ensures))))))))))))))))))))))) c.match-kind.branch
+    elim c.match-kind.branch [
+      in-1 x ↦ quiet_arm is_compr_kind still 1 x.in-1.is refl (λ i. (x.n-is i, x.rows-is i)) (x.k-is ∙ x.none-k.ensures)
+      | in-2 x ↦ quiet_arm is_compr_kind still 2 x.in-2.is refl (λ i. (x.n-is i, x.rows-is i)) (x.k-is ∙ x.none-k-in-2.ensures)
+      | in-3 x ↦ quiet_arm is_compr_kind still 3 x.in-3.is refl (λ i. (x.n-is i, x.rows-is i)) (x.k-is ∙ x.none-k-in-3.ensures)
+      | in-4 x ↦ quiet_arm is_compr_kind still 4 x.in-4.is refl (λ i. (x.n-is i, x.rows-is i)) (x.k-is ∙ x.none-k-in-4.ensures)
+      | in-5 x ↦ quiet_arm is_compr_kind still 5 x.in-5.is refl (λ i. (x.n-is i, x.rows-is i)) (x.k-is ∙ x.none-k-in-5.ensures)
+      | in-6 x ↦ quiet_arm is_compr_kind still 6 x.in-6.is refl (λ i. (x.n-is i, x.rows-is i)) (x.k-is ∙ x.none-k-in-6.ensures)
+      | in-7 x ↦ quiet_arm is_compr_kind still 7 x.in-7.is refl (λ i. (x.n-is i, x.rows-is i)) (x.k-is ∙ x.one-k.ensures)
+      | in-8 x ↦ quiet_arm is_compr_kind still 8 x.in-8.is refl (λ i. (x.n-is i, x.rows-is i)) (x.k-is ∙ x.one-k-in-8.ensures)
+      | in-9 x ↦ quiet_arm is_compr_kind still 9 x.in-9.is refl (λ i. (x.n-is i, x.rows-is i)) (x.k-is ∙ x.one-k-in-9.ensures)
+      | in-10 x ↦ arm 10 x.in-10.is (lists_compr w row s (compr_kind_lem w 10 x.in-10.is refl) _ x.list_row-n.ensures) (λ i. (x.n-is i, x.rows-is i)) (x.k-is ∙ x.none-k-in-10.ensures)
+      | in-11 x ↦ arm 11 x.in-11.is (lists_compr w row s (compr_kind_lem w 11 x.in-11.is refl) _ x.list_row-n-in-11.ensures) (λ i. (x.n-is i, x.rows-is i)) (x.k-is ∙ x.none-k-in-11.ensures)
+      | in-12 x ↦ arm 12 x.in-12.is (lists_compr w row s (compr_kind_lem w 12 x.in-12.is refl) _ x.list_row-n-in-12.ensures) (λ i. (x.n-is i, x.rows-is i)) (x.k-is ∙ x.none-k-in-12.ensures)
+      | in-13 x ↦ quiet_arm is_compr_kind still 13 x.in-13.is refl (λ i. (x.n-is i, x.rows-is i)) (x.k-is ∙ x.one-k-in-13.ensures)
+      | in-14 x ↦ quiet_arm is_compr_kind still 14 x.in-14.is refl (λ i. (x.n-is i, x.rows-is i)) (x.k-is ∙ x.one-k-in-14.ensures)
+      | in-15 x ↦ quiet_arm is_compr_kind still 15 x.in-15.is refl (λ i. (x.n-is i, x.rows-is i)) (x.k-is ∙ x.one-k-in-15.ensures)
+      | in-16 x ↦ quiet_arm is_compr_kind still 16 x.in-16.is refl (λ i. (x.n-is i, x.rows-is i)) (x.k-is ∙ x.two-k.ensures)
+      | in-17 x ↦ quiet_arm is_compr_kind still 17 x.in-17.is refl (λ i. (x.n-is i, x.rows-is i)) (x.k-is ∙ x.two-k-in-17.ensures)
+      | in-18 x ↦ quiet_arm is_compr_kind still 18 x.in-18.is refl (λ i. (x.n-is i, x.rows-is i)) (x.k-is ∙ x.two-k-in-18.ensures)
+      | in-19 x ↦ quiet_arm is_compr_kind still 19 x.in-19.is refl (λ i. (x.n-is i, x.rows-is i)) (x.k-is ∙ x.two-k-in-19.ensures)
+      | in-20 x ↦ quiet_arm is_compr_kind still 20 x.in-20.is refl (λ i. (x.n-is i, x.rows-is i)) (x.k-is ∙ x.two-k-in-20.ensures)
+      | in-21 x ↦ quiet_arm is_compr_kind still 21 x.in-21.is refl (λ i. (x.n-is i, x.rows-is i)) (x.k-is ∙ x.two-k-in-21.ensures)
+      | in-22 x ↦ quiet_arm is_compr_kind still 22 x.in-22.is refl (λ i. (x.n-is i, x.rows-is i)) (x.k-is ∙ x.three-k.ensures)
+      | in_default x ↦ last_arm is_compr_kind still (no_compr_kind w) x.in_default.in_default-own.rest (λ i. (x.n-is i, x.rows-is i)) (x.k-is ∙ x.none-k-in_default.ensures)
+    ]
+
+pub list_row-n-requires : goal.list_row-n-requires
+list_row-n-requires m c = fits m (goal.at.list_row-n-requires m c).After-row_at-w (compr_kind_lem c.row_at-w.result 10 c.in-10.is refl)
+
+pub list_row-n-requires-in-11 : goal.list_row-n-requires-in-11
+list_row-n-requires-in-11 m c = fits m (goal.at.list_row-n-requires-in-11 m c).After-row_at-w (compr_kind_lem c.row_at-w.result 11 c.in-11.is refl)
+
+pub list_row-n-requires-in-12 : goal.list_row-n-requires-in-12
+list_row-n-requires-in-12 m c = fits m (goal.at.list_row-n-requires-in-12 m c).After-row_at-w (compr_kind_lem c.row_at-w.result 12 c.in-12.is refl)
 
 row_is-at-Joined-kind : (m : ℕ) (c : Joined-kind m)
     → c.row_at-w.result ≡ row_at c.args.tables.now c.args.row
@@ -112,8 +124,10 @@ first_walk : (m : ℕ) (c : Joined-k-ne0 m)
     →
     Walked c.args.tables.now c.match-kind.k.first (c.match-kind.n, c.match-kind.rows) (c.if-k-ne0.n, c.if-k-ne0.rows)
 first_walk m c =
-    past_guard (Walked c.args.tables.now) (λ a. lists_none _ c.requires.accepted _ refl true a.1 a.0) _ _ _
-    (λ w. (_, w.2.ensures, λ i. (w.6 i, w.5 i))) (λ w. (w.0.left, λ i. (w.2 i, w.1 i))) c.if-k-ne0.branch
+    elim c.if-k-ne0.branch [
+      then-k-ne0 w ↦ past_guard (Walked c.args.tables.now) (λ a. lists_none _ c.requires.accepted _ refl true a.1 a.0) _ _ _ (λ w. w) (λ w. w) (inl (_, w.list_comprs-n.ensures, λ i. (w.n-is i, w.rows-is i)))
+      | else-k-ne0 w ↦ past_guard (Walked c.args.tables.now) (λ a. lists_none _ c.requires.accepted _ refl true a.1 a.0) _ _ _ (λ w. w) (λ w. w) (inr (w.if-k-ne0.false, λ i. (w.n-is i, w.rows-is i)))
+    ]
 
 pub list_comprs-n-requires-then-k-ne0-2 : goal.list_comprs-n-requires-then-k-ne0-2
 list_comprs-n-requires-then-k-ne0-2 m c =
@@ -126,8 +140,10 @@ second_walk : (m : ℕ) (c : Joined-k-ne0-2 m)
     →
     Walked c.args.tables.now c.match-kind.k.second (c.if-k-ne0.n, c.if-k-ne0.rows) (c.if-k-ne0-2.n, c.if-k-ne0-2.rows)
 second_walk m c =
-    past_guard (Walked c.args.tables.now) (λ a. lists_none _ c.requires.accepted _ refl true a.1 a.0) _ _ _
-    (λ w. (_, w.2.ensures, λ i. (w.6 i, w.5 i))) (λ w. (w.0.left, λ i. (w.2 i, w.1 i))) c.if-k-ne0-2.branch
+    elim c.if-k-ne0-2.branch [
+      then-k-ne0-2 w ↦ past_guard (Walked c.args.tables.now) (λ a. lists_none _ c.requires.accepted _ refl true a.1 a.0) _ _ _ (λ w. w) (λ w. w) (inl (_, w.list_comprs-n-then-k-ne0-2.ensures, λ i. (w.n-is i, w.rows-is i)))
+      | else-k-ne0-2 w ↦ past_guard (Walked c.args.tables.now) (λ a. lists_none _ c.requires.accepted _ refl true a.1 a.0) _ _ _ (λ w. w) (λ w. w) (inr (w.if-k-ne0-2.false, λ i. (w.n-is i, w.rows-is i)))
+    ]
 
 pub list_comprs-n-requires-then-k-ne0-3 : goal.list_comprs-n-requires-then-k-ne0-3
 list_comprs-n-requires-then-k-ne0-3 m c =
@@ -141,8 +157,10 @@ third-walk : (m : ℕ) (c : Joined-k-ne0-3 m)
     →
     Walked c.args.tables.now c.match-kind.k.third (c.if-k-ne0-2.n, c.if-k-ne0-2.rows) (c.if-k-ne0-3.n, c.if-k-ne0-3.rows)
 third-walk m c =
-    past_guard (Walked c.args.tables.now) (λ a. lists_none _ c.requires.accepted _ refl true a.1 a.0) _ _ _
-    (λ w. (_, w.2.ensures, λ i. (w.6 i, w.5 i))) (λ w. (w.0.left, λ i. (w.2 i, w.1 i))) c.if-k-ne0-3.branch
+    elim c.if-k-ne0-3.branch [
+      then-k-ne0-3 w ↦ past_guard (Walked c.args.tables.now) (λ a. lists_none _ c.requires.accepted _ refl true a.1 a.0) _ _ _ (λ w. w) (λ w. w) (inl (_, w.list_comprs-n-then-k-ne0-3.ensures, λ i. (w.n-is i, w.rows-is i)))
+      | else-k-ne0-3 w ↦ past_guard (Walked c.args.tables.now) (λ a. lists_none _ c.requires.accepted _ refl true a.1 a.0) _ _ _ (λ w. w) (λ w. w) (inr (w.if-k-ne0-3.false, λ i. (w.n-is i, w.rows-is i)))
+    ]
 
 pub list_comprs-requires : goal.list_comprs-requires
 list_comprs-requires m c =
@@ -174,43 +192,49 @@ turn-at-Joined-k-ne0-3 m c =
     let row = a.row in
     let s : ℕ × List ℕ = (a.count, a.rows.now) in
     let still = lists_still w row s in
-    ⊎_elim (λ x. quiet_arm is_compr_kind still 1 x.0.keys1 refl (λ i. (x.3 i, x.2 i)) (x.4 ∙ x.1.ensures)) (
-    ⊎_elim (λ x. quiet_arm is_compr_kind still 2 x.0.keys2 refl (λ i. (x.3 i, x.2 i)) (x.4 ∙ x.1.ensures)) (
-    ⊎_elim (λ x. quiet_arm is_compr_kind still 3 x.0.keys3 refl (λ i. (x.3 i, x.2 i)) (x.4 ∙ x.1.ensures)) (
-    ⊎_elim (λ x. quiet_arm is_compr_kind still 4 x.0.keys4 refl (λ i. (x.3 i, x.2 i)) (x.4 ∙ x.1.ensures)) (
-    ⊎_elim (λ x. quiet_arm is_compr_kind still 5 x.0.keys5 refl (λ i. (x.3 i, x.2 i)) (x.4 ∙ x.1.ensures)) (
-    ⊎_elim (λ x. quiet_arm is_compr_kind still 6 x.0.keys6 refl (λ i. (x.3 i, x.2 i)) (x.4 ∙ x.1.ensures)) (
-    ⊎_elim (λ x. quiet_arm is_compr_kind still 7 x.0.keys7 refl (λ i. (x.3 i, x.2 i)) (x.4 ∙ x.1.ensures)) (
-    ⊎_elim (λ x. quiet_arm is_compr_kind still 8 x.0.keys8 refl (λ i. (x.3 i, x.2 i)) (x.4 ∙ x.1.ensures)) (
-    ⊎_elim (λ x. quiet_arm is_compr_kind still 9 x.0.keys9 refl (λ i. (x.3 i, x.2 i)) (x.4 ∙ x.1.ensures)) (
-    ⊎_elim (λ x. arm 10 x.0.keys10 (lists_compr w row s (compr_kind_lem w 10 x.0.keys10 refl) _ x.2.ensures) (λ i. (x.7 i, x.6 i)) (x.8 ∙ x.5.ensures)) (
-    ⊎_elim (λ x. arm 11 x.0.keys11 (lists_compr w row s (compr_kind_lem w 11 x.0.keys11 refl) _ x.2.ensures) (λ i. (x.7 i, x.6 i)) (x.8 ∙ x.5.ensures)) (
-    ⊎_elim (λ x. arm 12 x.0.keys12 (lists_compr w row s (compr_kind_lem w 12 x.0.keys12 refl) _ x.2.ensures) (λ i. (x.7 i, x.6 i)) (x.8 ∙ x.5.ensures)) (
-    ⊎_elim (λ x. quiet_arm is_compr_kind still 13 x.0.keys13 refl (λ i. (x.3 i, x.2 i)) (x.4 ∙ x.1.ensures)) (
-    ⊎_elim (λ x. quiet_arm is_compr_kind still 14 x.0.keys14 refl (λ i. (x.3 i, x.2 i)) (x.4 ∙ x.1.ensures)) (
-    ⊎_elim (λ x. quiet_arm is_compr_kind still 15 x.0.keys15 refl (λ i. (x.3 i, x.2 i)) (x.4 ∙ x.1.ensures)) (
-    ⊎_elim (λ x. quiet_arm is_compr_kind still 16 x.0.keys16 refl (λ i. (x.3 i, x.2 i)) (x.4 ∙ x.1.ensures)) (
-    ⊎_elim (λ x. quiet_arm is_compr_kind still 17 x.0.keys17 refl (λ i. (x.3 i, x.2 i)) (x.4 ∙ x.1.ensures)) (
-    ⊎_elim (λ x. quiet_arm is_compr_kind still 18 x.0.keys18 refl (λ i. (x.3 i, x.2 i)) (x.4 ∙ x.1.ensures)) (
-    ⊎_elim (λ x. quiet_arm is_compr_kind still 19 x.0.keys19 refl (λ i. (x.3 i, x.2 i)) (x.4 ∙ x.1.ensures)) (
-    ⊎_elim (λ x. quiet_arm is_compr_kind still 20 x.0.keys20 refl (λ i. (x.3 i, x.2 i)) (x.4 ∙ x.1.ensures)) (
-    ⊎_elim (λ x. quiet_arm is_compr_kind still 21 x.0.keys21 refl (λ i. (x.3 i, x.2 i)) (x.4 ∙ x.1.ensures)) (
-    ⊎_elim (λ x. quiet_arm is_compr_kind still 22 x.0.keys22 refl (λ i. (x.3 i, x.2 i)) (x.4 ∙ x.1.ensures))
-    (λ x. last_arm is_compr_kind still (no_compr_kind w) x.0.rest (λ i. (x.3 i, x.2 i)) (x.4 ∙ x.1.ensures))))))))))))))))))))))) c.match-kind.branch
+    elim c.match-kind.branch [
+      in-1 x ↦ quiet_arm is_compr_kind still 1 x.in-1.is refl (λ i. (x.n-is i, x.rows-is i)) (x.k-is ∙ x.none-k.ensures)
+      | in-2 x ↦ quiet_arm is_compr_kind still 2 x.in-2.is refl (λ i. (x.n-is i, x.rows-is i)) (x.k-is ∙ x.none-k-in-2.ensures)
+      | in-3 x ↦ quiet_arm is_compr_kind still 3 x.in-3.is refl (λ i. (x.n-is i, x.rows-is i)) (x.k-is ∙ x.none-k-in-3.ensures)
+      | in-4 x ↦ quiet_arm is_compr_kind still 4 x.in-4.is refl (λ i. (x.n-is i, x.rows-is i)) (x.k-is ∙ x.none-k-in-4.ensures)
+      | in-5 x ↦ quiet_arm is_compr_kind still 5 x.in-5.is refl (λ i. (x.n-is i, x.rows-is i)) (x.k-is ∙ x.none-k-in-5.ensures)
+      | in-6 x ↦ quiet_arm is_compr_kind still 6 x.in-6.is refl (λ i. (x.n-is i, x.rows-is i)) (x.k-is ∙ x.none-k-in-6.ensures)
+      | in-7 x ↦ quiet_arm is_compr_kind still 7 x.in-7.is refl (λ i. (x.n-is i, x.rows-is i)) (x.k-is ∙ x.one-k.ensures)
+      | in-8 x ↦ quiet_arm is_compr_kind still 8 x.in-8.is refl (λ i. (x.n-is i, x.rows-is i)) (x.k-is ∙ x.one-k-in-8.ensures)
+      | in-9 x ↦ quiet_arm is_compr_kind still 9 x.in-9.is refl (λ i. (x.n-is i, x.rows-is i)) (x.k-is ∙ x.one-k-in-9.ensures)
+      | in-10 x ↦ arm 10 x.in-10.is (lists_compr w row s (compr_kind_lem w 10 x.in-10.is refl) _ x.list_row-n.ensures) (λ i. (x.n-is i, x.rows-is i)) (x.k-is ∙ x.none-k-in-10.ensures)
+      | in-11 x ↦ arm 11 x.in-11.is (lists_compr w row s (compr_kind_lem w 11 x.in-11.is refl) _ x.list_row-n-in-11.ensures) (λ i. (x.n-is i, x.rows-is i)) (x.k-is ∙ x.none-k-in-11.ensures)
+      | in-12 x ↦ arm 12 x.in-12.is (lists_compr w row s (compr_kind_lem w 12 x.in-12.is refl) _ x.list_row-n-in-12.ensures) (λ i. (x.n-is i, x.rows-is i)) (x.k-is ∙ x.none-k-in-12.ensures)
+      | in-13 x ↦ quiet_arm is_compr_kind still 13 x.in-13.is refl (λ i. (x.n-is i, x.rows-is i)) (x.k-is ∙ x.one-k-in-13.ensures)
+      | in-14 x ↦ quiet_arm is_compr_kind still 14 x.in-14.is refl (λ i. (x.n-is i, x.rows-is i)) (x.k-is ∙ x.one-k-in-14.ensures)
+      | in-15 x ↦ quiet_arm is_compr_kind still 15 x.in-15.is refl (λ i. (x.n-is i, x.rows-is i)) (x.k-is ∙ x.one-k-in-15.ensures)
+      | in-16 x ↦ quiet_arm is_compr_kind still 16 x.in-16.is refl (λ i. (x.n-is i, x.rows-is i)) (x.k-is ∙ x.two-k.ensures)
+      | in-17 x ↦ quiet_arm is_compr_kind still 17 x.in-17.is refl (λ i. (x.n-is i, x.rows-is i)) (x.k-is ∙ x.two-k-in-17.ensures)
+      | in-18 x ↦ quiet_arm is_compr_kind still 18 x.in-18.is refl (λ i. (x.n-is i, x.rows-is i)) (x.k-is ∙ x.two-k-in-18.ensures)
+      | in-19 x ↦ quiet_arm is_compr_kind still 19 x.in-19.is refl (λ i. (x.n-is i, x.rows-is i)) (x.k-is ∙ x.two-k-in-19.ensures)
+      | in-20 x ↦ quiet_arm is_compr_kind still 20 x.in-20.is refl (λ i. (x.n-is i, x.rows-is i)) (x.k-is ∙ x.two-k-in-20.ensures)
+      | in-21 x ↦ quiet_arm is_compr_kind still 21 x.in-21.is refl (λ i. (x.n-is i, x.rows-is i)) (x.k-is ∙ x.two-k-in-21.ensures)
+      | in-22 x ↦ quiet_arm is_compr_kind still 22 x.in-22.is refl (λ i. (x.n-is i, x.rows-is i)) (x.k-is ∙ x.three-k.ensures)
+      | in_default x ↦ last_arm is_compr_kind still (no_compr_kind w) x.in_default.in_default-own.rest (λ i. (x.n-is i, x.rows-is i)) (x.k-is ∙ x.none-k-in_default.ensures)
+    ]
 
 first_walk-at-Joined-k-ne0-3 : (m : ℕ) (c : Joined-k-ne0-3 m)
     →
     Walked c.args.tables.now c.match-kind.k.first (c.match-kind.n, c.match-kind.rows) (c.if-k-ne0.n, c.if-k-ne0.rows)
 first_walk-at-Joined-k-ne0-3 m c =
-    past_guard (Walked c.args.tables.now) (λ a. lists_none _ c.requires.accepted _ refl true a.1 a.0) _ _ _
-    (λ w. (_, w.2.ensures, λ i. (w.6 i, w.5 i))) (λ w. (w.0.left, λ i. (w.2 i, w.1 i))) c.if-k-ne0.branch
+    elim c.if-k-ne0.branch [
+      then-k-ne0 w ↦ past_guard (Walked c.args.tables.now) (λ a. lists_none _ c.requires.accepted _ refl true a.1 a.0) _ _ _ (λ w. w) (λ w. w) (inl (_, w.list_comprs-n.ensures, λ i. (w.n-is i, w.rows-is i)))
+      | else-k-ne0 w ↦ past_guard (Walked c.args.tables.now) (λ a. lists_none _ c.requires.accepted _ refl true a.1 a.0) _ _ _ (λ w. w) (λ w. w) (inr (w.if-k-ne0.false, λ i. (w.n-is i, w.rows-is i)))
+    ]
 
 second_walk-at-Joined-k-ne0-3 : (m : ℕ) (c : Joined-k-ne0-3 m)
     →
     Walked c.args.tables.now c.match-kind.k.second (c.if-k-ne0.n, c.if-k-ne0.rows) (c.if-k-ne0-2.n, c.if-k-ne0-2.rows)
 second_walk-at-Joined-k-ne0-3 m c =
-    past_guard (Walked c.args.tables.now) (λ a. lists_none _ c.requires.accepted _ refl true a.1 a.0) _ _ _
-    (λ w. (_, w.2.ensures, λ i. (w.6 i, w.5 i))) (λ w. (w.0.left, λ i. (w.2 i, w.1 i))) c.if-k-ne0-2.branch
+    elim c.if-k-ne0-2.branch [
+      then-k-ne0-2 w ↦ past_guard (Walked c.args.tables.now) (λ a. lists_none _ c.requires.accepted _ refl true a.1 a.0) _ _ _ (λ w. w) (λ w. w) (inl (_, w.list_comprs-n-then-k-ne0-2.ensures, λ i. (w.n-is i, w.rows-is i)))
+      | else-k-ne0-2 w ↦ past_guard (Walked c.args.tables.now) (λ a. lists_none _ c.requires.accepted _ refl true a.1 a.0) _ _ _ (λ w. w) (λ w. w) (inr (w.if-k-ne0-2.false, λ i. (w.n-is i, w.rows-is i)))
+    ]
 
 turned : (m : ℕ) (c : Joined-k-ne0-3 m) (b : List ℕ) (end : ℕ)
     →
@@ -227,10 +251,11 @@ returns-then-next-eq0 m c =
     turned m (goal.at.returns-then-next-eq0 m c).Joined-k-ne0-3 _ _ (lists_none _ c.requires.accepted _ c.if-next-eq0.true true _ _)
 
 pub shape_of-rows-then-next-eq0 : goal.shape_of-rows-then-next-eq0
-shape_of-rows-then-next-eq0 m c = (returns_2 m c).long
+shape_of-rows-then-next-eq0 m c =
+    (turned m (goal.at.shape_of-rows-then-next-eq0 m c).Joined-k-ne0-3 _ _ (lists_none _ c.requires.accepted _ c.if-next-eq0.true true _ _)).long
 
 pub returns : goal.returns
 returns m c = turned m (goal.at.returns m c).Joined-k-ne0-3 _ _ c.list_comprs.ensures
 
 pub shape_of-rows : goal.shape_of-rows
-shape_of-rows m c = (returns_3 m c).long
+shape_of-rows m c = (turned m (goal.at.shape_of-rows m c).Joined-k-ne0-3 _ _ c.list_comprs.ensures).long

@@ -1,7 +1,6 @@
 -- Each arm does what its kind asks, which goes on to later rows only: a row's turn (`checked_turn`).
 use mathlib.Core.Path.{◌≡◌, refl, ◌∙◌}
 use mathlib.Core.Bool.{true}
-use mathlib.Core.Logic.{⊎_elim}
 use Prim.Native.Nat.{ℕ, ◌≤◌, ◌<◌}
 use lib.ListN.{length}
 use borrow.Fn.PlainCycle.{is}
@@ -16,6 +15,7 @@ use Rattle.definition_state.specs.declared.Progress.{Progress}
 use Rattle.definition_record.specs.Inner.Checks.{AssignedChecked}
 use Rattle.definition_record.proofs.Laws.Checks.{checked_still, checked_none, CheckedTurn, checked_turn}
 use Rattle.definition_record.proofs.checks.+check_assigned.Goals.{After-row_at-w, Joined-kind}
+use Rattle.definition_record.proofs.checks.+check_assigned.Goals.{in-1, in-2, in-3, in-4, in-5, in-6, in-7, in-8, in-9, in-10, in-11, in-12, in-13, in-14, in-15, in-16, in-17, in-18, in-19, in-20, in-21, in-22, in_default}
 use Rattle.definition_record.proofs.checks.+check_assigned.Goals as goal
 
 pub returns-then-row-eq0 : goal.returns-then-row-eq0
@@ -62,29 +62,31 @@ turn m c =
     let g = c.args in
     let none = checked_none g.tables.now g.firsts.now c.requires.0 0 refl true in
     let still = checked_still c.row_at-w.result g.firsts.now in
-    ⊎_elim (λ a. leaf_arm none still 1 a.0.keys1 refl refl a.1) (
-    ⊎_elim (λ a. leaf_arm none still 2 a.0.keys2 refl refl a.1) (
-    ⊎_elim (λ a. leaf_arm none still 3 a.0.keys3 refl refl a.1) (
-    ⊎_elim (λ a. leaf_arm none still 4 a.0.keys4 refl refl a.1) (
-    ⊎_elim (λ a. leaf_arm none still 5 a.0.keys5 refl refl a.1) (
-    ⊎_elim (λ a. pattern_arm none still 6 a.0.keys6 a.1.ensures a.2) (
-    ⊎_elim (λ a. pattern_arm none still 7 a.0.keys7 a.1.ensures a.2) (
-    ⊎_elim (λ a. leaf_arm none still 8 a.0.keys8 refl refl a.1) (
-    ⊎_elim (λ a. pattern_arm none still 9 a.0.keys9 a.1.ensures a.2) (
-    ⊎_elim (λ a. leaf_arm none still 10 a.0.keys10 refl refl a.1) (
-    ⊎_elim (λ a. leaf_arm none still 11 a.0.keys11 refl refl a.1) (
-    ⊎_elim (λ a. leaf_arm none still 12 a.0.keys12 refl refl a.1) (
-    ⊎_elim (λ a. leaf_arm none still 13 a.0.keys13 refl refl a.1) (
-    ⊎_elim (λ a. leaf_arm none still 14 a.0.keys14 refl refl a.1) (
-    ⊎_elim (λ a. leaf_arm none still 15 a.0.keys15 refl refl a.1) (
-    ⊎_elim (λ a. leaf_arm none still 16 a.0.keys16 refl refl a.1) (
-    ⊎_elim (λ a. leaf_arm none still 17 a.0.keys17 refl refl a.1) (
-    ⊎_elim (λ a. leaf_arm none still 18 a.0.keys18 refl refl a.1) (
-    ⊎_elim (λ a. leaf_arm none still 19 a.0.keys19 refl refl a.1) (
-    ⊎_elim (λ a. leaf_arm none still 20 a.0.keys20 refl refl a.1) (
-    ⊎_elim (λ a. leaf_arm none still 21 a.0.keys21 refl refl a.1) (
-    ⊎_elim (λ a. leaf_arm none still 22 a.0.keys22 refl refl a.1)
-    (λ a. last_leaf none still a.0.rest a.1)))))))))))))))))))))) c.match-kind.branch
+    elim c.match-kind.branch [
+      in-1 a ↦ leaf_arm none still 1 a.in-1.is refl refl a.q-is
+      | in-2 a ↦ leaf_arm none still 2 a.in-2.is refl refl a.q-is
+      | in-3 a ↦ leaf_arm none still 3 a.in-3.is refl refl a.q-is
+      | in-4 a ↦ leaf_arm none still 4 a.in-4.is refl refl a.q-is
+      | in-5 a ↦ leaf_arm none still 5 a.in-5.is refl refl a.q-is
+      | in-6 a ↦ pattern_arm none still 6 a.in-6.is a.check_local-q.ensures a.q-is
+      | in-7 a ↦ pattern_arm none still 7 a.in-7.is a.check_assigned-q.ensures a.q-is
+      | in-8 a ↦ leaf_arm none still 8 a.in-8.is refl refl a.q-is
+      | in-9 a ↦ pattern_arm none still 9 a.in-9.is a.check_assigned-q-in-9.ensures a.q-is
+      | in-10 a ↦ leaf_arm none still 10 a.in-10.is refl refl a.q-is
+      | in-11 a ↦ leaf_arm none still 11 a.in-11.is refl refl a.q-is
+      | in-12 a ↦ leaf_arm none still 12 a.in-12.is refl refl a.q-is
+      | in-13 a ↦ leaf_arm none still 13 a.in-13.is refl refl a.q-is
+      | in-14 a ↦ leaf_arm none still 14 a.in-14.is refl refl a.q-is
+      | in-15 a ↦ leaf_arm none still 15 a.in-15.is refl refl a.q-is
+      | in-16 a ↦ leaf_arm none still 16 a.in-16.is refl refl a.q-is
+      | in-17 a ↦ leaf_arm none still 17 a.in-17.is refl refl a.q-is
+      | in-18 a ↦ leaf_arm none still 18 a.in-18.is refl refl a.q-is
+      | in-19 a ↦ leaf_arm none still 19 a.in-19.is refl refl a.q-is
+      | in-20 a ↦ leaf_arm none still 20 a.in-20.is refl refl a.q-is
+      | in-21 a ↦ leaf_arm none still 21 a.in-21.is refl refl a.q-is
+      | in-22 a ↦ leaf_arm none still 22 a.in-22.is refl refl a.q-is
+      | in_default a ↦ last_leaf none still a.in_default.in_default-own.rest a.q-is
+    ]
 
 -- With the walk over the rest of the chain.
 row_is-at-Joined-kind : (m : ℕ) (c : Joined-kind m)

@@ -24,5 +24,3 @@ returns-then-is_sound c =
 pub returns : goal.returns
 returns c =
     names-fault _ _ _ c.args.without _ _ (sym c.is_sound.ensures ∙ c.if-is_sound.false)
-
-pub record-names-spec : {M : Type 1} → statement M

@@ -28,5 +28,3 @@ returns-then-is_sound c =
 pub returns : goal.returns
 returns c =
     one-fault _ _ _ _ (sym c.is_sound.ensures ∙ c.if-is_sound.false)
-
-pub record-one-spec : {M : Type 1} → statement M

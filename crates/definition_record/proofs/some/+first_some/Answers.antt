@@ -2,7 +2,6 @@
 use mathlib.Core.Path.{◌≡◌, refl, ◌∙◌}
 use mathlib.Core.Bool.{true}
 use mathlib.Core.List.{List}
-use mathlib.Core.Logic.{⊎_elim}
 use Prim.Native.Nat.{ℕ, ◌≤◌, ◌<◌}
 use native.Mathlib.Omega.{arith}
 use lib.ListN.{length}
@@ -17,6 +16,7 @@ use Rattle.scope_walk.proofs.Laws.Patterns.{pattern_arm, leaf_arm, last_leaf}
 use Rattle.definition_record.specs.Inner.SomeVars.{SomeEntered}
 use Rattle.definition_record.proofs.Laws.SomeVars.{enter_still, entered-none, EnteredTurn, entered-turn}
 use Rattle.definition_record.proofs.some.+first_some.Goals.{After-row_at-w, Joined-kind}
+use Rattle.definition_record.proofs.some.+first_some.Goals.{in-1, in-2, in-3, in-4, in-5, in-6, in-7, in-8, in-9, in-10, in-11, in-12, in-13, in-14, in-15, in-16, in-17, in-18, in-19, in-20, in-21, in-22, in_default}
 use Rattle.definition_record.proofs.some.+first_some.Goals as goal
 
 pub returns-then-row-eq0 : goal.returns-then-row-eq0
@@ -65,29 +65,31 @@ turn m c =
     let g = c.args in
     let none : (l : List ℕ) → SomeEntered g.tables.now g.scope 0 l l × (length l ≡ length l) = λ l. (entered-none _ _ c.requires.0 0 refl l, refl) in
     let still = enter_still g.tables.now g.scope c.row_at-w.result in
-    ⊎_elim (λ a. leaf_arm none still 1 a.0.keys1 refl refl a.1) (
-    ⊎_elim (λ a. leaf_arm none still 2 a.0.keys2 refl refl a.1) (
-    ⊎_elim (λ a. leaf_arm none still 3 a.0.keys3 refl refl a.1) (
-    ⊎_elim (λ a. leaf_arm none still 4 a.0.keys4 refl refl a.1) (
-    ⊎_elim (λ a. leaf_arm none still 5 a.0.keys5 refl refl a.1) (
-    ⊎_elim (λ a. pattern_arm none still 6 a.0.keys6 (a.2.ensures, a.2.kept.1.1.1.0) a.5) (
-    ⊎_elim (λ a. pattern_arm none still 7 a.0.keys7 (a.2.ensures, a.2.kept.1.1.1.0) a.5) (
-    ⊎_elim (λ a. leaf_arm none still 8 a.0.keys8 refl refl a.1) (
-    ⊎_elim (λ a. pattern_arm none still 9 a.0.keys9 (a.2.ensures, a.2.kept.1.1.1.0) a.5) (
-    ⊎_elim (λ a. leaf_arm none still 10 a.0.keys10 refl refl a.1) (
-    ⊎_elim (λ a. leaf_arm none still 11 a.0.keys11 refl refl a.1) (
-    ⊎_elim (λ a. leaf_arm none still 12 a.0.keys12 refl refl a.1) (
-    ⊎_elim (λ a. leaf_arm none still 13 a.0.keys13 refl refl a.1) (
-    ⊎_elim (λ a. leaf_arm none still 14 a.0.keys14 refl refl a.1) (
-    ⊎_elim (λ a. leaf_arm none still 15 a.0.keys15 refl refl a.1) (
-    ⊎_elim (λ a. leaf_arm none still 16 a.0.keys16 refl refl a.1) (
-    ⊎_elim (λ a. leaf_arm none still 17 a.0.keys17 refl refl a.1) (
-    ⊎_elim (λ a. leaf_arm none still 18 a.0.keys18 refl refl a.1) (
-    ⊎_elim (λ a. leaf_arm none still 19 a.0.keys19 refl refl a.1) (
-    ⊎_elim (λ a. leaf_arm none still 20 a.0.keys20 refl refl a.1) (
-    ⊎_elim (λ a. leaf_arm none still 21 a.0.keys21 refl refl a.1) (
-    ⊎_elim (λ a. leaf_arm none still 22 a.0.keys22 refl refl a.1)
-    (λ a. last_leaf none still a.0.rest a.1)))))))))))))))))))))) c.match-kind.branch
+    elim c.match-kind.branch [
+      in-1 a ↦ leaf_arm none still 1 a.in-1.is refl refl a.firsts-is
+      | in-2 a ↦ leaf_arm none still 2 a.in-2.is refl refl a.firsts-is
+      | in-3 a ↦ leaf_arm none still 3 a.in-3.is refl refl a.firsts-is
+      | in-4 a ↦ leaf_arm none still 4 a.in-4.is refl refl a.firsts-is
+      | in-5 a ↦ leaf_arm none still 5 a.in-5.is refl refl a.firsts-is
+      | in-6 a ↦ pattern_arm none still 6 a.in-6.is (a.enter_var.ensures, a.enter_var.auto.firsts) a.firsts-is
+      | in-7 a ↦ pattern_arm none still 7 a.in-7.is (a.first_some.ensures, a.first_some.auto.firsts) a.firsts-is
+      | in-8 a ↦ leaf_arm none still 8 a.in-8.is refl refl a.firsts-is
+      | in-9 a ↦ pattern_arm none still 9 a.in-9.is (a.first_some-in-9.ensures, a.first_some-in-9.auto.firsts) a.firsts-is
+      | in-10 a ↦ leaf_arm none still 10 a.in-10.is refl refl a.firsts-is
+      | in-11 a ↦ leaf_arm none still 11 a.in-11.is refl refl a.firsts-is
+      | in-12 a ↦ leaf_arm none still 12 a.in-12.is refl refl a.firsts-is
+      | in-13 a ↦ leaf_arm none still 13 a.in-13.is refl refl a.firsts-is
+      | in-14 a ↦ leaf_arm none still 14 a.in-14.is refl refl a.firsts-is
+      | in-15 a ↦ leaf_arm none still 15 a.in-15.is refl refl a.firsts-is
+      | in-16 a ↦ leaf_arm none still 16 a.in-16.is refl refl a.firsts-is
+      | in-17 a ↦ leaf_arm none still 17 a.in-17.is refl refl a.firsts-is
+      | in-18 a ↦ leaf_arm none still 18 a.in-18.is refl refl a.firsts-is
+      | in-19 a ↦ leaf_arm none still 19 a.in-19.is refl refl a.firsts-is
+      | in-20 a ↦ leaf_arm none still 20 a.in-20.is refl refl a.firsts-is
+      | in-21 a ↦ leaf_arm none still 21 a.in-21.is refl refl a.firsts-is
+      | in-22 a ↦ leaf_arm none still 22 a.in-22.is refl refl a.firsts-is
+      | in_default a ↦ last_leaf none still a.in_default.in_default-own.rest a.firsts-is
+    ]
 
 kept : (m : ℕ) (c : Joined-kind m)
     → length c.match-kind.firsts ≡ length c.args.firsts.now
