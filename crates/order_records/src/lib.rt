@@ -1,5 +1,4 @@
 // Definitions as records: a lent run of them copied, and the scheduler's call over the copy.
-// Whatever holds a lent run of structs is proved by a walk of its code by hand. Here that is `copied` alone, which leaves an array by value.
 
 #![tactic(auto)]
 

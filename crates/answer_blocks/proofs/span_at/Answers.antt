@@ -28,13 +28,13 @@ overflow_add-words-2 c = record { fits = omega (arith, low c, few c) }
 pub place_of-at-requires : goal.place_of-at-requires
 place_of-at-requires c = (c.requires.0.from, c.requires.0.to, omega (arith, low c))
 
-low-at-After-place_of-at : (c : After-place_of-at) → 4 + 3 * c.words.result + c.args.x / 2 + 1 ≤ block_size c.args.width
-low-at-After-place_of-at c = omega (arith, c.words.ensures, block-is c.args.width, c.requires.1)
+low_after : (c : After-place_of-at) → 4 + 3 * c.words.result + c.args.x / 2 + 1 ≤ block_size c.args.width
+low_after c = omega (arith, c.words.ensures, block-is c.args.width, c.requires.1)
 
 inside : (c : After-place_of-at) → c.place_of-at.result + 1 ≤ 9216
 inside c =
     let v = c.args.width in
-    omega (arith, c.place_of-at.ensures, low-at-After-place_of-at c, block_in v c.args.q c.requires.0.from c.requires.0.to, places-few v)
+    omega (arith, c.place_of-at.ensures, low_after c, block_in v c.args.q c.requires.0.from c.requires.0.to, places-few v)
 
 pub offset_bounds-work-at : goal.offset_bounds-work-at
 offset_bounds-work-at c = record { fits = omega (arith, inside c) }

@@ -1,13 +1,11 @@
 use mathlib.Core.Path.{◌≡◌, refl, ◌∙◌}
-use mathlib.Core.Logic.{⊎_elim}
-use native.Mathlib.Omega.{arith}
 use lib.ListN.{length}
 use Rattle.order.specs.Inner.Orders.{followed_order}
 use Rattle.order.specs.Call.{definitions}
 use Rattle.names_width.specs.Inner.Widths.{row_words}
 use Rattle.order_place.specs.Inner.State.{order_of, Knows, After}
 use Rattle.order_place.proofs.Laws.Rounding.{masked-indexed, followed-idle, rounding_first, rounding_next, rounding_done}
-use Rattle.order_place.proofs.take_round.Goals.{Joined-next_try-lt-STATEMENTS}
+use Rattle.order_place.proofs.take_round.Goals.{Joined-next_try-lt-STATEMENTS, then-next_try-lt-STATEMENTS, else-next_try-lt-STATEMENTS}
 use Rattle.order_place.proofs.take_round.Goals as goal
 
 pub loop-name-init : goal.loop-name-init
@@ -15,15 +13,8 @@ loop-name-init c =
     let pre = c.requires in
     (refl, refl, rounding_first pre.masked pre.holds_placed c.next-name.ensures, pre.knows)
 
-pub statements_of-own-requires : goal.statements_of-own-requires
-statements_of-own-requires c =
-    (c.requires.masked.long, c.loop-name-test.true)
-
-pub take_followed-at-requires : goal.take_followed-at-requires
-take_followed-at-requires c =
-    let inv = c.loop-name.invariant in
-    let pre = c.requires in
-    ((c.loop-name-test.true, masked-indexed pre.sound_rows pre.masked), (inv.2.holds, inv.3))
+pub take_followed-at-requires-clause-indexed : goal.take_followed-at-requires-clause-indexed
+take_followed-at-requires-clause-indexed c = (c.loop-name-test.true, masked-indexed c.requires.sound_rows c.requires.masked)
 
 -- After the turn of the name at hand, made or passed over.
 turned : (c : Joined-next_try-lt-STATEMENTS)
@@ -37,21 +28,19 @@ turned : (c : Joined-next_try-lt-STATEMENTS)
 turned c =
     let pre = c.requires in
     let inv = c.loop-name.invariant in
-    ⊎_elim
-    (λ w.
-    rw (w.9, w.10, w.11, w.12)
-    (w.4.kept.1.1.1.1.1.1.1.1.0, w.4.kept.1.1.1.1.1.1.1.1.1.0, w.4.ensures.0, w.4.ensures.1))
-    (λ w.
-    rw (w.1, w.2, w.3, w.4) (
-      refl,
-      refl,
-      followed-idle (masked-indexed pre.sound_rows pre.masked) c.loop-name-test.true inv.2.holds
-          (rw c.statements_of-own.ensures at c.next_try.ensures) w.0.left,
-      inv.3,
-    )) c.if-next_try-lt-STATEMENTS.branch
-
-pub loop-name-smaller : goal.loop-name-smaller
-loop-name-smaller c = omega (arith, c.next-name-in-loop-name.ensures.low)
+    elim c.if-next_try-lt-STATEMENTS.branch [
+      | then-next_try-lt-STATEMENTS w ↦
+          rw (w.known-is, w.order-is, w.reached-is, w.at-is)
+          (w.take_followed-at.auto.order, w.take_followed-at.auto.reached, w.take_followed-at.ensures.0, w.take_followed-at.ensures.1)
+      | else-next_try-lt-STATEMENTS w ↦
+          rw (w.known-is, w.order-is, w.reached-is, w.at-is) (
+            refl,
+            refl,
+            followed-idle (masked-indexed pre.sound_rows pre.masked) c.loop-name-test.true inv.2.holds
+                (rw c.statements_of-own.ensures at c.next_try.ensures) w.if-next_try-lt-STATEMENTS.false,
+            inv.3,
+          )
+    ]
 
 pub loop-name-preserved : goal.loop-name-preserved
 loop-name-preserved c =

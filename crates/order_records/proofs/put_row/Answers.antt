@@ -1,9 +1,6 @@
 use borrow.Author.Rules.{rules}
-use Rattle.order_records.proofs.Laws.Puts.{putting_first, words_put_next, words_put_all}
+use Rattle.order_records.proofs.Laws.Puts.{words_put_next, words_put_all}
 use Rattle.order_records.proofs.put_row.Goals as goal
-
-pub loop-k-init : goal.loop-k-init
-loop-k-init c = putting_first _ _ _ (search rules)
 
 pub loop-k-preserved : goal.loop-k-preserved
 loop-k-preserved c = words_put_next _ _ _ _ _ (search rules) (search rules) c.loop-k.invariant

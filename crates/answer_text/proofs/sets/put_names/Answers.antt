@@ -22,14 +22,14 @@ loop-x-smaller c = omega (arith, c.next-x-in-loop-x.ensures.low, c.loop-x-test.t
 pub loop-x-preserved : goal.loop-x-preserved
 loop-x-preserved c v is =
     let loop = c.loop-x in
-    let listed = loop.invariant v is in
+    let is = c.set_at-names.ensures in
     let low = c.loop-x-test.true in
-    lines_listed_next _ _ (no_name_line v _ _ _ _ is) _ _ loop.x _ _ listed low _ _
-    (puts_as _ _ _ _ _ _ (name-here v _ _ _ _ is loop.x (listed.here low)) c.put_five-place.ensures)
+    lines_listed_next _ _ (no_name_line _ _ _ _ _ is) _ _ loop.x _ _ loop.invariant low _ _
+    (puts_as _ _ _ _ _ _ (name-here _ _ _ _ _ is loop.x (loop.invariant.here low)) c.put_five-place.ensures)
     _ c.next-x-in-loop-x.ensures
 
 pub shape_of-answer : goal.shape_of-answer
-shape_of-answer c = (c.loop-x.invariant c.args.width c.set_at-names.ensures).wrote.0
+shape_of-answer c = c.loop-x.invariant.wrote.0
 
 pub returns : goal.returns
-returns c = lines_listed_all _ _ _ _ _ _ _ (c.loop-x.invariant c.args.width c.set_at-names.ensures) c.loop-x-test.false
+returns c = lines_listed_all _ _ _ _ _ _ _ c.loop-x.invariant c.loop-x-test.false
