@@ -17,7 +17,6 @@ use Rattle.sheet.specs.declared.Row.{Row}
 use Rattle.sheet.specs.Inner.Sheet.{row_at}
 use Rattle.sheet.specs.Kinds.{is_ref_brack, is_compr}
 use Rattle.scope.specs.Trees.{tree_at}
-use Rattle.scope.specs.Traverse.{comprs}
 use Rattle.scope.specs.Scopes as spec
 use Rattle.definition.specs.Uses.{define, assigned_vars, index_vars, used_vars, index_definitions_at, index_definitions}
 use Rattle.scope_walk.specs.declared.Kids.{Kids}

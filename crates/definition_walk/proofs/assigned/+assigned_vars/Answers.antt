@@ -1,9 +1,7 @@
 -- Each arm does what its kind asks, which goes on to later rows only: a row's turn (`assigned_turn`).
 use mathlib.Core.Path.{◌≡◌, refl, ◌∙◌}
 use mathlib.Core.Bool.{true}
-use mathlib.Core.Logic.{⊎_elim}
 use Prim.Native.Nat.{ℕ, ◌≤◌, ◌<◌}
-use borrow.Fn.PlainCycle.{is}
 use Rattle.names.specs.declared.Names.{Names}
 use Rattle.sheet.specs.Inner.Sheet.{row_at}
 use Rattle.sheet.proofs.Laws.Sheet.{row-fields}
@@ -61,7 +59,7 @@ turn m c =
     let none = assigned_none g.tables.now g.scope c.requires.0 0 refl true in
     let still = leaf_still g.scope c.row_at-w.result in
     elim c.match-kind.branch [
-      in-1 w ↦ leaf_arm none still 1 w.in-1.is refl refl w.s-is
+      | in-1 w ↦ leaf_arm none still 1 w.in-1.is refl refl w.s-is
       | in-2 w ↦ leaf_arm none still 2 w.in-2.is refl refl w.s-is
       | in-3 w ↦ leaf_arm none still 3 w.in-3.is refl refl w.s-is
       | in-4 w ↦ leaf_arm none still 4 w.in-4.is refl refl w.s-is

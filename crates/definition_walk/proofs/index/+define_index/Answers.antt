@@ -2,10 +2,8 @@
 use mathlib.Core.Path.{◌≡◌, refl, sym, ◌∙◌}
 use mathlib.Core.List.{List}
 use mathlib.Core.Bool.{true, false, cond}
-use mathlib.Core.Logic.{⊎_elim}
 use Prim.Native.Nat.{ℕ, ◌≤◌, ◌<◌}
 use lib.ListN.{length}
-use borrow.Fn.PlainCycle.{is}
 use Rattle.sheet.specs.Inner.Sheet.{row_at}
 use Rattle.sheet.proofs.Laws.Sheet.{row-fields}
 use Rattle.sheet.specs.Kinds.{is_pattern, is_var}
@@ -15,7 +13,6 @@ use Rattle.scope_walk.proofs.Laws.Walking.{row_low, low-name, first_call, next_c
 use Rattle.scope_walk.proofs.Laws.Patterns.{Lengthwise, pattern_kind, pattern_arm, leaf_arm, last_leaf}
 use Rattle.definition_walk.specs.Inner.Index.{LeafDefined, IndexFits, IndexDefined}
 use Rattle.definition_walk.proofs.Laws.Index.{leaf_undefined, IndexTurn, index-none, leaf_fits, inner_fits, next_fits, index-turn}
-use Rattle.definition_walk.proofs.index.+define_index.{statement}
 use Rattle.definition_walk.proofs.index.+define_index.Goals.{After-next_of-next, After-row_at-w, Joined-kind}
 use Rattle.definition_walk.proofs.index.+define_index.Goals.{in-1, in-2, in-3, in-4, in-5, in-6, in-7, in-8, in-9, in-10, in-11, in-12, in-13, in-14, in-15, in-16, in-17, in-18, in-19, in-20, in-21, in-22, in_default}
 use Rattle.definition_walk.proofs.index.+define_index.Goals as goal
@@ -86,7 +83,7 @@ turn m c =
     let still : is_var c.row_at-w.result ≡ false → (a : ℕ × List ℕ) → Lengthwise (λ x ws y rs. LeafDefined g.width g.scope g.statement c.row_at-w.result g.used ws rs x y) a a =
     λ e a. (leaf_undefined _ _ _ c.row_at-w.result _ a.1 a.0 e, refl) in
     elim c.match-kind.branch [
-      in-1 w ↦ leaf_arm none still 1 w.in-1.is refl refl (λ i. (w.n-is i, w.definitions-is i))
+      | in-1 w ↦ leaf_arm none still 1 w.in-1.is refl refl (λ i. (w.n-is i, w.definitions-is i))
       | in-2 w ↦ leaf_arm none still 2 w.in-2.is refl refl (λ i. (w.n-is i, w.definitions-is i))
       | in-3 w ↦ leaf_arm none still 3 w.in-3.is refl refl (λ i. (w.n-is i, w.definitions-is i))
       | in-4 w ↦ leaf_arm none still 4 w.in-4.is refl refl (λ i. (w.n-is i, w.definitions-is i))
