@@ -1,3 +1,4 @@
+-- The number falls.
 use Rattle.answer_write.proofs.+put_number.Given as goal
 
 abbrev pub decreases-put_number : goal.decreases-put_number

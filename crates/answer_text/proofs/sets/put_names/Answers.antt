@@ -4,7 +4,7 @@ use Rattle.answer_text.proofs.Laws.Listed.{lines_listed_first, lines_listed_next
 use Rattle.answer_text.proofs.sets.put_names.Goals as goal
 
 pub loop-x-init : goal.loop-x-init
-loop-x-init c v is = lines_listed_first _ _ (no_name_line v _ _ _ _ is) _ _ _ c.next-x.ensures
+loop-x-init c = lines_listed_first _ _ (no_name_line _ _ _ _ _ c.set_at-names.ensures) _ _ _ c.next-x.ensures
 
 pub put_five-place-requires : goal.put_five-place-requires
 put_five-place-requires c =
@@ -20,7 +20,7 @@ pub loop-x-smaller : goal.loop-x-smaller
 loop-x-smaller c = omega (arith, c.next-x-in-loop-x.ensures.low, c.loop-x-test.true)
 
 pub loop-x-preserved : goal.loop-x-preserved
-loop-x-preserved c v is =
+loop-x-preserved c =
     let loop = c.loop-x in
     let is = c.set_at-names.ensures in
     let low = c.loop-x-test.true in
