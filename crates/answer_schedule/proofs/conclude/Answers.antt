@@ -35,8 +35,8 @@ arrange_rows-placed-requires c =
     let a = c.args in
     record {
       accepted_list = lent-taken a.width a.work.now _ a.count _ c.row.ensures _ a.query c.count_stmts-n.ensures c.requires.schedulable;
-      by_index = zero-at 128;
-      by_index_2 = zero-at 128;
+      order_zeros = zero-at 128;
+      reached_zeros = zero-at 128;
     }
 
 pub store_answer-requires : goal.store_answer-requires
