@@ -7,7 +7,7 @@ use Rattle.sheet.specs.Inner.Sheet.{row_at}
 use Rattle.sheet.proofs.Laws.Sheet.{row-fields}
 use Rattle.scope_walk.specs.Inner.Sheets.{Accepted, expr_count}
 use Rattle.scope_walk.specs.Inner.Walking.{remains}
-use Rattle.scope_walk.proofs.Laws.Walking.{row_low, low-name, first_call, next_call}
+use Rattle.scope_walk.proofs.Laws.Walking.{low-name, first_call, next_call}
 use Rattle.scope_walk.proofs.Laws.Patterns.{pattern_arm, leaf_arm, last_leaf}
 use Rattle.definition_walk.proofs.Laws.Assigned.{leaf_still, assigned_none, AssignedTurn, assigned_turn}
 use Rattle.definition_walk.specs.Inner.Assigned.{AssignedWalk}
@@ -18,11 +18,6 @@ use Rattle.definition_walk.proofs.assigned.+assigned_vars.Goals as goal
 pub returns-then-row-eq0 : goal.returns-then-row-eq0
 returns-then-row-eq0 m c =
     assigned_none _ _ c.requires.0 _ c.if-row-eq0.true c.args.rest _
-
-pub row_at-w-requires : goal.row_at-w-requires
-row_at-w-requires m c =
-    let pre = c.requires in
-    (pre.0.room, row_low _ pre.0 _ c.if-row-eq0.false pre.1)
 
 -- The row that was read.
 row_is : (m : ℕ) (c : After-row_at-w m)

@@ -9,7 +9,7 @@ use Rattle.sheet.proofs.Laws.Sheet.{row-fields}
 use Rattle.sheet.specs.Kinds.{is_pattern, is_var}
 use Rattle.scope_walk.specs.Inner.Sheets.{Accepted, expr_count}
 use Rattle.scope_walk.specs.Inner.Walking.{remains}
-use Rattle.scope_walk.proofs.Laws.Walking.{row_low, low-name, first_call, next_call, no_var}
+use Rattle.scope_walk.proofs.Laws.Walking.{low-name, first_call, next_call, no_var}
 use Rattle.scope_walk.proofs.Laws.Patterns.{Lengthwise, pattern_kind, pattern_arm, leaf_arm, last_leaf}
 use Rattle.definition_walk.specs.Inner.Index.{LeafDefined, IndexFits, IndexDefined}
 use Rattle.definition_walk.proofs.Laws.Index.{leaf_undefined, IndexTurn, index-none, leaf_fits, inner_fits, next_fits, index-turn}
@@ -19,11 +19,6 @@ use Rattle.definition_walk.proofs.index.+define_index.Goals as goal
 
 pub returns-then-row-eq0 : goal.returns-then-row-eq0
 returns-then-row-eq0 m c = index-none _ _ _ c.requires.0 _ c.if-row-eq0.true _ _ _ _
-
-pub row_at-w-requires : goal.row_at-w-requires
-row_at-w-requires m c =
-    let pre = c.requires in
-    (pre.0.room, row_low _ pre.0 _ c.if-row-eq0.false pre.1)
 
 -- The row that was read.
 row_is : (m : ℕ) (c : After-row_at-w m)
@@ -127,9 +122,6 @@ turned m c y l rest =
     index-turn _ _ _ pre.0 _ c.if-row-eq0.false pre.1 _ (row_is-at-Joined-kind m c) _ refl _ c.next_of-next.ensures
     _ _ _ _ _ _ _ _ _ _ (turn m c).step.0 (turn m c).parts.0 rest
 
-pub shape_of-definitions-then-next-eq0 : goal.shape_of-definitions-then-next-eq0
-shape_of-definitions-then-next-eq0 m c = kept m (goal.at.shape_of-definitions-then-next-eq0 m c).Joined-kind
-
 pub returns-then-next-eq0 : goal.returns-then-next-eq0
 returns-then-next-eq0 m c =
     let pre = c.requires in
@@ -147,9 +139,6 @@ define_index-requires m c =
             _ _ _ _ pre.2 _ _ _ (turn m (goal.at.define_index-requires m c).Joined-kind).step.0 _ _ (turn m (goal.at.define_index-requires m c).Joined-kind).parts.0 _ (kept m (goal.at.define_index-requires m c).Joined-kind),
       ),
     )
-
-pub shape_of-definitions : goal.shape_of-definitions
-shape_of-definitions m c = c.define_index.auto.definitions ∙ kept m (goal.at.shape_of-definitions m c).Joined-kind
 
 pub returns : goal.returns
 returns m c = turned m (goal.at.returns m c).Joined-kind _ _ c.define_index.ensures

@@ -7,7 +7,7 @@ use native.Mathlib.Omega.{arith}
 use lib.ListN.{length}
 use Rattle.sheet.specs.Inner.Sheet.{row_at}
 use Rattle.sheet.proofs.Laws.Sheet.{row-fields}
-use Rattle.scope_walk.proofs.Laws.Walking.{Calls, row_low, low-name, calls}
+use Rattle.scope_walk.proofs.Laws.Walking.{Calls, low-name, calls}
 use Rattle.definition_walk.proofs.Laws.UsedVars.{second_of-row_low}
 use Rattle.scope_walk.proofs.Laws.Arms.{arm, quiet_arm, last_arm}
 use Rattle.definition_walk.proofs.Laws.Founds.{FoundTurn, is_found, no_found_kind, found_still, found_at-bracket, found_at-compr}
@@ -20,11 +20,6 @@ use Rattle.definition_walk.proofs.vars.+used_from.Goals as goal
 pub returns-then-row-eq0 : goal.returns-then-row-eq0
 returns-then-row-eq0 m c =
     uses_walked_none _ _ _ _ _ c.requires.accepted _ c.if-row-eq0.true c.args.rest _ _ _
-
-pub row_at-w-requires : goal.row_at-w-requires
-row_at-w-requires m c =
-    let pre = c.requires in
-    (pre.accepted.room, row_low _ pre.accepted _ c.if-row-eq0.false pre.row_in)
 
 -- The row that was read.
 row_is : (m : ℕ) (c : After-row_at-w m)
@@ -197,16 +192,6 @@ third_walk m c =
       | else-k-ne0-3 w ↦ inr (w.if-k-ne0-3.false, w.firsts-is, w.definitions-is, w.s-is)
     ])
 
-pub shape_of-firsts-then-next-eq0 : goal.shape_of-firsts-then-next-eq0
-shape_of-firsts-then-next-eq0 m c =
-    let p = goal.at.shape_of-firsts-then-next-eq0 m c in
-    (third_walk m p.Joined-k-ne0-3).1 ∙ (second_walk m p.Joined-k-ne0-2).1 ∙ (first_walk m p.Joined-k-ne0).1 ∙ (turn m p.Joined-kind).step.1
-
-pub shape_of-definitions-then-next-eq0 : goal.shape_of-definitions-then-next-eq0
-shape_of-definitions-then-next-eq0 m c =
-    let p = goal.at.shape_of-definitions-then-next-eq0 m c in
-    (third_walk m p.Joined-k-ne0-3).2 ∙ (second_walk m p.Joined-k-ne0-2).2 ∙ c.used_here-s.auto.definitions ∙ (first_walk m p.Joined-k-ne0).2
-
 pub returns-then-next-eq0 : goal.returns-then-next-eq0
 returns-then-next-eq0 m c =
     let pre = c.requires in
@@ -237,16 +222,6 @@ used_from-requires m c =
             (z.2 ∙ y.2 ∙ c.used_here-s.auto.definitions ∙ x.2);
       },
     )
-
-pub shape_of-firsts : goal.shape_of-firsts
-shape_of-firsts m c =
-    let p = goal.at.shape_of-firsts m c in
-    c.used_from.auto.firsts ∙ (third_walk m p.Joined-k-ne0-3).1 ∙ (second_walk m p.Joined-k-ne0-2).1 ∙ (first_walk m p.Joined-k-ne0).1 ∙ (turn m p.Joined-kind).step.1
-
-pub shape_of-definitions : goal.shape_of-definitions
-shape_of-definitions m c =
-    let p = goal.at.shape_of-definitions m c in
-    c.used_from.auto.definitions ∙ (third_walk m p.Joined-k-ne0-3).2 ∙ (second_walk m p.Joined-k-ne0-2).2 ∙ c.used_here-s.auto.definitions ∙ (first_walk m p.Joined-k-ne0).2
 
 pub returns : goal.returns
 returns m c =

@@ -10,11 +10,6 @@ returns-then-row-eq0 m c =
     let a = c.args in
     step-none a.tables.now a.outer.now c.requires.accepted a.row c.if-row-eq0.true a.scope a.spans.now
 
-pub statement_at-st-requires : goal.statement_at-st-requires
-statement_at-st-requires m c =
-    let pre = c.requires in
-    (pre.accepted.room, omega (arith, pre.row_in, pre.accepted.within.few-statements))
-
 pub gather_stmt-s-requires : goal.gather_stmt-s-requires
 gather_stmt-s-requires m c =
     let pre = c.requires in

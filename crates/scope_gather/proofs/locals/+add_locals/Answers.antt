@@ -5,7 +5,7 @@ use native.Mathlib.Omega.{arith}
 use Rattle.sheet.specs.declared.Row.{Row}
 use Rattle.sheet.specs.Inner.Sheet.{row_at}
 use Rattle.sheet.proofs.Laws.Sheet.{row-fields}
-use Rattle.scope_walk.proofs.Laws.Walking.{row_low, low-name, chain_call}
+use Rattle.scope_walk.proofs.Laws.Walking.{low-name, chain_call}
 use Rattle.scope_gather.proofs.Laws.Locals.{locals-none, locals-row}
 use Rattle.scope_gather.proofs.locals.+add_locals.Goals.{After-row_at-w}
 use Rattle.scope_gather.proofs.locals.+add_locals.Goals as goal
@@ -14,11 +14,6 @@ pub returns-then-row-eq0 : goal.returns-then-row-eq0
 returns-then-row-eq0 m c =
     let a = c.args in
     locals-none a.tables.now c.requires.0 a.row c.if-row-eq0.true a.scope a.spans.now
-
-pub row_at-w-requires : goal.row_at-w-requires
-row_at-w-requires m c =
-    let pre = c.requires in
-    (pre.0.room, row_low _ pre.0 _ c.if-row-eq0.false pre.1)
 
 -- The row that was read.
 row_is : (m : ℕ) (c : After-row_at-w m)

@@ -3,7 +3,7 @@ use mathlib.Core.Path.{sym, subst}
 use Prim.Native.Nat.{ℕ, ◌<◌}
 use native.Mathlib.Omega.{arith}
 use Rattle.scope_walk.specs.Inner.Walking.{remains}
-use Rattle.scope_walk.proofs.Laws.Walking.{few_remain, Falls, row_low, chain_call}
+use Rattle.scope_walk.proofs.Laws.Walking.{few_remain, Falls, chain_call}
 use Rattle.scope_paths.specs.Inner.Extra.{EndAt}
 use Rattle.scope_paths.proofs.Laws.Extra.{end_at_none, end_row}
 use Rattle.scope_paths.proofs.extra.+end_of.Goals.{After-next_at-next}
@@ -12,11 +12,6 @@ use Rattle.scope_paths.proofs.extra.+end_of.Goals as goal
 pub returns-then-row-eq0 : goal.returns-then-row-eq0
 returns-then-row-eq0 m c =
     end_at_none c.args.tables.now c.requires.0 c.args.row c.if-row-eq0.true
-
-pub next_at-next-requires : goal.next_at-next-requires
-next_at-next-requires m c =
-    let pre = c.requires in
-    (pre.0.room, row_low _ pre.0 _ c.if-row-eq0.false pre.1)
 
 ready : (m : ℕ) (c : After-next_at-next m) → Falls c.args.tables.now m c.next_at-next.result
 ready m c =

@@ -7,7 +7,7 @@ use Rattle.sheet.specs.Inner.Sheet.{row_at}
 use Rattle.sheet.proofs.Laws.Sheet.{row-fields}
 use Rattle.scope_walk.specs.Inner.Sheets.{Accepted, expr_count}
 use Rattle.scope_walk.specs.Inner.Walking.{remains}
-use Rattle.scope_walk.proofs.Laws.Walking.{row_low, first_call, second-low}
+use Rattle.scope_walk.proofs.Laws.Walking.{first_call, second-low}
 use Rattle.scope_paths.proofs.Laws.Paths.{no_path, is_simple, no_simple_kind, path_at-other, path_at-var, path_at_dot, path_at_brack}
 use Rattle.scope_paths.specs.Inner.Paths.{short_of, path_at}
 use Rattle.scope_paths.specs.declared.paths.Path.{Path}
@@ -17,11 +17,6 @@ use Rattle.scope_paths.proofs.paths.+get_path_string.Goals as goal
 pub returns-then-row-eq0 : goal.returns-then-row-eq0
 returns-then-row-eq0 m c =
     no_path c.args.tables.now c.requires.0 c.args.row c.if-row-eq0.true _ c.none.ensures
-
-pub row_at-w-requires : goal.row_at-w-requires
-row_at-w-requires m c =
-    let pre = c.requires in
-    (pre.0.room, row_low _ pre.0 _ c.if-row-eq0.false pre.1)
 
 -- The row that was read.
 row_is : (m : ℕ) (c : After-row_at-w m)

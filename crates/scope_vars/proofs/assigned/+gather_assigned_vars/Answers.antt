@@ -10,7 +10,7 @@ use Rattle.sheet.proofs.Laws.Sheet.{row-fields}
 use Rattle.scope_state.specs.declared.Scope.{Scope}
 use Rattle.scope_walk.specs.Inner.Asks.{AsksWalk}
 use Rattle.scope_walk.specs.Inner.Walking.{remains}
-use Rattle.scope_walk.proofs.Laws.Walking.{Falls, row_low, low-name, first_call, next_call}
+use Rattle.scope_walk.proofs.Laws.Walking.{Falls, low-name, first_call, next_call}
 use Rattle.scope_walk.proofs.Laws.Patterns.{pattern_arm, leaf_arm, last_leaf, Lengthwise}
 use Rattle.scope_vars.specs.Inner.Assigned.{AssignWalk}
 use Rattle.scope_vars.proofs.Laws.Assigned.{assign_walk_none, AssignTurn, assign_at_var, assign_still, assign_walk_turn, assign_turn_kept}
@@ -23,11 +23,6 @@ returns-then-row-eq0 m c =
     let a = c.args in
     subst (λ (n : ℕ). AssignWalk a.tables.now a.outer.now n a.rest a.can_shadow a.scope a.spans.now a.scope a.spans.now)
     (sym c.if-row-eq0.true) (assign_walk_none _ _ c.requires.accepted a.rest a.can_shadow a.scope a.spans.now)
-
-pub row_at-w-requires : goal.row_at-w-requires
-row_at-w-requires m c =
-    let pre = c.requires in
-    (pre.accepted.room, row_low _ pre.accepted _ c.if-row-eq0.false pre.row_in)
 
 -- The row that was read.
 row_is : (m : ℕ) (c : After-row_at-w m)
@@ -114,9 +109,6 @@ turned : (m : ℕ) (c : Joined-kind m) (s : Scope) (l : List ℕ)
 turned m c s l rest =
     assign_walk_turn _ _ c.requires.accepted _ c.if-row-eq0.false c.requires.row_in c.args.rest _ _ (c.row_at-w.ensures ∙ row-fields _ _) _ c.next_of-next.ensures _ _ (s, l) (turn m c) rest
 
-pub shape_of-spans-then-next-eq0 : goal.shape_of-spans-then-next-eq0
-shape_of-spans-then-next-eq0 m c = kept m (goal.at.shape_of-spans-then-next-eq0 m c).Joined-kind
-
 pub returns-then-next-eq0 : goal.returns-then-next-eq0
 returns-then-next-eq0 m c =
     let a = c.args in
@@ -128,9 +120,6 @@ returns-then-next-eq0 m c =
 pub gather_assigned_vars-requires : goal.gather_assigned_vars-requires
 gather_assigned_vars-requires m c =
     asks m (goal.at.gather_assigned_vars-requires m c).After-row_at-w _ (next_call _ c.requires.accepted _ c.if-row-eq0.false c.requires.row_in m c.decreases c.args.rest _ (row_is m (goal.at.gather_assigned_vars-requires m c).After-row_at-w) _ c.next_of-next.ensures) _ (kept m (goal.at.gather_assigned_vars-requires m c).Joined-kind)
-
-pub shape_of-spans : goal.shape_of-spans
-shape_of-spans m c = c.gather_assigned_vars.auto.spans ∙ kept m (goal.at.shape_of-spans m c).Joined-kind
 
 pub returns : goal.returns
 returns m c = turned m (goal.at.returns m c).Joined-kind _ _ c.gather_assigned_vars.ensures

@@ -4,7 +4,7 @@ use native.Mathlib.Omega.{arith}
 use Rattle.scope.specs.Scopes.{Scope}
 use Rattle.scope.specs.Gather.{gather_read}
 use Rattle.scope_walk.specs.Inner.Sheets.{sheet_at}
-use Rattle.scope_walk.proofs.Laws.Walking.{row_low, chain_call}
+use Rattle.scope_walk.proofs.Laws.Walking.{chain_call}
 use Rattle.scope_state.proofs.Laws.Chains.{each_member_none, each_row}
 use Rattle.scope_vars.proofs.each.+gather_read_each.Goals as goal
 
@@ -13,14 +13,6 @@ returns-then-row-eq0 m c =
     let a = c.args in
     each_member_none a.tables.now a.outer.now c.requires.accepted (λ (parents : List Scope). gather_read (sheet_at a.tables.now) parents) a.row c.if-row-eq0.true
     a.scope a.spans.now
-
-pub next_at-next-requires : goal.next_at-next-requires
-next_at-next-requires m c =
-    let pre = c.requires in
-    (pre.accepted.room, row_low _ pre.accepted _ c.if-row-eq0.false pre.row_in)
-
-pub gather_read-s-requires : goal.gather_read-s-requires
-gather_read-s-requires m c = c.requires
 
 pub gather_read_each-requires : goal.gather_read_each-requires
 gather_read_each-requires m c =

@@ -11,7 +11,7 @@ use Rattle.names.specs.declared.Names.{Names}
 use Rattle.sheet.specs.Inner.Sheet.{row_at}
 use Rattle.sheet.proofs.Laws.Sheet.{row-fields}
 use Rattle.scope_state.specs.Inner.Agrees.{scope_of}
-use Rattle.scope_walk.proofs.Laws.Walking.{Calls, row_low, low-name, calls, past_guard_list}
+use Rattle.scope_walk.proofs.Laws.Walking.{Calls, low-name, calls, past_guard_list}
 use Rattle.scope_vars.specs.Inner.Inputs.{InputWalk}
 use Rattle.scope_vars.proofs.Laws.Inputs.{InputTurn, input_walk_none, input_walk_turn, input_still, input_at-var}
 use Rattle.scope_walk.proofs.Laws.Arms.{arm, quiet_arm, last_arm, no_such_kind}
@@ -28,11 +28,6 @@ returns-then-row-eq0 m c =
           let s = scope_of l a.unscoped.now a.inputs.now a.uses in
           subst (λ (n : ℕ). InputWalk a.tables.now a.outer.now n a.rest s s) (sym c.if-row-eq0.true) (input_walk_none _ _ c.requires.accepted a.rest s);
     }
-
-pub row_at-w-requires : goal.row_at-w-requires
-row_at-w-requires m c =
-    let pre = c.requires in
-    (pre.accepted.room, row_low _ pre.accepted _ c.if-row-eq0.false pre.row_in)
 
 -- The row that was read.
 row_is : (m : ℕ) (c : After-row_at-w m)

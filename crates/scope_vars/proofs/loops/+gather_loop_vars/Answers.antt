@@ -10,7 +10,7 @@ use lib.ListN.{length}
 use Rattle.sheet.specs.Inner.Sheet.{row_at}
 use Rattle.sheet.proofs.Laws.Sheet.{row-fields}
 use Rattle.scope_walk.specs.Inner.Sheets.{Accepted}
-use Rattle.scope_walk.proofs.Laws.Walking.{Calls, row_low, second-low, calls, past_guard}
+use Rattle.scope_walk.proofs.Laws.Walking.{Calls, second-low, calls, past_guard}
 use Rattle.scope_vars.specs.Inner.Loops.{LoopWalk, LoopWalkIn, scope_of_words}
 use Rattle.scope_vars.proofs.Laws.Loops.{LoopState, LoopTurn, loop_walk_none, loop_walk_turn, loop_still, loop_at_var, loop_at_brack}
 use Rattle.scope_walk.proofs.Laws.Arms.{arm, quiet_arm, last_arm, no_such_kinds}
@@ -28,11 +28,6 @@ returns-then-row-eq0 m c =
       done = subst (λ (n : ℕ). LoopWalk a.tables.now a.outer.now n a.rest s a.spans.now s a.spans.now)
           (sym c.if-row-eq0.true) (loop_walk_none _ _ c.requires.accepted a.rest s a.spans.now);
     }
-
-pub row_at-w-requires : goal.row_at-w-requires
-row_at-w-requires m c =
-    let pre = c.requires in
-    (pre.accepted.room, row_low _ pre.accepted _ c.if-row-eq0.false pre.row_in)
 
 -- The row that was read.
 row_is : (m : ℕ) (c : After-row_at-w m)
@@ -212,11 +207,6 @@ third_walk m c =
       | else-k-ne0-3 w ↦ inr (w.if-k-ne0-3.false, λ i. (w.s-is i, w.unscoped-is i, w.inputs-is i, w.spans-is i))
     ])
 
-pub shape_of-spans-then-next-eq0 : goal.shape_of-spans-then-next-eq0
-shape_of-spans-then-next-eq0 m c =
-    let p = goal.at.shape_of-spans-then-next-eq0 m c in
-    (third_walk m p.Joined-k-ne0-3).1 ∙ (second_walk m p.Joined-k-ne0-2).1 ∙ (first_walk m p.Joined-k-ne0).1 ∙ (turn m p.Joined-kind).step.1
-
 pub returns-then-next-eq0 : goal.returns-then-next-eq0
 returns-then-next-eq0 m c =
     let a = c.args in
@@ -253,12 +243,6 @@ gather_loop_vars-requires m c =
         spans-room = omega (arith, pre.spans-room, l.2);
       },
     )
-
-pub shape_of-spans : goal.shape_of-spans
-shape_of-spans m c =
-    let p = goal.at.shape_of-spans m c in
-    c.gather_loop_vars.auto.spans ∙ (third_walk m p.Joined-k-ne0-3).1 ∙ (second_walk m p.Joined-k-ne0-2).1 ∙ (first_walk m p.Joined-k-ne0).1
-    ∙ (turn m p.Joined-kind).step.1
 
 pub returns : goal.returns
 returns m c =
