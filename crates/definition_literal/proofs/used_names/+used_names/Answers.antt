@@ -1,7 +1,6 @@
 -- The walk goes on to later rows only, and what comes to the names on the way is what a row's turn brings.
 use mathlib.Core.Path.{◌≡◌, refl, ◌∙◌}
 use mathlib.Core.Bool.{true}
-use mathlib.Core.Logic.{⊎_elim}
 use Prim.Native.Nat.{ℕ, ◌≤◌, ◌<◌}
 use native.Mathlib.Omega.{arith}
 use Rattle.names.specs.declared.Names.{Names}
@@ -15,6 +14,7 @@ use Rattle.scope_walk.proofs.Laws.Arms.{FullTurn, kids_walked, full_arm, quiet_f
 use Rattle.definition_literal.specs.Inner.Used.{NamesWalk}
 use Rattle.definition_literal.proofs.Laws.Used.{names_walk_none, names_walk_turn, is_used, used_still, used_at-var, used_at-bracket}
 use Rattle.definition_literal.proofs.used_names.+used_names.Goals.{After-row_at-w, Joined-kind}
+use Rattle.definition_literal.proofs.used_names.+used_names.Goals.{in-1, in-2, in-3, in-4, in-5, in-6, in-7, in-8, in-9, in-10, in-11, in-12, in-13, in-14, in-15, in-16, in-17, in-18, in-19, in-20, in-21, in-22, in_default}
 use Rattle.definition_literal.proofs.used_names.+used_names.Goals as goal
 
 pub returns-then-row-eq0 : goal.returns-then-row-eq0
@@ -63,29 +63,31 @@ turn m c =
     let e = g.extras in
     let a = g.names in
     let still = used_still t k e w a in
-    ⊎_elim (λ x. quiet_full_arm is_used still 1 x.0.keys1 refl x.1) (
-    ⊎_elim (λ x. quiet_full_arm is_used still 2 x.0.keys2 refl x.1) (
-    ⊎_elim (λ x. quiet_full_arm is_used still 3 x.0.keys3 refl x.1) (
-    ⊎_elim (λ x. quiet_full_arm is_used still 4 x.0.keys4 refl x.1) (
-    ⊎_elim (λ x. quiet_full_arm is_used still 5 x.0.keys5 refl x.1) (
-    ⊎_elim (λ x. full_arm 6 _ x.0.keys6 (used_at-var t k e w a x.0.keys6 _ x.1.ensures) x.2) (
-    ⊎_elim (λ x. quiet_full_arm is_used still 7 x.0.keys7 refl (_, x.1.ensures, x.2)) (
-    ⊎_elim (λ x. quiet_full_arm is_used still 8 x.0.keys8 refl (_, x.1.ensures, x.2)) (
-    ⊎_elim (λ x. quiet_full_arm is_used still 9 x.0.keys9 refl (_, x.1.ensures, x.2)) (
-    ⊎_elim (λ x. quiet_full_arm is_used still 10 x.0.keys10 refl x.1) (
-    ⊎_elim (λ x. quiet_full_arm is_used still 11 x.0.keys11 refl x.1) (
-    ⊎_elim (λ x. quiet_full_arm is_used still 12 x.0.keys12 refl x.1) (
-    ⊎_elim (λ x. quiet_full_arm is_used still 13 x.0.keys13 refl (_, x.1.ensures, x.2)) (
-    ⊎_elim (λ x. quiet_full_arm is_used still 14 x.0.keys14 refl (_, x.1.ensures, x.2)) (
-    ⊎_elim (λ x. quiet_full_arm is_used still 15 x.0.keys15 refl (_, x.1.ensures, x.2)) (
-    ⊎_elim (λ x. full_arm 16 _ x.0.keys16 (used_at-bracket t k e w a x.0.keys16 _ x.1.ensures) (_, x.2.ensures, (_, x.3.ensures, x.4))) (
-    ⊎_elim (λ x. quiet_full_arm is_used still 17 x.0.keys17 refl (_, x.1.ensures, (_, x.2.ensures, x.3))) (
-    ⊎_elim (λ x. quiet_full_arm is_used still 18 x.0.keys18 refl (_, x.1.ensures, (_, x.2.ensures, x.3))) (
-    ⊎_elim (λ x. quiet_full_arm is_used still 19 x.0.keys19 refl (_, x.1.ensures, (_, x.2.ensures, x.3))) (
-    ⊎_elim (λ x. quiet_full_arm is_used still 20 x.0.keys20 refl (_, x.1.ensures, (_, x.2.ensures, x.3))) (
-    ⊎_elim (λ x. quiet_full_arm is_used still 21 x.0.keys21 refl (_, x.1.ensures, (_, x.2.ensures, x.3))) (
-    ⊎_elim (λ x. quiet_full_arm is_used still 22 x.0.keys22 refl (_, x.1.ensures, (_, x.2.ensures, (_, x.3.ensures, x.4))))
-    (λ x. last_full_arm is_used still (no_such_kinds w 6 16 (omega arith) (omega arith) (omega arith) (omega arith)) x.0.rest x.1)))))))))))))))))))))) c.match-kind.branch
+    elim c.match-kind.branch [
+      in-1 x ↦ quiet_full_arm is_used still 1 x.in-1.is refl x.s-is
+      | in-2 x ↦ quiet_full_arm is_used still 2 x.in-2.is refl x.s-is
+      | in-3 x ↦ quiet_full_arm is_used still 3 x.in-3.is refl x.s-is
+      | in-4 x ↦ quiet_full_arm is_used still 4 x.in-4.is refl x.s-is
+      | in-5 x ↦ quiet_full_arm is_used still 5 x.in-5.is refl x.s-is
+      | in-6 x ↦ full_arm 6 _ x.in-6.is (used_at-var t k e w a x.in-6.is _ x.used_var-s.ensures) x.s-is
+      | in-7 x ↦ quiet_full_arm is_used still 7 x.in-7.is refl (_, x.used_names-s.ensures, x.s-is)
+      | in-8 x ↦ quiet_full_arm is_used still 8 x.in-8.is refl (_, x.used_names-s-in-8.ensures, x.s-is)
+      | in-9 x ↦ quiet_full_arm is_used still 9 x.in-9.is refl (_, x.used_names-s-in-9.ensures, x.s-is)
+      | in-10 x ↦ quiet_full_arm is_used still 10 x.in-10.is refl x.s-is
+      | in-11 x ↦ quiet_full_arm is_used still 11 x.in-11.is refl x.s-is
+      | in-12 x ↦ quiet_full_arm is_used still 12 x.in-12.is refl x.s-is
+      | in-13 x ↦ quiet_full_arm is_used still 13 x.in-13.is refl (_, x.used_names-s-in-13.ensures, x.s-is)
+      | in-14 x ↦ quiet_full_arm is_used still 14 x.in-14.is refl (_, x.used_names-s-in-14.ensures, x.s-is)
+      | in-15 x ↦ quiet_full_arm is_used still 15 x.in-15.is refl (_, x.used_names-s-in-15.ensures, x.s-is)
+      | in-16 x ↦ full_arm 16 _ x.in-16.is (used_at-bracket t k e w a x.in-16.is _ x.assigned_vars-own.ensures) (_, x.used_names-u.ensures, (_, x.used_names-s-in-16.ensures, x.s-is))
+      | in-17 x ↦ quiet_full_arm is_used still 17 x.in-17.is refl (_, x.used_names-u-in-17.ensures, (_, x.used_names-s-in-17.ensures, x.s-is))
+      | in-18 x ↦ quiet_full_arm is_used still 18 x.in-18.is refl (_, x.used_names-u-in-18.ensures, (_, x.used_names-s-in-18.ensures, x.s-is))
+      | in-19 x ↦ quiet_full_arm is_used still 19 x.in-19.is refl (_, x.used_names-u-in-19.ensures, (_, x.used_names-s-in-19.ensures, x.s-is))
+      | in-20 x ↦ quiet_full_arm is_used still 20 x.in-20.is refl (_, x.used_names-u-in-20.ensures, (_, x.used_names-s-in-20.ensures, x.s-is))
+      | in-21 x ↦ quiet_full_arm is_used still 21 x.in-21.is refl (_, x.used_names-u-in-21.ensures, (_, x.used_names-s-in-21.ensures, x.s-is))
+      | in-22 x ↦ quiet_full_arm is_used still 22 x.in-22.is refl (_, x.used_names-u-in-22.ensures, (_, x.used_names-v.ensures, (_, x.used_names-s-in-22.ensures, x.s-is)))
+      | in_default x ↦ last_full_arm is_used still (no_such_kinds w 6 16 (omega arith) (omega arith) (omega arith) (omega arith)) x.in_default.in_default-own.rest x.s-is
+    ]
 
 -- With the walk over the rest of its chain.
 row_is-at-Joined-kind : (m : ℕ) (c : Joined-kind m)
@@ -114,3 +116,66 @@ used_names-requires m c =
 
 pub returns : goal.returns
 returns m c = turned m (goal.at.returns m c).Joined-kind _ c.used_names.ensures
+
+pub used_names-s-requires : goal.used_names-s-requires
+used_names-s-requires m c = asks m (goal.at.used_names-s-requires m c).After-row_at-w _ (ready m (goal.at.used_names-s-requires m c).After-row_at-w).first
+
+pub used_names-s-requires-in-8 : goal.used_names-s-requires-in-8
+used_names-s-requires-in-8 m c = asks m (goal.at.used_names-s-requires-in-8 m c).After-row_at-w _ (ready m (goal.at.used_names-s-requires-in-8 m c).After-row_at-w).first
+
+pub used_names-s-requires-in-9 : goal.used_names-s-requires-in-9
+used_names-s-requires-in-9 m c = asks m (goal.at.used_names-s-requires-in-9 m c).After-row_at-w _ (ready m (goal.at.used_names-s-requires-in-9 m c).After-row_at-w).first
+
+pub used_names-s-requires-in-13 : goal.used_names-s-requires-in-13
+used_names-s-requires-in-13 m c = asks m (goal.at.used_names-s-requires-in-13 m c).After-row_at-w _ (ready m (goal.at.used_names-s-requires-in-13 m c).After-row_at-w).second
+
+pub used_names-s-requires-in-14 : goal.used_names-s-requires-in-14
+used_names-s-requires-in-14 m c = asks m (goal.at.used_names-s-requires-in-14 m c).After-row_at-w _ (ready m (goal.at.used_names-s-requires-in-14 m c).After-row_at-w).first
+
+pub used_names-s-requires-in-15 : goal.used_names-s-requires-in-15
+used_names-s-requires-in-15 m c = asks m (goal.at.used_names-s-requires-in-15 m c).After-row_at-w _ (ready m (goal.at.used_names-s-requires-in-15 m c).After-row_at-w).first
+
+pub used_names-u-requires : goal.used_names-u-requires
+used_names-u-requires m c = asks m (goal.at.used_names-u-requires m c).After-row_at-w _ (ready m (goal.at.used_names-u-requires m c).After-row_at-w).first
+
+pub used_names-s-requires-in-16 : goal.used_names-s-requires-in-16
+used_names-s-requires-in-16 m c = asks m (goal.at.used_names-s-requires-in-16 m c).After-row_at-w _ (ready m (goal.at.used_names-s-requires-in-16 m c).After-row_at-w).second
+
+pub used_names-u-requires-in-17 : goal.used_names-u-requires-in-17
+used_names-u-requires-in-17 m c = asks m (goal.at.used_names-u-requires-in-17 m c).After-row_at-w _ (ready m (goal.at.used_names-u-requires-in-17 m c).After-row_at-w).first
+
+pub used_names-s-requires-in-17 : goal.used_names-s-requires-in-17
+used_names-s-requires-in-17 m c = asks m (goal.at.used_names-s-requires-in-17 m c).After-row_at-w _ (ready m (goal.at.used_names-s-requires-in-17 m c).After-row_at-w).second
+
+pub used_names-u-requires-in-18 : goal.used_names-u-requires-in-18
+used_names-u-requires-in-18 m c = asks m (goal.at.used_names-u-requires-in-18 m c).After-row_at-w _ (ready m (goal.at.used_names-u-requires-in-18 m c).After-row_at-w).first
+
+pub used_names-s-requires-in-18 : goal.used_names-s-requires-in-18
+used_names-s-requires-in-18 m c = asks m (goal.at.used_names-s-requires-in-18 m c).After-row_at-w _ (ready m (goal.at.used_names-s-requires-in-18 m c).After-row_at-w).second
+
+pub used_names-u-requires-in-19 : goal.used_names-u-requires-in-19
+used_names-u-requires-in-19 m c = asks m (goal.at.used_names-u-requires-in-19 m c).After-row_at-w _ (ready m (goal.at.used_names-u-requires-in-19 m c).After-row_at-w).first
+
+pub used_names-s-requires-in-19 : goal.used_names-s-requires-in-19
+used_names-s-requires-in-19 m c = asks m (goal.at.used_names-s-requires-in-19 m c).After-row_at-w _ (ready m (goal.at.used_names-s-requires-in-19 m c).After-row_at-w).second
+
+pub used_names-u-requires-in-20 : goal.used_names-u-requires-in-20
+used_names-u-requires-in-20 m c = asks m (goal.at.used_names-u-requires-in-20 m c).After-row_at-w _ (ready m (goal.at.used_names-u-requires-in-20 m c).After-row_at-w).first
+
+pub used_names-s-requires-in-20 : goal.used_names-s-requires-in-20
+used_names-s-requires-in-20 m c = asks m (goal.at.used_names-s-requires-in-20 m c).After-row_at-w _ (ready m (goal.at.used_names-s-requires-in-20 m c).After-row_at-w).second
+
+pub used_names-u-requires-in-21 : goal.used_names-u-requires-in-21
+used_names-u-requires-in-21 m c = asks m (goal.at.used_names-u-requires-in-21 m c).After-row_at-w _ (ready m (goal.at.used_names-u-requires-in-21 m c).After-row_at-w).first
+
+pub used_names-s-requires-in-21 : goal.used_names-s-requires-in-21
+used_names-s-requires-in-21 m c = asks m (goal.at.used_names-s-requires-in-21 m c).After-row_at-w _ (ready m (goal.at.used_names-s-requires-in-21 m c).After-row_at-w).second
+
+pub used_names-u-requires-in-22 : goal.used_names-u-requires-in-22
+used_names-u-requires-in-22 m c = asks m (goal.at.used_names-u-requires-in-22 m c).After-row_at-w _ (ready m (goal.at.used_names-u-requires-in-22 m c).After-row_at-w).first
+
+pub used_names-v-requires : goal.used_names-v-requires
+used_names-v-requires m c = asks m (goal.at.used_names-v-requires m c).After-row_at-w _ (ready m (goal.at.used_names-v-requires m c).After-row_at-w).second
+
+pub used_names-s-requires-in-22 : goal.used_names-s-requires-in-22
+used_names-s-requires-in-22 m c = asks m (goal.at.used_names-s-requires-in-22 m c).After-row_at-w _ ((ready m (goal.at.used_names-s-requires-in-22 m c).After-row_at-w).third (membership_no_compr c.row_at-w.result c.in-22.is))
