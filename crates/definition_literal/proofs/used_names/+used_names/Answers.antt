@@ -10,7 +10,7 @@ use Rattle.scope_walk.specs.Inner.Sheets.{Accepted, expr_count}
 use Rattle.scope_walk.specs.Inner.Walking.{remains}
 use Rattle.definition_walk.specs.Inner.UsedVars.{UsedStep}
 use Rattle.scope_walk.proofs.Laws.Walking.{Falls, FieldCalls, row_low, low-name, second-low, field_calls}
-use Rattle.scope_walk.proofs.Laws.Arms.{FullTurn, kids_walked, full_arm, quiet_full_arm, last_full_arm, no_such_kinds}
+use Rattle.scope_walk.proofs.Laws.Arms.{membership_no_compr, FullTurn, kids_walked, full_arm, quiet_full_arm, last_full_arm, no_such_kinds}
 use Rattle.definition_literal.specs.Inner.Used.{NamesWalk}
 use Rattle.definition_literal.proofs.Laws.Used.{names_walk_none, names_walk_turn, is_used, used_still, used_at-var, used_at-bracket}
 use Rattle.definition_literal.proofs.used_names.+used_names.Goals.{After-row_at-w, Joined-kind}
