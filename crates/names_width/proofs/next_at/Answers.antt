@@ -5,7 +5,6 @@ use lib.ListN.{get_or}
 use Rattle.names.specs.Inner.Sets.{Next}
 use Rattle.names.specs.Inner.Lowest.{LowestBit}
 use Rattle.names.proofs.Laws.Search.{gap-over, next-found, next-none}
-use Rattle.names_width.specs.Inner.Widths.{set_words}
 use Rattle.base.specs.Sets.{words_at}
 use Rattle.names_width.proofs.Laws.Laws.{at_most, words-length, words_get}
 use Rattle.names_width.proofs.next_at.Goals.{After-lowest-k}

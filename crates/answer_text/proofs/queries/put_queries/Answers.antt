@@ -1,4 +1,3 @@
-use mathlib.Core.Path.{◌∙◌}
 use native.Mathlib.Omega.{arith}
 use Rattle.sheet.specs.Text.{bytes}
 use Rattle.answer.specs.Text.{query_rows}
@@ -11,18 +10,10 @@ use Rattle.answer_text.proofs.queries.put_queries.Goals as goal
 pub loop-q-init : goal.loop-q-init
 loop-q-init c = (omega arith, omega arith, run-first _ _ _ _)
 
-pub put_query-place-requires : goal.put_query-place-requires
-put_query-place-requires c =
-    let pre = c.requires in
-    (record { room = pre.0; from = omega arith; to = omega arith }, pre.2)
-
 pub loop-q-preserved : goal.loop-q-preserved
 loop-q-preserved c =
     let loop = c.loop-q in
     (omega arith, omega arith, run-next _ _ _ _ loop.q (omega arith) _ _ _ _ loop.invariant.2 c.put_query-place.ensures)
-
-pub shape_of-answer : goal.shape_of-answer
-shape_of-answer c = c.put.ensures.0 ∙ c.loop-q.invariant.2.0 ∙ c.put_bytes-place.ensures.0
 
 pub returns : goal.returns
 unfolding bytes

@@ -2,7 +2,6 @@
 use mathlib.Core.Path.{sym, ap₂, ◌∙◌}
 use mathlib.Core.List.{[], ◌∷◌}
 use Prim.Native.Nat.{ℕ, ◌-◌}
-use native.Mathlib.Omega.{arith}
 use Rattle.answer.specs.Text.{row_line}
 use Rattle.answer_text.proofs.Laws.Lines.{puts_as}
 use Rattle.answer_text.proofs.Laws.Texts.{query-never, query_text-once}
@@ -10,12 +9,6 @@ use Rattle.answer_text.proofs.queries.put_query.Goals as goal
 
 pub returns-then-state-eq0 : goal.returns-then-state-eq0
 returns-then-state-eq0 c = puts_as _ _ _ _ _ _ (sym (query-never _ _ _ (sym c.word_at-state.ensures ∙ c.if-state-eq0.true))) c.put_three.ensures
-
-pub put_three-requires-2 : goal.put_three-requires-2
-put_three-requires-2 c =
-    let state = c.word_at-state.ensures in
-    let known = c.requires.1 c.args.q c.requires.0.from c.requires.0.to (omega (arith, c.if-state-eq0.false, state)) in
-    (omega arith, omega (arith, known.state, state), omega (arith, known.input, c.word_at-input.ensures))
 
 pub returns : goal.returns
 returns c =

@@ -1,10 +1,9 @@
 use mathlib.Core.Path.{ap, ◌∙◌}
 use mathlib.Core.List.{[], ◌∷◌}
 use Prim.Native.Nat.{ℕ, ◌/◌, ◌%◌}
-use native.Mathlib.Omega.{arith}
 use Rattle.answer.specs.Text.{row_line}
 use Rattle.answer_text.proofs.Laws.Lines.{puts_as}
-use Rattle.answer_text.proofs.Laws.Listed.{lines_listed_first, lines_listed_next, lines_listed_all, is_local_lem, local_low, local_here, local_none}
+use Rattle.answer_text.proofs.Laws.Listed.{lines_listed_first, lines_listed_next, local_low, local_here, local_none}
 use Rattle.answer_text.proofs.sets.put_locals.Goals as goal
 
 pub loop-x-init : goal.loop-x-init
@@ -15,22 +14,6 @@ span_at-span-requires c =
     let loop = c.loop-x in
     (c.requires.0, local_low c.args.width c.args.answers.now c.args.q _ c.set_at-names.ensures loop.x (loop.invariant.here c.loop-x-test.true))
 
-pub put_five-place-requires : goal.put_five-place-requires
-put_five-place-requires c =
-    let loop = c.loop-x in
-    let local = is_local_lem c.args.width c.args.answers.now c.args.q _ c.set_at-names.ensures loop.x (loop.invariant.here c.loop-x-test.true) in
-    let span = c.requires.1.span loop.x local in
-    record {
-      first = omega (arith, c.requires.0.to);
-      second = omega arith;
-      third = omega (arith, c.loop-x-test.true);
-      fourth = omega (arith, span, c.span_at-span.ensures);
-      fifth = omega arith;
-    }
-
-pub loop-x-smaller : goal.loop-x-smaller
-loop-x-smaller c = omega (arith, c.next-x-in-loop-x.ensures.low, c.loop-x-test.true)
-
 pub loop-x-preserved : goal.loop-x-preserved
 loop-x-preserved c =
     let loop = c.loop-x in
@@ -40,9 +23,3 @@ loop-x-preserved c =
     lines_listed_next _ _ (local_none _ _ _ _ is) _ _ loop.x _ _ loop.invariant low _ _
     (puts_as _ _ _ _ _ _ (ap (λ (n : ℕ). row_line (q ∷ 1 ∷ loop.x ∷ (n / 65536) ∷ (n % 65536) ∷ [])) c.span_at-span.ensures ∙ local_here _ _ _ _ is loop.x (loop.invariant.here low)) c.put_five-place.ensures)
     _ c.next-x-in-loop-x.ensures
-
-pub shape_of-answer : goal.shape_of-answer
-shape_of-answer c = c.loop-x.invariant.wrote.0
-
-pub returns : goal.returns
-returns c = lines_listed_all _ _ _ _ _ _ _ c.loop-x.invariant c.loop-x-test.false

@@ -1,23 +1,9 @@
-use native.Mathlib.Omega.{arith}
 use Rattle.answer_text.proofs.Laws.Lines.{puts_as}
 use Rattle.answer_text.proofs.Laws.Listed.{lines_listed_first, lines_listed_next, lines_listed_all, name-here, no_name_line}
 use Rattle.answer_text.proofs.sets.put_names.Goals as goal
 
 pub loop-x-init : goal.loop-x-init
 loop-x-init c = lines_listed_first _ _ (no_name_line _ _ _ _ _ c.set_at-names.ensures) _ _ _ c.next-x.ensures
-
-pub put_five-place-requires : goal.put_five-place-requires
-put_five-place-requires c =
-    record {
-      first = omega (arith, c.requires.0.to);
-      second = omega (arith, c.requires.2);
-      third = omega (arith, c.loop-x-test.true);
-      fourth = omega arith;
-      fifth = omega arith;
-    }
-
-pub loop-x-smaller : goal.loop-x-smaller
-loop-x-smaller c = omega (arith, c.next-x-in-loop-x.ensures.low, c.loop-x-test.true)
 
 pub loop-x-preserved : goal.loop-x-preserved
 loop-x-preserved c =
@@ -27,9 +13,6 @@ loop-x-preserved c =
     lines_listed_next _ _ (no_name_line _ _ _ _ _ is) _ _ loop.x _ _ loop.invariant low _ _
     (puts_as _ _ _ _ _ _ (name-here _ _ _ _ _ is loop.x (loop.invariant.here low)) c.put_five-place.ensures)
     _ c.next-x-in-loop-x.ensures
-
-pub shape_of-answer : goal.shape_of-answer
-shape_of-answer c = c.loop-x.invariant.wrote.0
 
 pub returns : goal.returns
 returns c = lines_listed_all _ _ _ _ _ _ _ c.loop-x.invariant c.loop-x-test.false

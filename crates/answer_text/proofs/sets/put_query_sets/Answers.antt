@@ -1,6 +1,5 @@
 -- By whether the query was analysed: its three sets, one behind the other.
 use mathlib.Core.Path.{sym, ◌∙◌}
-use native.Mathlib.Omega.{arith}
 use Rattle.answer_write.proofs.Laws.Writes.{put_none, puts_then}
 use Rattle.answer_text.proofs.Laws.Lines.{puts_as}
 use Rattle.answer_text.proofs.Laws.Texts.{sets-never, sets-once}
@@ -8,11 +7,6 @@ use Rattle.answer_text.proofs.sets.put_query_sets.Goals as goal
 
 pub returns-then-word_at-eq0 : goal.returns-then-word_at-eq0
 returns-then-word_at-eq0 c = puts_as _ _ _ _ _ _ (sym (sets-never _ _ _ (sym c.word_at.ensures ∙ c.if-word_at-eq0.true))) (put_none _ _)
-
-pub put_locals-unscoped-requires : goal.put_locals-unscoped-requires
-put_locals-unscoped-requires c =
-    let known = c.requires.1 c.args.q c.requires.0.from c.requires.0.to (omega (arith, c.if-word_at-eq0.false, c.word_at.ensures)) in
-    (c.requires.0, known)
 
 pub returns : goal.returns
 returns c =
