@@ -4,6 +4,8 @@ use mathlib.Core.Path.{sym, ◌∙◌, ◌≡◌, refl, ap, subst}
 use mathlib.Core.Bool.{true, false}
 use Prim.Native.Nat.{ℕ, ◌-◌, ◌+◌, ◌*◌, ◌≤◌}
 use native.Mathlib.Omega.{arith}
+use mathlib.Core.Logic.{inl, inr}
+use Rattle.definition_query.proofs.query.+analysis.Goals.{process_non_vars-then-other-ne0, process_non_vars-else-other-ne0, process_non_vars-then-items-ne0, process_non_vars-else-items-ne0, process_pairs-then-pair-ne0, process_pairs-else-pair-ne0, process_pairs-then-pair-ne0-2, process_pairs-else-pair-ne0-2}
 use lib.ListN.{replicate, length, get_or}
 use borrow.Author.Rules.{rules}
 use Rattle.order_rows.proofs.Laws.Zeros.{zero-at}
@@ -467,6 +469,10 @@ pub process_every-offset_bounds-work-at : goal.process_every-offset_bounds-work-
 process_every-offset_bounds-work-at m c =
     omega (arith, process_every_room m (goal.at.process_every-offset_bounds-work-at m c).After-record_one-s _ (process_every_rows_are m (goal.at.process_every-offset_bounds-work-at m c).After-row), process_every_short m (goal.at.process_every-offset_bounds-work-at m c).After-record_one-s, c.well_formed.1.1.1.1.1.1.1.0.1)
 
+pub process_every-slice_bounds-analyze_query-start : goal.process_every-slice_bounds-analyze_query-start
+process_every-slice_bounds-analyze_query-start m c =
+    omega (arith, process_every_room m (goal.at.process_every-slice_bounds-analyze_query-start m c).After-record_one-s _ (process_every_rows_are m (goal.at.process_every-slice_bounds-analyze_query-start m c).After-row), process_every_short m (goal.at.process_every-slice_bounds-analyze_query-start m c).After-record_one-s, c.well_formed.1.1.1.1.1.1.1.0.1)
+
 pub process_every-slice_bounds-analyze_query-count : goal.process_every-slice_bounds-analyze_query-count
 process_every-slice_bounds-analyze_query-count m c =
     omega (arith, process_every_room m (goal.at.process_every-slice_bounds-analyze_query-count m c).After-record_one-s _ (process_every_rows_are m (goal.at.process_every-slice_bounds-analyze_query-count m c).After-row), process_every_short m (goal.at.process_every-slice_bounds-analyze_query-count m c).After-record_one-s, c.well_formed.1.1.1.1.1.1.1.0.1)
@@ -787,8 +793,10 @@ process_non_vars_one-done m c =
     let a = c.args in
     guarded_lists (λ r. DoesOthers a.tables.now a.inner.now (other_at a.tables.now r) a.context)
     (non_var_none a.tables.now a.inner.now 0 refl a.context) _ _ _ _ _ _ _
-    (λ w. (_, _, _, (w.3.ensures, w.3.kept.1.1.1.1.1.0, w.3.kept.1.1.1.1.1.1.0), w.8, w.9, w.10))
-    (λ w. (w.0.left, w.1, w.2, w.3)) c.if-other-ne0.branch
+    (λ w. w) (λ w. w) (elim c.if-other-ne0.branch [
+      process_non_vars-then-other-ne0 w ↦ inl (_, _, _, (w.process_non_var-s.ensures, w.process_non_var-s.auto.firsts, w.process_non_var-s.auto.work), w.firsts-is, w.work-is, w.s-is)
+      | process_non_vars-else-other-ne0 w ↦ inr (w.if-other-ne0.false, w.firsts-is, w.work-is, w.s-is)
+    ])
 
 pub process_non_vars-process_non_vars-s-requires : goal.process_non_vars-process_non_vars-s-requires
 process_non_vars-process_non_vars-s-requires m c =
@@ -816,8 +824,10 @@ process_non_vars_parts-done m c =
     let a = c.args in
     guarded_lists (λ r. DoesNonVars a.tables.now a.inner.now r a.context)
     (non_vars_do_none a.tables.now c.requires.accepted a.inner.now 0 refl a.context) _ _ _ _ _ _ _
-    (λ w. (_, _, _, (w.3.ensures, w.3.kept.1.1.1.1.1.0, w.3.kept.1.1.1.1.1.1.0), w.8, w.9, w.10))
-    (λ w. (w.0.left, w.1, w.2, w.3)) c.if-items-ne0.branch
+    (λ w. w) (λ w. w) (elim c.if-items-ne0.branch [
+      process_non_vars-then-items-ne0 w ↦ inl (_, _, _, (w.process_non_vars-s.ensures, w.process_non_vars-s.auto.firsts, w.process_non_vars-s.auto.work), w.firsts-is, w.work-is, w.s-is)
+      | process_non_vars-else-items-ne0 w ↦ inr (w.if-items-ne0.false, w.firsts-is, w.work-is, w.s-is)
+    ])
 
 -- The lengths of the lists are those at the start.
 process_non_vars_one-done-at-Joined-items-ne0 : (m : ℕ) (c : process_non_vars-Joined-items-ne0 m)
@@ -828,8 +838,10 @@ process_non_vars_one-done-at-Joined-items-ne0 m c =
     let a = c.args in
     guarded_lists (λ r. DoesOthers a.tables.now a.inner.now (other_at a.tables.now r) a.context)
     (non_var_none a.tables.now a.inner.now 0 refl a.context) _ _ _ _ _ _ _
-    (λ w. (_, _, _, (w.3.ensures, w.3.kept.1.1.1.1.1.0, w.3.kept.1.1.1.1.1.1.0), w.8, w.9, w.10))
-    (λ w. (w.0.left, w.1, w.2, w.3)) c.if-other-ne0.branch
+    (λ w. w) (λ w. w) (elim c.if-other-ne0.branch [
+      process_non_vars-then-other-ne0 w ↦ inl (_, _, _, (w.process_non_var-s.ensures, w.process_non_var-s.auto.firsts, w.process_non_var-s.auto.work), w.firsts-is, w.work-is, w.s-is)
+      | process_non_vars-else-other-ne0 w ↦ inr (w.if-other-ne0.false, w.firsts-is, w.work-is, w.s-is)
+    ])
 
 process_non_vars_kept : (m : ℕ) (c : process_non_vars-Joined-items-ne0 m)
     → let a = c.args in
@@ -975,8 +987,10 @@ process_pairs_one-done m c =
     let a = c.args in
     guarded_lists (λ l. DoesPairs a.tables.now a.inner.now (pair_at a.tables.now l right) a.check a.context)
     (λ p fs w. pair-none a.tables.now a.inner.now 0 right a.check a.context p fs w refl) _ _ _ _ _ _ _
-    (λ w. (_, _, _, (w.3.ensures, w.3.kept.1.1.1.1.1.1.1.0, w.3.kept.1.1.1.1.1.1.1.1.0), w.8, w.9, w.10))
-    (λ w. (w.0.left, w.1, w.2, w.3)) c.if-pair-ne0.branch
+    (λ w. w) (λ w. w) (elim c.if-pair-ne0.branch [
+      process_pairs-then-pair-ne0 w ↦ inl (_, _, _, (w.assign_pair-s.ensures, w.assign_pair-s.auto.firsts, w.assign_pair-s.auto.work), w.firsts-is, w.work-is, w.s-is)
+      | process_pairs-else-pair-ne0 w ↦ inr (w.if-pair-ne0.false, w.firsts-is, w.work-is, w.s-is)
+    ])
 
 pub process_pairs-process_pairs-s-requires : goal.process_pairs-process_pairs-s-requires
 process_pairs-process_pairs-s-requires m c =
@@ -1004,8 +1018,10 @@ process_pairs_below-done m c =
     let a = c.args in
     guarded_lists (λ l. DoesPairs a.tables.now a.inner.now (pairs_at a.tables.now l rights) a.check a.context)
     (λ p fs w. no_pairs _ _ a.check a.context p fs w _ (pairings-left _ c.requires.accepted 0 rights refl)) _ _ _ _ _ _ _
-    (λ w. (_, _, _, (w.3.ensures, w.3.kept.1.1.1.1.1.1.1.0, w.3.kept.1.1.1.1.1.1.1.1.0), w.8, w.9, w.10))
-    (λ w. (w.0.left, w.1, w.2, w.3)) c.if-pair-ne0-2.branch
+    (λ w. w) (λ w. w) (elim c.if-pair-ne0-2.branch [
+      process_pairs-then-pair-ne0-2 w ↦ inl (_, _, _, (w.process_pairs-s.ensures, w.process_pairs-s.auto.firsts, w.process_pairs-s.auto.work), w.firsts-is, w.work-is, w.s-is)
+      | process_pairs-else-pair-ne0-2 w ↦ inr (w.if-pair-ne0-2.false, w.firsts-is, w.work-is, w.s-is)
+    ])
 
 -- The lengths of the lists are those at the start.
 process_pairs_one-done-at-Joined-pair-ne0-2 : (m : ℕ) (c : process_pairs-Joined-pair-ne0-2 m)
@@ -1019,8 +1035,10 @@ process_pairs_one-done-at-Joined-pair-ne0-2 m c =
     let a = c.args in
     guarded_lists (λ l. DoesPairs a.tables.now a.inner.now (pair_at a.tables.now l right) a.check a.context)
     (λ p fs w. pair-none a.tables.now a.inner.now 0 right a.check a.context p fs w refl) _ _ _ _ _ _ _
-    (λ w. (_, _, _, (w.3.ensures, w.3.kept.1.1.1.1.1.1.1.0, w.3.kept.1.1.1.1.1.1.1.1.0), w.8, w.9, w.10))
-    (λ w. (w.0.left, w.1, w.2, w.3)) c.if-pair-ne0.branch
+    (λ w. w) (λ w. w) (elim c.if-pair-ne0.branch [
+      process_pairs-then-pair-ne0 w ↦ inl (_, _, _, (w.assign_pair-s.ensures, w.assign_pair-s.auto.firsts, w.assign_pair-s.auto.work), w.firsts-is, w.work-is, w.s-is)
+      | process_pairs-else-pair-ne0 w ↦ inr (w.if-pair-ne0.false, w.firsts-is, w.work-is, w.s-is)
+    ])
 
 process_pairs_kept : (m : ℕ) (c : process_pairs-Joined-pair-ne0-2 m)
     → let a = c.args in
