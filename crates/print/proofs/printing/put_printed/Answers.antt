@@ -7,11 +7,13 @@ use Rattle.print.proofs.printing.put_printed.Goals as goal
 pub returns-then-reply-ne0 : goal.returns-then-reply-ne0
 returns-then-reply-ne0 c =
     let left = c.analyze-reply in
-    prints_refusal printing c.args.sheet.now (length c.args.tables.now) (length c.args.work.now) (length c.args.answer.now) left.result _ _ _ left.ensures
-    c.if-reply-ne0.true c.requires _ _ c.put_refusal.ensures
+    let both = prints_refusal printing c.args.sheet.now (length c.args.tables.now) (length c.args.work.now) (length c.args.answer.now) left.result _ _ _ left.ensures
+    c.if-reply-ne0.true c.requires _ _ c.put_refusal.ensures in
+    record { fits = both.0; text = both.1 }
 
 pub returns : goal.returns
 returns c =
     let left = c.analyze-reply in
-    prints_answer printing c.args.sheet.now (length c.args.tables.now) (length c.args.work.now) (length c.args.answer.now) left.result _ _ _ left.ensures
-    c.if-reply-ne0.false _ c.text_length.ensures
+    let both = prints_answer printing c.args.sheet.now (length c.args.tables.now) (length c.args.work.now) (length c.args.answer.now) left.result _ _ _ left.ensures
+    c.if-reply-ne0.false _ c.text_length.ensures in
+    record { fits = both.0; text = both.1 }
