@@ -5,7 +5,7 @@ use Rattle.std.specs.Prelude.{◌⊎◌, ◌↔◌, ℕ, suc, ◌-◌, get_or, l
 use Rattle.std.proofs.Math.Option.{Option, none, some}
 use Rattle.base.specs.Lists.{elem, range, concat_map}
 use Rattle.order.specs.Definitions.{Definition, plain_walk, WalkEnded, can_be_walked}
-use Rattle.order.specs.Turns.{statements, placements, placed, order, mark}
+use Rattle.order.specs.Turns.{statements, placements, order, mark}
 use Rattle.order.specs.Relisting.{Bijection, Permutes, Relisted, OrderOfAll}
 use Rattle.sheet.specs.Sheet.{sheet_in, name_bound}
 use Rattle.definition.specs.States.{QuerySchedule}

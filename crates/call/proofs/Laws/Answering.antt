@@ -28,7 +28,6 @@ use Rattle.answer_text.proofs.Laws.Sound.{stored-sound}
 use Rattle.answer_text.specs.Inner.Sections.{PutsAnswer}
 use Rattle.scope_walk.specs.Inner.Sheets.{sheet_at, query_count}
 use Rattle.definition_state.specs.declared.Fault.{Fault}
-use Rattle.definition_state.specs.declared.Fault.TheVariants as code
 use Rattle.definition_state.specs.Inner.Faults.{is_sound}
 use Rattle.definition_state.specs.Inner.Table.{answers_of}
 use Rattle.definition_state.proofs.Laws.Steps.{sound-is}

@@ -28,7 +28,6 @@ use Rattle.scope_walk.specs.Inner.Exprs.{expr_by}
 use Rattle.definition_walk.specs.Inner.Own.{Holds}
 use Rattle.definition_walk.proofs.Laws.Adds.{adds_holds}
 use Rattle.definition_expr.specs.declared.Using.{Using}
-use Rattle.definition_state.specs.declared.Fault as declared
 use Rattle.definition_state.specs.declared.Progress.{Progress}
 use Rattle.definition_state.specs.Inner.Faults.{is_sound}
 use Rattle.definition_state.specs.Inner.Frames.{guarded, Agree, Ready}

@@ -27,7 +27,6 @@ use Rattle.scope.specs.Trees.{Tree, tree_at}
 use Rattle.scope.specs.Traverse.{comprs}
 use Rattle.scope.specs.Statements.{Stmt, literal_of}
 use Rattle.scope.specs.Scopes.{Scope}
-use Rattle.definition.specs.Uses.{used_vars}
 use Rattle.definition.specs.States.{sound, State, in_turn}
 use Rattle.definition.specs.Using.{gather_used_vars, at_least_one}
 use Rattle.definition.specs.Comprs.{Mods}

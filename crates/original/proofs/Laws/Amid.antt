@@ -18,7 +18,6 @@ use Rattle.original.proofs.Laws.Distinct.{Apart, apart_sym, distinct-left, disti
 use Rattle.definition.specs.RustWay.{analyze}
 use Rattle.original.proofs.Laws.RustSame.{analyze-same}
 use Rattle.original.specs.Inner.Places.{compr_family, family}
-use Rattle.original.proofs.Laws.CoupledQuery
 use Rattle.original.proofs.Laws.RustWrites.{family-has, rust_only}
 use Rattle.original.proofs.Laws.LookUps.{SameTable, OnlyIn, HeldIn, same-behind, fresh_kept, held_kept, held_now}
 use Rattle.original.specs.Inner.LookUps.{Fresh}

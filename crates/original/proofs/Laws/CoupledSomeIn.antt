@@ -9,7 +9,7 @@ use Rattle.sheet.specs.Sheet.{Sheet}
 use Rattle.scope.specs.Trees.{Tree}
 use Rattle.scope.specs.Traverse.{comprs}
 use Rattle.scope.specs.Scopes.{span_of}
-use Rattle.definition.specs.Uses.{define, used_vars, index_definitions}
+use Rattle.definition.specs.Uses.{define, index_definitions}
 use Rattle.definition.specs.States.{State, add_first_uses, add_definitions, Way}
 use Rattle.definition.specs.Using.{gather_used_vars, record_one}
 use Rattle.definition.specs.Comprs.{Mods, all_used, process_compr, process_comprs}

@@ -2,7 +2,7 @@
 use mathlib.Core.Path.{◌≡◌, refl, sym, ap, ◌∙◌, subst, subst₂}
 use mathlib.Core.Bool.{Bool, true, false, cond}
 use mathlib.Core.List.{List, [], ◌∷◌, ◌++◌}
-use mathlib.Core.Option.{none, some}
+use mathlib.Core.Option.{some}
 use mathlib.Core.Logic.{◌⊎◌, inl, inr, ⊎_elim}
 use Prim.Native.Nat.{ℕ, zero, suc}
 use lib.Dec.{eqb}
@@ -23,7 +23,6 @@ use Rattle.definition.specs.RustWay.{Answer, take, rust_way, analyze}
 use Rattle.original.specs.Inner.Places.{stmt_comprs, body_of, compr_family, queries_named, family}
 use Rattle.original.specs.Inner.Beside.{no_fault}
 use Rattle.original.proofs.Laws.Beside.{Own, state_of, Tables, Beside, failed, going}
-use Rattle.original.proofs.Laws.CoupledComprs.{forget}
 use Rattle.original.proofs.Laws.CoupledStmts.{StmtCoupling}
 use Rattle.original.proofs.Laws.CoupledQuery.{OutputCoupling, QueriesEnded, stopped, ended, query-ended}
 

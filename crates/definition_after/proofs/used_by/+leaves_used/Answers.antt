@@ -2,7 +2,6 @@
 use mathlib.Core.Path.{◌≡◌, refl, ◌∙◌}
 use mathlib.Core.Bool.{true}
 use Prim.Native.Nat.{ℕ, ◌<◌}
-use borrow.Fn.PlainCycle.{is}
 use Rattle.sheet.specs.Inner.Sheet.{row_at}
 use Rattle.sheet.proofs.Laws.Sheet.{row-fields}
 use Rattle.names.specs.declared.Names.{Names}
@@ -72,7 +71,7 @@ turn m c =
     let still = part-pattern t g.p.width k g.work.now row w g.mods in
     let itself = part_itself t g.p.width k g.work.now row w g.mods in
     elim c.match-kind.branch [
-      in-1 a ↦ entering_arm none still 1 a.in-1.is (itself (of_kind t k w row 1 a.in-1.is refl refl) _ _ a.other_used-s.ensures) a.s-is
+      | in-1 a ↦ entering_arm none still 1 a.in-1.is (itself (of_kind t k w row 1 a.in-1.is refl refl) _ _ a.other_used-s.ensures) a.s-is
       | in-2 a ↦ entering_arm none still 2 a.in-2.is (itself (of_kind t k w row 2 a.in-2.is refl refl) _ _ a.other_used-s-in-2.ensures) a.s-is
       | in-3 a ↦ entering_arm none still 3 a.in-3.is (itself (of_kind t k w row 3 a.in-3.is refl refl) _ _ a.other_used-s-in-3.ensures) a.s-is
       | in-4 a ↦ entering_arm none still 4 a.in-4.is (itself (of_kind t k w row 4 a.in-4.is refl refl) _ _ a.other_used-s-in-4.ensures) a.s-is

@@ -55,7 +55,7 @@ turn m c =
     let s : ℕ × List ℕ = (a.count, a.rows.now) in
     let still = lists_still w row s in
     elim c.match-kind.branch [
-      in-1 x ↦ quiet_arm is_compr_kind still 1 x.in-1.is refl (λ i. (x.n-is i, x.rows-is i)) (x.k-is ∙ x.none-k.ensures)
+      | in-1 x ↦ quiet_arm is_compr_kind still 1 x.in-1.is refl (λ i. (x.n-is i, x.rows-is i)) (x.k-is ∙ x.none-k.ensures)
       | in-2 x ↦ quiet_arm is_compr_kind still 2 x.in-2.is refl (λ i. (x.n-is i, x.rows-is i)) (x.k-is ∙ x.none-k-in-2.ensures)
       | in-3 x ↦ quiet_arm is_compr_kind still 3 x.in-3.is refl (λ i. (x.n-is i, x.rows-is i)) (x.k-is ∙ x.none-k-in-3.ensures)
       | in-4 x ↦ quiet_arm is_compr_kind still 4 x.in-4.is refl (λ i. (x.n-is i, x.rows-is i)) (x.k-is ∙ x.none-k-in-4.ensures)
@@ -125,7 +125,7 @@ first_walk : (m : ℕ) (c : Joined-k-ne0 m)
     Walked c.args.tables.now c.match-kind.k.first (c.match-kind.n, c.match-kind.rows) (c.if-k-ne0.n, c.if-k-ne0.rows)
 first_walk m c =
     elim c.if-k-ne0.branch [
-      then-k-ne0 w ↦ past_guard (Walked c.args.tables.now) (λ a. lists_none _ c.requires.accepted _ refl true a.1 a.0) _ _ _ (λ w. w) (λ w. w) (inl (_, w.list_comprs-n.ensures, λ i. (w.n-is i, w.rows-is i)))
+      | then-k-ne0 w ↦ past_guard (Walked c.args.tables.now) (λ a. lists_none _ c.requires.accepted _ refl true a.1 a.0) _ _ _ (λ w. w) (λ w. w) (inl (_, w.list_comprs-n.ensures, λ i. (w.n-is i, w.rows-is i)))
       | else-k-ne0 w ↦ past_guard (Walked c.args.tables.now) (λ a. lists_none _ c.requires.accepted _ refl true a.1 a.0) _ _ _ (λ w. w) (λ w. w) (inr (w.if-k-ne0.false, λ i. (w.n-is i, w.rows-is i)))
     ]
 
@@ -141,7 +141,7 @@ second_walk : (m : ℕ) (c : Joined-k-ne0-2 m)
     Walked c.args.tables.now c.match-kind.k.second (c.if-k-ne0.n, c.if-k-ne0.rows) (c.if-k-ne0-2.n, c.if-k-ne0-2.rows)
 second_walk m c =
     elim c.if-k-ne0-2.branch [
-      then-k-ne0-2 w ↦ past_guard (Walked c.args.tables.now) (λ a. lists_none _ c.requires.accepted _ refl true a.1 a.0) _ _ _ (λ w. w) (λ w. w) (inl (_, w.list_comprs-n-then-k-ne0-2.ensures, λ i. (w.n-is i, w.rows-is i)))
+      | then-k-ne0-2 w ↦ past_guard (Walked c.args.tables.now) (λ a. lists_none _ c.requires.accepted _ refl true a.1 a.0) _ _ _ (λ w. w) (λ w. w) (inl (_, w.list_comprs-n-then-k-ne0-2.ensures, λ i. (w.n-is i, w.rows-is i)))
       | else-k-ne0-2 w ↦ past_guard (Walked c.args.tables.now) (λ a. lists_none _ c.requires.accepted _ refl true a.1 a.0) _ _ _ (λ w. w) (λ w. w) (inr (w.if-k-ne0-2.false, λ i. (w.n-is i, w.rows-is i)))
     ]
 
@@ -158,7 +158,7 @@ third-walk : (m : ℕ) (c : Joined-k-ne0-3 m)
     Walked c.args.tables.now c.match-kind.k.third (c.if-k-ne0-2.n, c.if-k-ne0-2.rows) (c.if-k-ne0-3.n, c.if-k-ne0-3.rows)
 third-walk m c =
     elim c.if-k-ne0-3.branch [
-      then-k-ne0-3 w ↦ past_guard (Walked c.args.tables.now) (λ a. lists_none _ c.requires.accepted _ refl true a.1 a.0) _ _ _ (λ w. w) (λ w. w) (inl (_, w.list_comprs-n-then-k-ne0-3.ensures, λ i. (w.n-is i, w.rows-is i)))
+      | then-k-ne0-3 w ↦ past_guard (Walked c.args.tables.now) (λ a. lists_none _ c.requires.accepted _ refl true a.1 a.0) _ _ _ (λ w. w) (λ w. w) (inl (_, w.list_comprs-n-then-k-ne0-3.ensures, λ i. (w.n-is i, w.rows-is i)))
       | else-k-ne0-3 w ↦ past_guard (Walked c.args.tables.now) (λ a. lists_none _ c.requires.accepted _ refl true a.1 a.0) _ _ _ (λ w. w) (λ w. w) (inr (w.if-k-ne0-3.false, λ i. (w.n-is i, w.rows-is i)))
     ]
 
@@ -193,7 +193,7 @@ turn-at-Joined-k-ne0-3 m c =
     let s : ℕ × List ℕ = (a.count, a.rows.now) in
     let still = lists_still w row s in
     elim c.match-kind.branch [
-      in-1 x ↦ quiet_arm is_compr_kind still 1 x.in-1.is refl (λ i. (x.n-is i, x.rows-is i)) (x.k-is ∙ x.none-k.ensures)
+      | in-1 x ↦ quiet_arm is_compr_kind still 1 x.in-1.is refl (λ i. (x.n-is i, x.rows-is i)) (x.k-is ∙ x.none-k.ensures)
       | in-2 x ↦ quiet_arm is_compr_kind still 2 x.in-2.is refl (λ i. (x.n-is i, x.rows-is i)) (x.k-is ∙ x.none-k-in-2.ensures)
       | in-3 x ↦ quiet_arm is_compr_kind still 3 x.in-3.is refl (λ i. (x.n-is i, x.rows-is i)) (x.k-is ∙ x.none-k-in-3.ensures)
       | in-4 x ↦ quiet_arm is_compr_kind still 4 x.in-4.is refl (λ i. (x.n-is i, x.rows-is i)) (x.k-is ∙ x.none-k-in-4.ensures)
@@ -223,7 +223,7 @@ first_walk-at-Joined-k-ne0-3 : (m : ℕ) (c : Joined-k-ne0-3 m)
     Walked c.args.tables.now c.match-kind.k.first (c.match-kind.n, c.match-kind.rows) (c.if-k-ne0.n, c.if-k-ne0.rows)
 first_walk-at-Joined-k-ne0-3 m c =
     elim c.if-k-ne0.branch [
-      then-k-ne0 w ↦ past_guard (Walked c.args.tables.now) (λ a. lists_none _ c.requires.accepted _ refl true a.1 a.0) _ _ _ (λ w. w) (λ w. w) (inl (_, w.list_comprs-n.ensures, λ i. (w.n-is i, w.rows-is i)))
+      | then-k-ne0 w ↦ past_guard (Walked c.args.tables.now) (λ a. lists_none _ c.requires.accepted _ refl true a.1 a.0) _ _ _ (λ w. w) (λ w. w) (inl (_, w.list_comprs-n.ensures, λ i. (w.n-is i, w.rows-is i)))
       | else-k-ne0 w ↦ past_guard (Walked c.args.tables.now) (λ a. lists_none _ c.requires.accepted _ refl true a.1 a.0) _ _ _ (λ w. w) (λ w. w) (inr (w.if-k-ne0.false, λ i. (w.n-is i, w.rows-is i)))
     ]
 
@@ -232,7 +232,7 @@ second_walk-at-Joined-k-ne0-3 : (m : ℕ) (c : Joined-k-ne0-3 m)
     Walked c.args.tables.now c.match-kind.k.second (c.if-k-ne0.n, c.if-k-ne0.rows) (c.if-k-ne0-2.n, c.if-k-ne0-2.rows)
 second_walk-at-Joined-k-ne0-3 m c =
     elim c.if-k-ne0-2.branch [
-      then-k-ne0-2 w ↦ past_guard (Walked c.args.tables.now) (λ a. lists_none _ c.requires.accepted _ refl true a.1 a.0) _ _ _ (λ w. w) (λ w. w) (inl (_, w.list_comprs-n-then-k-ne0-2.ensures, λ i. (w.n-is i, w.rows-is i)))
+      | then-k-ne0-2 w ↦ past_guard (Walked c.args.tables.now) (λ a. lists_none _ c.requires.accepted _ refl true a.1 a.0) _ _ _ (λ w. w) (λ w. w) (inl (_, w.list_comprs-n-then-k-ne0-2.ensures, λ i. (w.n-is i, w.rows-is i)))
       | else-k-ne0-2 w ↦ past_guard (Walked c.args.tables.now) (λ a. lists_none _ c.requires.accepted _ refl true a.1 a.0) _ _ _ (λ w. w) (λ w. w) (inr (w.if-k-ne0-2.false, λ i. (w.n-is i, w.rows-is i)))
     ]
 

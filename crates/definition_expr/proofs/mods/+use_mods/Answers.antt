@@ -2,7 +2,6 @@
 use native.Mathlib.Omega.{arith}
 use Rattle.scope_walk.proofs.Laws.Walking.{row_low, chain_call}
 use Rattle.definition_expr.proofs.Laws.UsesMods.{listed-none, mods-none, here-ready, next-ready, mods-row}
-use Rattle.definition_expr.proofs.mods.+use_mods.{statement}
 use Rattle.definition_expr.proofs.mods.+use_mods.Goals as goal
 
 pub returns-then-row-eq0 : goal.returns-then-row-eq0

@@ -64,7 +64,7 @@ turn m c =
     let a = g.names in
     let still = used_still t k e w a in
     elim c.match-kind.branch [
-      in-1 x ↦ quiet_full_arm is_used still 1 x.in-1.is refl x.s-is
+      | in-1 x ↦ quiet_full_arm is_used still 1 x.in-1.is refl x.s-is
       | in-2 x ↦ quiet_full_arm is_used still 2 x.in-2.is refl x.s-is
       | in-3 x ↦ quiet_full_arm is_used still 3 x.in-3.is refl x.s-is
       | in-4 x ↦ quiet_full_arm is_used still 4 x.in-4.is refl x.s-is

@@ -173,8 +173,7 @@ analyze_query-overflow_sub-levels-2 m c = omega (arith, c.if-levels-eq0.false)
 
 pub analyze_query-process_comprs-t-requires : goal.analyze_query-process_comprs-t-requires
 analyze_query-process_comprs-t-requires m c =
-    let both = c.list_both-end in
-    (
+    let both = c.list_both-end in (
       comprs-below _ m c.if-levels-eq0.false c.decreases _ both.ensures.fits,
       asks-outputs _ _ _ _ _ _ _ _ _ _ _ _ _ _ (analyze_query_encloses m (goal.at.analyze_query-process_comprs-t-requires m c).After-enclose) (omega (arith, c.enclose.auto.inner)) (omega (arith, c.process_stmts-s.auto.firsts)) _ _ both.ensures
           (omega (arith, both.auto.rows)),
@@ -794,7 +793,7 @@ process_non_vars_one-done m c =
     guarded_lists (λ r. DoesOthers a.tables.now a.inner.now (other_at a.tables.now r) a.context)
     (non_var_none a.tables.now a.inner.now 0 refl a.context) _ _ _ _ _ _ _
     (λ w. w) (λ w. w) (elim c.if-other-ne0.branch [
-      process_non_vars-then-other-ne0 w ↦ inl (_, _, _, (w.process_non_var-s.ensures, w.process_non_var-s.auto.firsts, w.process_non_var-s.auto.work), w.firsts-is, w.work-is, w.s-is)
+      | process_non_vars-then-other-ne0 w ↦ inl (_, _, _, (w.process_non_var-s.ensures, w.process_non_var-s.auto.firsts, w.process_non_var-s.auto.work), w.firsts-is, w.work-is, w.s-is)
       | process_non_vars-else-other-ne0 w ↦ inr (w.if-other-ne0.false, w.firsts-is, w.work-is, w.s-is)
     ])
 
@@ -825,7 +824,7 @@ process_non_vars_parts-done m c =
     guarded_lists (λ r. DoesNonVars a.tables.now a.inner.now r a.context)
     (non_vars_do_none a.tables.now c.requires.accepted a.inner.now 0 refl a.context) _ _ _ _ _ _ _
     (λ w. w) (λ w. w) (elim c.if-items-ne0.branch [
-      process_non_vars-then-items-ne0 w ↦ inl (_, _, _, (w.process_non_vars-s.ensures, w.process_non_vars-s.auto.firsts, w.process_non_vars-s.auto.work), w.firsts-is, w.work-is, w.s-is)
+      | process_non_vars-then-items-ne0 w ↦ inl (_, _, _, (w.process_non_vars-s.ensures, w.process_non_vars-s.auto.firsts, w.process_non_vars-s.auto.work), w.firsts-is, w.work-is, w.s-is)
       | process_non_vars-else-items-ne0 w ↦ inr (w.if-items-ne0.false, w.firsts-is, w.work-is, w.s-is)
     ])
 
@@ -839,7 +838,7 @@ process_non_vars_one-done-at-Joined-items-ne0 m c =
     guarded_lists (λ r. DoesOthers a.tables.now a.inner.now (other_at a.tables.now r) a.context)
     (non_var_none a.tables.now a.inner.now 0 refl a.context) _ _ _ _ _ _ _
     (λ w. w) (λ w. w) (elim c.if-other-ne0.branch [
-      process_non_vars-then-other-ne0 w ↦ inl (_, _, _, (w.process_non_var-s.ensures, w.process_non_var-s.auto.firsts, w.process_non_var-s.auto.work), w.firsts-is, w.work-is, w.s-is)
+      | process_non_vars-then-other-ne0 w ↦ inl (_, _, _, (w.process_non_var-s.ensures, w.process_non_var-s.auto.firsts, w.process_non_var-s.auto.work), w.firsts-is, w.work-is, w.s-is)
       | process_non_vars-else-other-ne0 w ↦ inr (w.if-other-ne0.false, w.firsts-is, w.work-is, w.s-is)
     ])
 
@@ -988,7 +987,7 @@ process_pairs_one-done m c =
     guarded_lists (λ l. DoesPairs a.tables.now a.inner.now (pair_at a.tables.now l right) a.check a.context)
     (λ p fs w. pair-none a.tables.now a.inner.now 0 right a.check a.context p fs w refl) _ _ _ _ _ _ _
     (λ w. w) (λ w. w) (elim c.if-pair-ne0.branch [
-      process_pairs-then-pair-ne0 w ↦ inl (_, _, _, (w.assign_pair-s.ensures, w.assign_pair-s.auto.firsts, w.assign_pair-s.auto.work), w.firsts-is, w.work-is, w.s-is)
+      | process_pairs-then-pair-ne0 w ↦ inl (_, _, _, (w.assign_pair-s.ensures, w.assign_pair-s.auto.firsts, w.assign_pair-s.auto.work), w.firsts-is, w.work-is, w.s-is)
       | process_pairs-else-pair-ne0 w ↦ inr (w.if-pair-ne0.false, w.firsts-is, w.work-is, w.s-is)
     ])
 
@@ -1019,7 +1018,7 @@ process_pairs_below-done m c =
     guarded_lists (λ l. DoesPairs a.tables.now a.inner.now (pairs_at a.tables.now l rights) a.check a.context)
     (λ p fs w. no_pairs _ _ a.check a.context p fs w _ (pairings-left _ c.requires.accepted 0 rights refl)) _ _ _ _ _ _ _
     (λ w. w) (λ w. w) (elim c.if-pair-ne0-2.branch [
-      process_pairs-then-pair-ne0-2 w ↦ inl (_, _, _, (w.process_pairs-s.ensures, w.process_pairs-s.auto.firsts, w.process_pairs-s.auto.work), w.firsts-is, w.work-is, w.s-is)
+      | process_pairs-then-pair-ne0-2 w ↦ inl (_, _, _, (w.process_pairs-s.ensures, w.process_pairs-s.auto.firsts, w.process_pairs-s.auto.work), w.firsts-is, w.work-is, w.s-is)
       | process_pairs-else-pair-ne0-2 w ↦ inr (w.if-pair-ne0-2.false, w.firsts-is, w.work-is, w.s-is)
     ])
 
@@ -1036,7 +1035,7 @@ process_pairs_one-done-at-Joined-pair-ne0-2 m c =
     guarded_lists (λ l. DoesPairs a.tables.now a.inner.now (pair_at a.tables.now l right) a.check a.context)
     (λ p fs w. pair-none a.tables.now a.inner.now 0 right a.check a.context p fs w refl) _ _ _ _ _ _ _
     (λ w. w) (λ w. w) (elim c.if-pair-ne0.branch [
-      process_pairs-then-pair-ne0 w ↦ inl (_, _, _, (w.assign_pair-s.ensures, w.assign_pair-s.auto.firsts, w.assign_pair-s.auto.work), w.firsts-is, w.work-is, w.s-is)
+      | process_pairs-then-pair-ne0 w ↦ inl (_, _, _, (w.assign_pair-s.ensures, w.assign_pair-s.auto.firsts, w.assign_pair-s.auto.work), w.firsts-is, w.work-is, w.s-is)
       | process_pairs-else-pair-ne0 w ↦ inr (w.if-pair-ne0.false, w.firsts-is, w.work-is, w.s-is)
     ])
 

@@ -3,7 +3,6 @@ use mathlib.Core.Path.{◌≡◌, refl, ◌∙◌}
 use mathlib.Core.Bool.{true}
 use Prim.Native.Nat.{ℕ, ◌≤◌, ◌<◌}
 use lib.ListN.{length}
-use borrow.Fn.PlainCycle.{is}
 use Rattle.base.specs.Limits as limits
 use Rattle.sheet.specs.Inner.Sheet.{row_at}
 use Rattle.sheet.proofs.Laws.Sheet.{row-fields}
@@ -63,7 +62,7 @@ turn m c =
     let none = checked_none g.tables.now g.firsts.now c.requires.0 0 refl true in
     let still = checked_still c.row_at-w.result g.firsts.now in
     elim c.match-kind.branch [
-      in-1 a ↦ leaf_arm none still 1 a.in-1.is refl refl a.q-is
+      | in-1 a ↦ leaf_arm none still 1 a.in-1.is refl refl a.q-is
       | in-2 a ↦ leaf_arm none still 2 a.in-2.is refl refl a.q-is
       | in-3 a ↦ leaf_arm none still 3 a.in-3.is refl refl a.q-is
       | in-4 a ↦ leaf_arm none still 4 a.in-4.is refl refl a.q-is

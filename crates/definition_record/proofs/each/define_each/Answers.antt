@@ -19,12 +19,11 @@ pub loop-x-smaller : goal.loop-x-smaller
 loop-x-smaller c = omega (arith, c.next-x-in-loop-x.ensures.low, c.loop-x-test.true)
 
 pub loop-x-preserved : goal.loop-x-preserved
-loop-x-preserved c =
-    (
-      c.push_definition.auto.definitions ∙ c.loop-x.invariant.0,
-      defining-next _ _ _ _ _ _ _ _ _ _ c.loop-x.invariant.1 c.loop-x-test.true _ c.less-from.ensures _
-          c.push_definition.ensures _ c.next-x-in-loop-x.ensures,
-    )
+loop-x-preserved c = (
+  c.push_definition.auto.definitions ∙ c.loop-x.invariant.0,
+  defining-next _ _ _ _ _ _ _ _ _ _ c.loop-x.invariant.1 c.loop-x-test.true _ c.less-from.ensures _
+      c.push_definition.ensures _ c.next-x-in-loop-x.ensures,
+)
 
 pub shape_of-definitions : goal.shape_of-definitions
 shape_of-definitions c = c.loop-x.invariant.0

@@ -5,7 +5,6 @@ use mathlib.Core.List.{List}
 use Prim.Native.Nat.{ℕ, ◌≤◌, ◌<◌}
 use native.Mathlib.Omega.{arith}
 use lib.ListN.{length}
-use borrow.Fn.PlainCycle.{is}
 use Rattle.base.specs.Limits as limits
 use Rattle.sheet.specs.Inner.Sheet.{row_at}
 use Rattle.sheet.proofs.Laws.Sheet.{row-fields}
@@ -66,7 +65,7 @@ turn m c =
     let none : (l : List ℕ) → SomeEntered g.tables.now g.scope 0 l l × (length l ≡ length l) = λ l. (entered-none _ _ c.requires.0 0 refl l, refl) in
     let still = enter_still g.tables.now g.scope c.row_at-w.result in
     elim c.match-kind.branch [
-      in-1 a ↦ leaf_arm none still 1 a.in-1.is refl refl a.firsts-is
+      | in-1 a ↦ leaf_arm none still 1 a.in-1.is refl refl a.firsts-is
       | in-2 a ↦ leaf_arm none still 2 a.in-2.is refl refl a.firsts-is
       | in-3 a ↦ leaf_arm none still 3 a.in-3.is refl refl a.firsts-is
       | in-4 a ↦ leaf_arm none still 4 a.in-4.is refl refl a.firsts-is

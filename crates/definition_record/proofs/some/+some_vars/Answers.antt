@@ -2,7 +2,6 @@
 use mathlib.Core.Path.{◌≡◌, refl, ◌∙◌}
 use mathlib.Core.Bool.{true}
 use Prim.Native.Nat.{ℕ, ◌≤◌, ◌<◌}
-use borrow.Fn.PlainCycle.{is}
 use Rattle.names.specs.declared.Names.{Names}
 use Rattle.sheet.specs.Inner.Sheet.{row_at}
 use Rattle.sheet.proofs.Laws.Sheet.{row-fields}
@@ -60,7 +59,7 @@ turn m c =
     let none = some-none g.tables.now g.scope c.requires.0 0 refl in
     let still = some_still g.tables.now g.scope c.row_at-w.result in
     elim c.match-kind.branch [
-      in-1 a ↦ leaf_arm none still 1 a.in-1.is refl refl a.s-is
+      | in-1 a ↦ leaf_arm none still 1 a.in-1.is refl refl a.s-is
       | in-2 a ↦ leaf_arm none still 2 a.in-2.is refl refl a.s-is
       | in-3 a ↦ leaf_arm none still 3 a.in-3.is refl refl a.s-is
       | in-4 a ↦ leaf_arm none still 4 a.in-4.is refl refl a.s-is
