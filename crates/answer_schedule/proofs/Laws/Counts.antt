@@ -47,6 +47,6 @@ module _ (t : List ℕ) where
     count_past (suc q) past = rw (none_first q (omega arith)) (ap length (stmts_at-none t ok))
 
     -- A query's statements are those from its first.
-    pub count_of : (q : ℕ) → 1 ≤ q → q ≤ query_count t → (row : ℕ) → row ≡ first_at t q → count_at t q ≡ count_from t row
+    pub count_of_lem : (q : ℕ) → 1 ≤ q → q ≤ query_count t → (row : ℕ) → row ≡ first_at t q → count_at t q ≡ count_from t row
     unfolding stmts_of
-    count_of q low high row is = rw (first_statement_is t [] q low high, is)
+    count_of_lem q low high row is = rw (first_statement_is t [] q low high, is)

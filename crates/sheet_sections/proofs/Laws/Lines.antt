@@ -64,9 +64,9 @@ module _ (s : List ℕ) (at k : ℕ) (d : List ℕ) (to : ℕ) (r : Line) where
     table = λ t. refl;
   })
 
-  pub row_line : (k ≡ 0 → ⊥) → (e : List ℕ) → RowRead s at k d to r e → LineRead s at k d to r e
+  pub row_line_lem : (k ≡ 0 → ⊥) → (e : List ℕ) → RowRead s at k d to r e → LineRead s at k d to r e
   unfolding has_row line_fits
-  row_line nz e h = go k nz h
+  row_line_lem nz e h = go k nz h
     where
       go : (j : ℕ) → (j ≡ 0 → ⊥) → RowRead s at j d to r e → LineRead s at j d to r e
       go zero nz h = absurd (nz refl)

@@ -50,8 +50,8 @@ recorded_rows s =
     concat_map (λ q. map (λ (d : Definition). q ∷ d.statement ∷ d.var ∷ d.used) (recorded s q)) (range 1 (suc (length s.queries)))
 
 -- Have two lists the same rows?
-abbrev pub same_rows : List (List ℕ) → List (List ℕ) → Bool
-same_rows k l = all (λ x. any (same x) l) k && all (λ x. any (same x) k) l
+abbrev pub equal_rows : List (List ℕ) → List (List ℕ) → Bool
+equal_rows k l = all (λ x. any (same x) l) k && all (λ x. any (same x) k) l
 
 -- The same, unless the sheet is refused.
 abbrev pub unless_refused : Result → Sheet → List (List ℕ)
@@ -62,7 +62,7 @@ unless_refused (answered text) s = recorded_rows s
 abbrev pub passes_by : Limits → Trial → Bool
 passes_by lim t =
     let r = result_of lim (bytes t.sheet) limits.table_entries lim.work 65536 in
-    same (printed r) (bytes t.answer) && same_rows (unless_refused r (sheet_in (bytes t.sheet))) t.recorded
+    same (printed r) (bytes t.answer) && equal_rows (unless_refused r (sheet_in (bytes t.sheet))) t.recorded
 
 abbrev pub passes : Trial → Bool
 passes = passes_by library
