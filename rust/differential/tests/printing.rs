@@ -23,14 +23,14 @@ fn compiled() -> PathBuf {
     let root = Path::new(env!("CARGO_MANIFEST_DIR")).join("../..");
     // It is proved and compiled, and run once on nothing.
     let output = Command::new("rt")
-        .args(["run", "print"])
-        .current_dir(&root)
+        .arg("run")
+        .current_dir(root.join("crates/print"))
         .stdin(Stdio::null())
         .output()
         .expect("the Rattle toolchain's `rt` runs");
     let said = [output.stdout, output.stderr].concat();
     let said = String::from_utf8_lossy(&said);
-    assert!(output.status.success(), "`rt run print` failed:\n{said}");
+    assert!(output.status.success(), "`rt run` of print failed:\n{said}");
     root.join("crates/print/out/print")
 }
 
