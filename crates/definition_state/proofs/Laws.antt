@@ -1,4 +1,5 @@
 pub mod Held
+pub mod HeldExact
 pub mod Frames
 pub mod Steps
 pub mod Lent

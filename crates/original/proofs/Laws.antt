@@ -2,6 +2,7 @@ pub mod MoreLevels
 pub mod LyingTrees
 pub mod LevelsSuffice
 pub mod Outside
+pub mod Rising
 pub mod Steps
 pub mod WayKept
 pub mod Around

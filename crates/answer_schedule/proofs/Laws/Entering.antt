@@ -30,7 +30,7 @@ use Rattle.scope_walk.specs.Inner.Sheets.{sheet_at, Accepted, query_count}
 use Rattle.answer_text.specs.Inner.Stored.{PlaceIn, StoredAt, Stored}
 use Rattle.answer_store.specs.Inner.Words.{place_word}
 use Rattle.answer_store.proofs.Laws.Kept.{Gives, ApartFrom, stored_next, bases_stay, span_in_lem}
-use Rattle.definition_state.proofs.Laws.Held.{Exact, held_exact}
+use Rattle.definition_state.proofs.Laws.HeldExact.{Exact, held_exact}
 use Rattle.definition_state.proofs.Laws.Narrow.{locals-fit, unscoped-fit, inputs-fit}
 use Rattle.definition_state.specs.Inner.Table.{answers_of, Low, count_at, base_at, Table}
 use Rattle.answer_schedule.proofs.Laws.Counts.{count_past}

@@ -16,7 +16,7 @@ use Rattle.order.specs.Definitions.{Definition}
 use Rattle.order.specs.Call.{row_count, definition_at, definitions}
 use Rattle.order_rows.proofs.Laws.RowLaws.{row_listed, listed-row, row_same}
 use Rattle.order_bounds.specs.Inner.Answers.{AcceptedList}
-use Rattle.definition_state.proofs.Laws.Held.{Exact}
+use Rattle.definition_state.proofs.Laws.HeldExact.{Exact}
 use Rattle.answer_schedule.proofs.Laws.SameOrder.{AllAmong}
 
 -- So many words are whole rows.

@@ -1,8 +1,8 @@
 -- Laws of `Held`.
-use mathlib.Core.Path.{◌≡◌, refl, sym, ap, ◌∙◌, subst}
+use mathlib.Core.Path.{◌≡◌, refl, ap, ◌∙◌, subst}
 use mathlib.Core.Bool.{Bool, true, cond}
 use mathlib.Core.List.Memᴰ
-use mathlib.Core.List.{List, [], ◌∷◌, ◌++◌, Memᴰ}
+use mathlib.Core.List.{List, [], ◌∷◌, ◌++◌}
 use Prim.Native.Nat.{ℕ, ◌-◌, ◌*◌, ◌<◌}
 use native.Mathlib.Omega.{arith}
 use lib.Dec.{ltb}
@@ -13,7 +13,6 @@ use Rattle.names_width.specs.declared.Width.{Width}
 use Rattle.names_width.specs.Inner.Widths.{set_words, row_words}
 use Rattle.names_width.proofs.Laws.Laws.{row_words_lem}
 use Rattle.order.specs.Definitions.{Definition}
-use Rattle.order.specs.Call.{definition_at}
 use Rattle.order_rows.specs.Inner.Rows.{held_row}
 use Rattle.definition_walk.specs.Inner.Appended.{Appended}
 use Rattle.definition_walk.proofs.Laws.Appended.{appended_then, rows_same_words}
@@ -57,17 +56,3 @@ row-all v d low =
     let e : set_words v ≡ row_words v - 2 = omega (arith, row_words_lem v) in
     ap (λ (u : List ℕ). record { statement = d.statement; var = d.var; used = u })
     (filter-all (λ y. ltb y (64 * (row_words v - 2))) d.used (subst (λ (n : ℕ). all (λ x. ltb x (64 * n)) d.used ≡ true) e low))
-
--- The rows hold the definitions on a list themselves, each of them and no other.
-pub record Exact (v : Width) (w : List ℕ) (c : ℕ) (defs : List Definition) : Type 0 where
-  pub each : (j : ℕ) → j < c → Memᴰ (definition_at (row_words v) w j) defs
-  pub all : (d : Definition) → Memᴰ d defs → (j : ℕ) × (j < c) × (definition_at (row_words v) w j ≡ d)
-
-pub held_exact : (v : Width) (w : List ℕ) (c : ℕ) (defs : List Definition) → Held v w c defs
-    → ((d : Definition) → Memᴰ d defs → all (λ x. ltb x (64 * set_words v)) d.used ≡ true) → Exact v w c defs
-held_exact v w c defs h low = record {
-  each = λ j l.
-      let f = h.each j l in
-      subst (λ (d : Definition). Memᴰ d defs) (sym (f.2 ∙ row-all v f.0 (low f.0 f.1))) f.1;
-  all = λ d m. let f = h.all d m in (f.0, f.1, f.2 ∙ row-all v d (low d m));
-}

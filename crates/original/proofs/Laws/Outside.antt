@@ -7,12 +7,10 @@ use mathlib.Core.Option.{Option, none, some}
 use Prim.Native.Nat.{ℕ}
 use lib.Dec.{eqb}
 use borrow.Author.Tests.{eqb-true}
-use Rattle.base.proofs.Laws.Truth.{bool_cases, not-both, and_left, and_right, or_left, or_right, or_cases}
-use Rattle.base.specs.Lists.{all, filter, range, is_some}
-use Rattle.base.proofs.Laws.ListLaws.{all-kept, all_filter}
+use Rattle.base.proofs.Laws.Truth.{bool_cases, not-both, or_left, or_right, or_cases}
+use Rattle.base.specs.Lists.{is_some}
 use Rattle.sheet.specs.declared.Row.{Row}
-use Rattle.sheet.specs.Sheet.{name_bound}
-use Rattle.scope.specs.Scopes.{contains, insert, elements, Span, Scope, span_in, is_local, owns, not_below, add_unscoped, add_input, use_input, var_exists}
+use Rattle.scope.specs.Scopes.{contains, insert, Span, Scope, span_in, is_local, owns, not_below, add_unscoped, add_input, use_input, var_exists}
 use Rattle.scope.specs.Inner.Shadowed.{ExistsAround, InputsFound}
 
 -- A name without a span is no local that counts.
@@ -48,7 +46,7 @@ found_outside p parents x n f = record {
 -- ---- the inputs that rise
 
 -- One more input, which is found.
-one_found : (parents : List Scope) (sc : Scope) (y : ℕ) → ExistsAround parents y → InputsFound parents sc → InputsFound parents (add_input sc y)
+pub one_found : (parents : List Scope) (sc : Scope) (y : ℕ) → ExistsAround parents y → InputsFound parents sc → InputsFound parents (add_input sc y)
 unfolding add_input contains insert
 one_found parents sc y g f x h =
     ⊎_elim (λ (e : eqb x y ≡ true). subst (ExistsAround parents) (sym (eqb-true x y e)) g) (λ (e : contains sc.inputs x ≡ true). f x e)
@@ -68,24 +66,3 @@ unscoped-found parents (x ∷ xs) sc f = unscoped-found parents xs (add_unscoped
 -- A name that is not the scope's own.
 abbrev pub foreign : Scope → ℕ → Bool
 foreign a x = not (owns a x)
-
--- It is not owned.
-not_owned : (a : Scope) (x : ℕ) → foreign a x ≡ true → owns a x ≡ false
-not_owned a x h = ⊎_elim (λ (e : owns a x ≡ true). absurd (not-both h (ap not e))) (λ (e : owns a x ≡ false). e) (bool_cases (owns a x))
-
--- The inputs of the scope c that are foreign to a rise, and are found around a, if c's are found below p, which owns no more than a.
-pub rise_found : (parents : List Scope) (p a c : Scope) → ((x : ℕ) → owns a x ≡ false → owns p x ≡ false) → InputsFound (p ∷ parents) c
-    → InputsFound parents a → InputsFound parents (foldl add_input (use_input c.uses_input a) (filter (foreign a) (elements c.inputs)))
-unfolding elements
-rise_found parents p a c n f g =
-    go (filter (foreign a) (elements c.inputs)) (all-kept (foreign a) (elements c.inputs))
-    (all_filter (contains c.inputs) (foreign a) (elements c.inputs) (all-kept (contains c.inputs) (range 0 name_bound)))
-    (use_input c.uses_input a) (flag-found parents a c.uses_input g)
-  where
-    go : (xs : List ℕ) → all (foreign a) xs ≡ true → all (contains c.inputs) xs ≡ true → (sc : Scope) → InputsFound parents sc
-        → InputsFound parents (foldl add_input sc xs)
-    go [] h i sc k = k
-    go (y ∷ xs) h i sc k =
-        go xs (and_right (foreign a y) _ h) (and_right (contains c.inputs y) _ i) (add_input sc y)
-        (one_found parents sc y
-        (found_outside p parents y (n y (not_owned a y (and_left (foreign a y) _ h))) (f y (and_left (contains c.inputs y) _ i))) k)

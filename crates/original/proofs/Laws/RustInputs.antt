@@ -27,7 +27,8 @@ use Rattle.definition.specs.RustWay.{no_run, Answer, take, rust_way, analyze, an
 use Rattle.original.proofs.Laws.RustWrites.{failed_cases}
 use Rattle.original.specs.Inner.Beside.{no_fault}
 use Rattle.original.proofs.Laws.Beside.{if_sound-failed}
-use Rattle.original.proofs.Laws.Outside.{flag-found, unscoped-found, foreign, rise_found}
+use Rattle.original.proofs.Laws.Outside.{flag-found, unscoped-found, foreign}
+use Rattle.original.proofs.Laws.Rising.{rise_found}
 use Rattle.definition.proofs.Laws.OutputOwns.{output_owns}
 use Rattle.original.specs.Inner.Around.{ScopeOf, gathered, flagged, bound, Around, outer, in_stmt, in_output, in_every}
 use Rattle.original.proofs.Laws.Around.{all-risen}
