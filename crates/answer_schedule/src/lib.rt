@@ -56,7 +56,7 @@ pub fn conclude(
     width: Width,
 )
     requires asks_conclude { AsksConclude tables.now query spans.now }
-    requires width_in_bounds { (row_words width * count + layout.answers_size width ≤ length work.old) × Based width tables.now (answers_of width work.old) }
+    requires room { (row_words width * count + layout.answers_size width ≤ length work.old) × Based width tables.now (answers_of width work.old) }
     requires schedulable { Schedulable width tables.now work.old query count }
     ensures { Concluded width tables.now work.old query scope spans.now count work.new }
 {

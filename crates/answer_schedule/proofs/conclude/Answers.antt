@@ -17,7 +17,7 @@ use Rattle.answer_schedule.proofs.conclude.Goals as goal
 -- The rows lie in front of the answers.
 rows_fit : (c : After-row) → (let a = c.args in c.row.result * a.count + answers_size a.width ≤ length a.work.now)
 rows_fit c =
-    omega (arith, ap (λ (m : ℕ). m * c.args.count) c.row.ensures, c.requires.width_in_bounds.0)
+    omega (arith, ap (λ (m : ℕ). m * c.args.count) c.row.ensures, c.requires.room.0)
 
 pub overflow_mul-rows : goal.overflow_mul-rows
 overflow_mul-rows c = record { fits = omega (arith, rows_fit c) }
@@ -44,7 +44,7 @@ store_answer-requires c =
     let pre = c.requires in
     let v = c.args.width in
     let w = c.args.work.now in
-    let enough : answers_size v ≤ length w = omega (arith, pre.width_in_bounds.0) in
+    let enough : answers_size v ≤ length w = omega (arith, pre.room.0) in
     let count = c.count_stmts-n in
     let s = c.arrange_rows-placed in
     let m = c.answers_of in record {
@@ -57,7 +57,7 @@ store_answer-requires c =
         pre.asks_conclude.spans-room,
       );
       asks_places = record {
-        places-room = lent-room v w _ m.ensures enough _ pre.width_in_bounds.1 (roomy _ pre.asks_conclude.accepted) _ pre.asks_conclude.from pre.asks_conclude.to _ count.ensures;
+        places-room = lent-room v w _ m.ensures enough _ pre.room.1 (roomy _ pre.asks_conclude.accepted) _ pre.asks_conclude.from pre.asks_conclude.to _ count.ensures;
         ordered = omega (arith, count.ensures, count-few _ pre.asks_conclude.accepted c.args.query, s.auto.order);
         marked = entries_in _ _ _ _ _ _ _ _ s.ensures (omega (arith, count.ensures, count-few _ pre.asks_conclude.accepted c.args.query, s.auto.reached));
       };
@@ -69,7 +69,7 @@ returns c =
     let a = c.args in
     let v = a.width in
     let w = a.work.now in
-    let enough : answers_size v ≤ length w = omega (arith, pre.width_in_bounds.0) in
+    let enough : answers_size v ≤ length w = omega (arith, pre.room.0) in
     let count = c.count_stmts-n in
     let row = c.row in
     let s = c.arrange_rows-placed in
@@ -77,7 +77,7 @@ returns c =
     let last = c.store_answer in
     let p = last.new.answers in
     concluded v a.tables.now pre.asks_conclude.accepted (roomy _ pre.asks_conclude.accepted) w a.query pre.asks_conclude.from pre.asks_conclude.to a.scope a.spans.now
-    a.count pre.width_in_bounds.0 count.result count.ensures s.result _ _ (lent_arranged v w _ a.count _ row.ensures _ _ _ s.ensures)
+    a.count pre.room.0 count.result count.ensures s.result _ _ (lent_arranged v w _ a.count _ row.ensures _ _ _ s.ensures)
     _ (lent_is v w _ m.ensures enough) p last.ensures _
     (back-answers v w _ m.ensures enough p last.auto.answers)
     (answers_back-length v w _ m.ensures enough p last.auto.answers) (back-front v w _ m.ensures enough p last.auto.answers)

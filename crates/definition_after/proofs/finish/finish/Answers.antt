@@ -11,7 +11,7 @@ conclude-requires c =
     let asked = pre.asks_conclude in
     record {
       asks_conclude = asked.0;
-      width_in_bounds = (asked.1, asked.2 fine);
+      room = (asked.1, asked.2 fine);
       schedulable = pre.schedulable fine;
     }
 
