@@ -1,4 +1,5 @@
 pub mod RowLaws
 pub mod Puts
 pub mod Copies
+pub mod CopyOver
 pub mod Question
