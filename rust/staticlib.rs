@@ -7,8 +7,17 @@ use std::process::Command;
 pub fn link(exporting: &str, name: &str) {
     let manifest = std::env::var_os("CARGO_MANIFEST_DIR").expect("cargo sets it");
     let root = PathBuf::from(manifest).join("../..");
-    for source in ["crates", "crates.txt", "rust/staticlib.rs"] {
+    for source in ["crates.txt", "rust/staticlib.rs"] {
         println!("cargo:rerun-if-changed={}", root.join(source).display());
+    }
+    // Beside these a crate's folder has what the toolchain keeps, which changes at every run.
+    for part in ["src", "specs", "proofs"] {
+        for each in std::fs::read_dir(root.join("crates")).expect("the crates are there") {
+            let folder = each.expect("a crate").path().join(part);
+            if folder.is_dir() {
+                println!("cargo:rerun-if-changed={}", folder.display());
+            }
+        }
     }
     println!("cargo:rerun-if-changed=build.rs");
     let exports = root.join("crates").join(exporting);

@@ -44,7 +44,7 @@ pub fn finish(
     spans: &[u32],
     work: &mut [u64],
 ) -> Fault
-    requires asks_conclude { AsksConclude tables.now query spans.now × (row_words p.width * p.count + answers_size p.width ≤ length work.old) × (is_sound p.fault ≡ true → Based p.width tables.now (answers_of p.width work.old)) }
+    requires asks_finish { AsksConclude tables.now query spans.now × (row_words p.width * p.count + answers_size p.width ≤ length work.old) × (is_sound p.fault ≡ true → Based p.width tables.now (answers_of p.width work.old)) }
     requires schedulable { is_sound p.fault ≡ true → Schedulable p.width tables.now work.old query p.count }
     ensures { Finished tables.now work.old query scope p spans.now result work.new }
 {

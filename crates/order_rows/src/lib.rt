@@ -48,7 +48,7 @@ pub fn name_at(width: Width, rows: &[u64], k: usize) -> usize
 
 // Links the rows of each statement. A proof is not told the length of an array behind a `&mut`, so the contracts below say it.
 pub fn link(width: Width, rows: &[u64], links: &mut [u16; CELLS])
-    requires few { row_count (row_words width) rows.now ≤ limits.most_definitions }
+    requires few_rows { row_count (row_words width) rows.now ≤ limits.most_definitions }
     requires statements_low { (k : ℕ) → k < row_count (row_words width) rows.now → statement_at (row_words width) rows.now k < limits.most_statements }
     requires links_zeros { (length links.old ≡ sizes.cells) × ((i : ℕ) → get_or links.old i 0 ≡ 0) }
     ensures { Linked (row_words width) rows.now links.new }

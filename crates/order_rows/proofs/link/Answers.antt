@@ -16,7 +16,7 @@ module _ (c : In-loop-k) where
   there = omega arith
 
   few : c.loop-k.k < 640
-  few = let most = c.requires.few in omega (arith, rw (sym c.row-row.ensures) at most, there)
+  few = let most = c.requires.few_rows in omega (arith, rw (sym c.row-row.ensures) at most, there)
 
   whole : c.row-row.result * c.loop-k.k + c.row-row.result ≤ length c.args.rows.now
   whole = row-whole _ c.loop-k.k c.args.rows.now there

@@ -8,7 +8,7 @@ pub conclude-requires : goal.conclude-requires
 conclude-requires c =
     let pre = c.requires in
     let fine = sym c.is_sound.ensures ∙ c.if-is_sound.true in
-    let asked = pre.asks_conclude in
+    let asked = pre.asks_finish in
     record {
       asks_conclude = asked.0;
       room = (asked.1, asked.2 fine);

@@ -197,7 +197,7 @@ analyze_query-finish-requires m c =
     let done = analyze_query_outputs-done m (goal.at.analyze_query-finish-requires m c).After-process_comprs-t in
     let b = analyze_query_begins m (goal.at.analyze_query-finish-requires m c).Else-levels-eq0 in
     let x = analyze_query_encloses m (goal.at.analyze_query-finish-requires m c).After-enclose in record {
-      asks_conclude = (
+      asks_finish = (
         record {
           accepted = c.requires.0;
           from = b.from;
