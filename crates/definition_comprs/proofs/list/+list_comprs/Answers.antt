@@ -178,84 +178,37 @@ list_comprs-requires m c =
     )
 
 -- The turn of a row, with the walk over the rest of its chain.
-row_is-at-Joined-k-ne0-3 : (m : ℕ) (c : Joined-k-ne0-3 m)
-    → c.row_at-w.result ≡ row_at c.args.tables.now c.args.row
-row_is-at-Joined-k-ne0-3 m c = c.row_at-w.ensures ∙ row-fields _ _
-
-turn-at-Joined-k-ne0-3 : (m : ℕ) (c : Joined-k-ne0-3 m)
-    →
-    let a = c.args in
-    ListTurn c.row_at-w.result a.row (a.count, a.rows.now) (c.match-kind.n, c.match-kind.rows) c.match-kind.k
-turn-at-Joined-k-ne0-3 m c =
-    let w = c.row_at-w.result in
-    let a = c.args in
-    let row = a.row in
-    let s : ℕ × List ℕ = (a.count, a.rows.now) in
-    let still = lists_still w row s in
-    elim c.match-kind.branch [
-      | in-1 x ↦ quiet_arm is_compr_kind still 1 x.in-1.is refl (λ i. (x.n-is i, x.rows-is i)) (x.k-is ∙ x.none-k.ensures)
-      | in-2 x ↦ quiet_arm is_compr_kind still 2 x.in-2.is refl (λ i. (x.n-is i, x.rows-is i)) (x.k-is ∙ x.none-k-in-2.ensures)
-      | in-3 x ↦ quiet_arm is_compr_kind still 3 x.in-3.is refl (λ i. (x.n-is i, x.rows-is i)) (x.k-is ∙ x.none-k-in-3.ensures)
-      | in-4 x ↦ quiet_arm is_compr_kind still 4 x.in-4.is refl (λ i. (x.n-is i, x.rows-is i)) (x.k-is ∙ x.none-k-in-4.ensures)
-      | in-5 x ↦ quiet_arm is_compr_kind still 5 x.in-5.is refl (λ i. (x.n-is i, x.rows-is i)) (x.k-is ∙ x.none-k-in-5.ensures)
-      | in-6 x ↦ quiet_arm is_compr_kind still 6 x.in-6.is refl (λ i. (x.n-is i, x.rows-is i)) (x.k-is ∙ x.none-k-in-6.ensures)
-      | in-7 x ↦ quiet_arm is_compr_kind still 7 x.in-7.is refl (λ i. (x.n-is i, x.rows-is i)) (x.k-is ∙ x.one-k.ensures)
-      | in-8 x ↦ quiet_arm is_compr_kind still 8 x.in-8.is refl (λ i. (x.n-is i, x.rows-is i)) (x.k-is ∙ x.one-k-in-8.ensures)
-      | in-9 x ↦ quiet_arm is_compr_kind still 9 x.in-9.is refl (λ i. (x.n-is i, x.rows-is i)) (x.k-is ∙ x.one-k-in-9.ensures)
-      | in-10 x ↦ arm 10 x.in-10.is (lists_compr w row s (compr_kind_lem w 10 x.in-10.is refl) _ x.list_row-n.ensures) (λ i. (x.n-is i, x.rows-is i)) (x.k-is ∙ x.none-k-in-10.ensures)
-      | in-11 x ↦ arm 11 x.in-11.is (lists_compr w row s (compr_kind_lem w 11 x.in-11.is refl) _ x.list_row-n-in-11.ensures) (λ i. (x.n-is i, x.rows-is i)) (x.k-is ∙ x.none-k-in-11.ensures)
-      | in-12 x ↦ arm 12 x.in-12.is (lists_compr w row s (compr_kind_lem w 12 x.in-12.is refl) _ x.list_row-n-in-12.ensures) (λ i. (x.n-is i, x.rows-is i)) (x.k-is ∙ x.none-k-in-12.ensures)
-      | in-13 x ↦ quiet_arm is_compr_kind still 13 x.in-13.is refl (λ i. (x.n-is i, x.rows-is i)) (x.k-is ∙ x.one-k-in-13.ensures)
-      | in-14 x ↦ quiet_arm is_compr_kind still 14 x.in-14.is refl (λ i. (x.n-is i, x.rows-is i)) (x.k-is ∙ x.one-k-in-14.ensures)
-      | in-15 x ↦ quiet_arm is_compr_kind still 15 x.in-15.is refl (λ i. (x.n-is i, x.rows-is i)) (x.k-is ∙ x.one-k-in-15.ensures)
-      | in-16 x ↦ quiet_arm is_compr_kind still 16 x.in-16.is refl (λ i. (x.n-is i, x.rows-is i)) (x.k-is ∙ x.two-k.ensures)
-      | in-17 x ↦ quiet_arm is_compr_kind still 17 x.in-17.is refl (λ i. (x.n-is i, x.rows-is i)) (x.k-is ∙ x.two-k-in-17.ensures)
-      | in-18 x ↦ quiet_arm is_compr_kind still 18 x.in-18.is refl (λ i. (x.n-is i, x.rows-is i)) (x.k-is ∙ x.two-k-in-18.ensures)
-      | in-19 x ↦ quiet_arm is_compr_kind still 19 x.in-19.is refl (λ i. (x.n-is i, x.rows-is i)) (x.k-is ∙ x.two-k-in-19.ensures)
-      | in-20 x ↦ quiet_arm is_compr_kind still 20 x.in-20.is refl (λ i. (x.n-is i, x.rows-is i)) (x.k-is ∙ x.two-k-in-20.ensures)
-      | in-21 x ↦ quiet_arm is_compr_kind still 21 x.in-21.is refl (λ i. (x.n-is i, x.rows-is i)) (x.k-is ∙ x.two-k-in-21.ensures)
-      | in-22 x ↦ quiet_arm is_compr_kind still 22 x.in-22.is refl (λ i. (x.n-is i, x.rows-is i)) (x.k-is ∙ x.three-k.ensures)
-      | in_default x ↦ last_arm is_compr_kind still (no_compr_kind w) x.in_default.in_default-own.rest (λ i. (x.n-is i, x.rows-is i)) (x.k-is ∙ x.none-k-in_default.ensures)
-    ]
-
-first_walk-at-Joined-k-ne0-3 : (m : ℕ) (c : Joined-k-ne0-3 m)
-    →
-    Walked c.args.tables.now c.match-kind.k.first (c.match-kind.n, c.match-kind.rows) (c.if-k-ne0.n, c.if-k-ne0.rows)
-first_walk-at-Joined-k-ne0-3 m c =
-    elim c.if-k-ne0.branch [
-      | then-k-ne0 w ↦ past_guard (Walked c.args.tables.now) (λ a. lists_none _ c.requires.accepted _ refl true a.1 a.0) _ _ _ (λ w. w) (λ w. w) (inl (_, w.list_comprs-n.ensures, λ i. (w.n-is i, w.rows-is i)))
-      | else-k-ne0 w ↦ past_guard (Walked c.args.tables.now) (λ a. lists_none _ c.requires.accepted _ refl true a.1 a.0) _ _ _ (λ w. w) (λ w. w) (inr (w.if-k-ne0.false, λ i. (w.n-is i, w.rows-is i)))
-    ]
-
-second_walk-at-Joined-k-ne0-3 : (m : ℕ) (c : Joined-k-ne0-3 m)
-    →
-    Walked c.args.tables.now c.match-kind.k.second (c.if-k-ne0.n, c.if-k-ne0.rows) (c.if-k-ne0-2.n, c.if-k-ne0-2.rows)
-second_walk-at-Joined-k-ne0-3 m c =
-    elim c.if-k-ne0-2.branch [
-      | then-k-ne0-2 w ↦ past_guard (Walked c.args.tables.now) (λ a. lists_none _ c.requires.accepted _ refl true a.1 a.0) _ _ _ (λ w. w) (λ w. w) (inl (_, w.list_comprs-n-then-k-ne0-2.ensures, λ i. (w.n-is i, w.rows-is i)))
-      | else-k-ne0-2 w ↦ past_guard (Walked c.args.tables.now) (λ a. lists_none _ c.requires.accepted _ refl true a.1 a.0) _ _ _ (λ w. w) (λ w. w) (inr (w.if-k-ne0-2.false, λ i. (w.n-is i, w.rows-is i)))
-    ]
-
 turned : (m : ℕ) (c : Joined-k-ne0-3 m) (b : List ℕ) (end : ℕ)
     →
     let a = c.args in
-    Walked a.tables.now c.next_of-next.result (c.if-k-ne0-3.n, c.if-k-ne0-3.rows) (end, b)
+    ListTurn c.row_at-w.result a.row (a.count, a.rows.now) (c.match-kind.n, c.match-kind.rows) c.match-kind.k
+    → Walked a.tables.now c.match-kind.k.first (c.match-kind.n, c.match-kind.rows) (c.if-k-ne0.n, c.if-k-ne0.rows)
+    → Walked a.tables.now c.match-kind.k.second (c.if-k-ne0.n, c.if-k-ne0.rows) (c.if-k-ne0-2.n, c.if-k-ne0-2.rows)
+    → Walked a.tables.now c.next_of-next.result (c.if-k-ne0-3.n, c.if-k-ne0-3.rows) (end, b)
     → Lists a.tables.now (AtRow a.tables.now a.row) (comprs_by a.tables.now a.rest a.row) a.rows.now a.count b end
-turned m c b end rest =
+turned m c b end own first second rest =
     let pre = c.requires in
-    lists_turn _ pre.accepted _ c.if-row-eq0.false pre.row_in _ (row_is-at-Joined-k-ne0-3 m c) c.args.rest _ (turn-at-Joined-k-ne0-3 m c).kids _ c.next_of-next.ensures _ _ _ _ _ _ _ _ _ _ _ _ pre.room (turn-at-Joined-k-ne0-3 m c).step
-    (first_walk-at-Joined-k-ne0-3 m c) (second_walk-at-Joined-k-ne0-3 m c) (third-walk m c) rest
+    lists_turn _ pre.accepted _ c.if-row-eq0.false pre.row_in _ (c.row_at-w.ensures ∙ row-fields _ _) c.args.rest _ own.kids _ c.next_of-next.ensures _ _ _ _ _ _ _ _ _ _ _ _ pre.room own.step
+    first second (third-walk m c) rest
 
 pub returns-then-next-eq0 : goal.returns-then-next-eq0
 returns-then-next-eq0 m c =
-    turned m (goal.at.returns-then-next-eq0 m c).Joined-k-ne0-3 _ _ (lists_none _ c.requires.accepted _ c.if-next-eq0.true true _ _)
+    let p = goal.at.returns-then-next-eq0 m c in
+    turned m p.Joined-k-ne0-3 _ _ (turn m p.Joined-kind) (first_walk m p.Joined-k-ne0) (second_walk m p.Joined-k-ne0-2)
+    (lists_none _ c.requires.accepted _ c.if-next-eq0.true true _ _)
+
+pub returns : goal.returns
+returns m c =
+    let p = goal.at.returns m c in
+    turned m p.Joined-k-ne0-3 _ _ (turn m p.Joined-kind) (first_walk m p.Joined-k-ne0) (second_walk m p.Joined-k-ne0-2) c.list_comprs.ensures
 
 pub shape_of-rows-then-next-eq0 : goal.shape_of-rows-then-next-eq0
 shape_of-rows-then-next-eq0 m c =
-    (turned m (goal.at.shape_of-rows-then-next-eq0 m c).Joined-k-ne0-3 _ _ (lists_none _ c.requires.accepted _ c.if-next-eq0.true true _ _)).long
-
-pub returns : goal.returns
-returns m c = turned m (goal.at.returns m c).Joined-k-ne0-3 _ _ c.list_comprs.ensures
+    let p = goal.at.shape_of-rows-then-next-eq0 m c in
+    (turned m p.Joined-k-ne0-3 _ _ (turn m p.Joined-kind) (first_walk m p.Joined-k-ne0) (second_walk m p.Joined-k-ne0-2)
+    (lists_none _ c.requires.accepted _ c.if-next-eq0.true true _ _)).long
 
 pub shape_of-rows : goal.shape_of-rows
-shape_of-rows m c = (turned m (goal.at.shape_of-rows m c).Joined-k-ne0-3 _ _ c.list_comprs.ensures).long
+shape_of-rows m c =
+    let p = goal.at.shape_of-rows m c in
+    (turned m p.Joined-k-ne0-3 _ _ (turn m p.Joined-kind) (first_walk m p.Joined-k-ne0) (second_walk m p.Joined-k-ne0-2) c.list_comprs.ensures).long
