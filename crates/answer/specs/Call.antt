@@ -1,12 +1,11 @@
 -- The whole call: what it comes to and what it leaves, as functions of the sheet's bytes and of how long the lent buffers are.
 -- Beside: document 01, Questions and Answer.
-use Rattle.std.specs.Prelude.{cond, List, ◌++◌, ℕ, ◌-◌, leb, length, replicate}
+use Rattle.std.specs.Prelude.{cond, List, ◌++◌, ℕ, ◌-◌, leb, length, replicate, Ok, Err}
 use Rattle.base.specs.Limits.{Limits}
 use Rattle.base.specs.Refusals as refusals
 use Rattle.sheet.specs.Sheet.{Sheet, sheet_in}
-use Rattle.sheet.specs.declared.Outcome.{Outcome}
-use Rattle.sheet.specs.declared.Outcome.TheVariants.{Read, NoRoom, TooLong, BadForm, BadName, BadCount, BadField}
 use Rattle.sheet.specs.Verdict as questions
+use Rattle.sheet.specs.Verdict.{Outcome}
 use Rattle.definition.specs.States.{Fault, sound, undefined, used_before, lengths, index_variable, Run}
 use Rattle.definition.specs.RustWay.{analyze_query_snippet}
 use Rattle.answer.specs.Text.{answer_text, refusal_text}
@@ -36,13 +35,8 @@ analysed sheet room =
 
 -- The questions 1 to 6, then the others.
 abbrev pub after_reading : List ℕ → ℕ → Outcome → Result
-after_reading s room Read = analysed (sheet_in s) room
-after_reading s room NoRoom = refused refusals.no_room 0 0
-after_reading s room TooLong = refused refusals.too_long 0 0
-after_reading s room (BadForm l) = refused refusals.bad_form l 0
-after_reading s room (BadName l) = refused refusals.bad_name l 0
-after_reading s room (BadCount l) = refused refusals.bad_count l 0
-after_reading s room (BadField l) = refused refusals.bad_field l 0
+after_reading s room (Ok x) = analysed (sheet_in s) room
+after_reading s room (Err r) = refused (questions.refusal_number r) (questions.refusal_line r) 0
 
 -- All questions, put to bytes with lent buffers of these lengths: tables, work and the answer.
 unfoldable pub result_of : Limits → List ℕ → ℕ → ℕ → ℕ → Result

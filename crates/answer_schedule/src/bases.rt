@@ -9,6 +9,7 @@ ghost use Rattle.definition_state.specs.Inner.Table.{Table};
 ghost use Rattle.answer_schedule.specs.Inner.Bases.{FreshTo};
 
 use crate::count::count_stmts;
+use answer_blocks::state::State;
 use answer_blocks::{BASE, STATE, answers_of, place_of};
 use base::QUERIES;
 use names_width::Width;
@@ -19,8 +20,8 @@ fn clear_states(work: &mut [u64], width: Width)
     ensures { FreshTo width work.new limits.most_queries }
 {
     let first = work.len() - answers_of(width);
-    for q in 0..QUERIES {
-        work[first + place_of(width, q + 1, STATE)] = 0;
+    for q in 1..=QUERIES {
+        work[first + place_of(width, q, STATE)] = u64::from(State::Unanalysed);
     }
 }
 
@@ -33,8 +34,8 @@ pub fn set_bases(tables: &[u16], work: &mut [u64], width: Width)
     let first = work.len() - answers_of(width);
     let queries = tables[4] as usize;
     let mut base: usize = 0;
-    for q in 0..queries {
-        work[first + place_of(width, q + 1, BASE)] = base as u64;
-        base += count_stmts(tables, q + 1);
+    for q in 1..=queries {
+        work[first + place_of(width, q, BASE)] = base as u64;
+        base += count_stmts(tables, q);
     }
 }

@@ -7,17 +7,17 @@ ghost use Rattle.base.specs.Limits as limits;
 ghost use Rattle.names_width.specs.Inner.Widths.{row_words};
 ghost use Rattle.answer_blocks.specs.Inner.Layout as layout;
 ghost use Rattle.answer_blocks.specs.Inner.Asks.{AsksBlock};
-ghost use Rattle.answer_store.specs.Inner.Asks.{AsksPlaces};
 ghost use Rattle.definition_state.specs.Inner.Table.{answers_of, Based};
 ghost use Rattle.answer_schedule.specs.Inner.Asks.{AsksConclude};
 ghost use Rattle.answer_schedule.specs.Inner.Concluded.{AnswerWritten, Schedulable, Concluded};
 
 use crate::count::count_stmts;
-use answer_blocks::{BASE, answers_of, word_at};
-use answer_store::block::store_block;
-use answer_store::places::store_places;
+use answer_blocks::answers_of;
+use answer_blocks::blocks::Blocks;
+use answer_store::query::QueryAnswer;
 use base::STATEMENTS;
 use names_width::Width;
+use order_rows::Rows;
 use order_schedule::arrange_rows;
 use scope_state::Scope;
 
@@ -25,24 +25,14 @@ pub mod bases;
 mod count;
 
 // The block of a query, and its places from where the block says.
-fn store_answer(
-    answers: &mut [u64],
-    query: usize,
-    scope: Scope,
-    spans: &[u32],
-    count: usize,
-    placed: bool,
-    order: &[u16],
-    reached: &[u16],
-    width: Width,
-)
-    requires asks_block { AsksBlock width answers.old query × (limits.per_name ≤ length spans.now) }
-    requires asks_places { AsksPlaces (layout.word_at width answers.old query 3) count order.now reached.now }
-    ensures { AnswerWritten width answers.old query scope spans.now count placed order.now reached.now answers.new }
+fn store_answer(width: Width, words: &mut [u64], query: usize, answer: &QueryAnswer)
+    requires asks_block { AsksBlock width words.old query }
+    requires places_room { layout.word_at width words.old query 3 + length answer.now.order.now ≤ limits.most_statements }
+    ensures { AnswerWritten width words.old query answer.now.scope.now answer.now.spans.now (length answer.now.order.now) answer.now.placed answer.now.order.now answer.now.reached.now words.new }
 {
-    let base = word_at(width, answers, query, BASE) as usize;
-    store_block(answers, query, scope, spans, count, base, placed, width);
-    store_places(answers, base, count, order, reached, width);
+    let base = Blocks { width, words }.base(query);
+    answer.store_block(width, words, query, base);
+    answer.store_places(width, words, base);
 }
 
 // The first `count` rows of `work` are the query's definitions.
@@ -64,17 +54,18 @@ pub fn conclude(
     let mut order: [u16; STATEMENTS] = [0; STATEMENTS];
     let mut reached: [u16; STATEMENTS] = [0; STATEMENTS];
     let rows = width.row() * count;
-    let placed = arrange_rows(width, &work[..rows], n, &mut order, &mut reached);
-    let at = work.len() - answers_of(width);
-    store_answer(
-        &mut work[at..],
-        query,
-        scope,
-        spans,
-        n,
-        placed,
-        &order,
-        &reached,
+    let list = Rows {
         width,
-    );
+        words: &work[..rows],
+    };
+    let placed = arrange_rows(list, n, &mut order, &mut reached);
+    let answer = QueryAnswer {
+        scope: &scope,
+        spans,
+        order: &order[..n],
+        reached: &reached,
+        placed,
+    };
+    let at = work.len() - answers_of(width);
+    store_answer(width, &mut work[at..], query, &answer);
 }

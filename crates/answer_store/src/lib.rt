@@ -2,6 +2,6 @@
 
 #![tactic(auto)]
 
-pub mod block;
-pub mod places;
-mod words;
+mod block;
+mod places;
+pub mod query;

@@ -1,6 +1,7 @@
-pub mod Sound
+pub mod Rows
 pub mod Ranges
 pub mod Lines
+pub mod Sound
 pub mod Texts
 pub mod Listed
 pub mod Agrees

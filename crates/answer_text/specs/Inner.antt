@@ -3,4 +3,3 @@ pub mod Sound
 pub mod Ranges
 pub mod Texts
 pub mod Sections
-pub mod Asks

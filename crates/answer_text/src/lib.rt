@@ -2,34 +2,42 @@
 
 #![tactic(auto)]
 
-pub mod places;
-pub mod queries;
+pub mod answers;
+mod places;
+mod queries;
 pub mod rows;
-pub mod sets;
+mod sections;
+mod sets;
 
-ghost use Rattle.std.specs.Prelude.{◌≤◌, length};
+ghost use Rattle.std.specs.Prelude.{◌≤◌};
 ghost use Rattle.base.specs.Limits as limits;
-ghost use Rattle.answer_blocks.specs.Inner.Layout as layout;
-ghost use Rattle.answer_text.specs.Inner.Sound.{SoundBlocks};
 ghost use Rattle.answer_text.specs.Inner.Sections.{PutsAnswer};
 
-use crate::places::put_places;
-use crate::queries::put_queries;
-use crate::sets::put_sets;
-use names_width::Width;
+use crate::answers::Answers;
+use crate::sections::put_section;
+use answer_write::Text;
 
-// The three sections, about this many queries. Answers the place behind them.
-pub fn put_answer(
-    answers: &[u64],
-    queries: usize,
-    answer: &mut [u8],
-    at: usize,
-    width: Width,
-) -> usize
-    requires { (layout.answers_size width ≤ length answers.now) × (queries ≤ limits.most_queries) × SoundBlocks width answers.now }
-    ensures { PutsAnswer width answers.now queries answer.old at answer.new result }
+// The three sections, about this many queries.
+pub fn put_answer(answers: Answers, queries: usize, text: &mut Text)
+    requires { queries ≤ limits.most_queries }
+    ensures { PutsAnswer answers.entry.blocks.width answers.entry.blocks.words.now queries text.old text.new }
 {
-    let places = put_queries(answers, queries, answer, at, width);
-    let sets = put_places(answers, queries, answer, places, width);
-    put_sets(answers, queries, answer, sets, width)
+    put_section(
+        text,
+        b"query placed input\n",
+        queries,
+        |text, q| answers.put_query(q, text),
+    );
+    put_section(
+        text,
+        b"query place index reached\n",
+        queries,
+        |text, q| answers.put_places(q, text),
+    );
+    put_section(
+        text,
+        b"query set name line col\n",
+        queries,
+        |text, q| answers.put_sets(q, text),
+    );
 }

@@ -1,88 +1,51 @@
-// The section `query set name line col`: the sets of each query, with where its locals stand.
+// What is said of a query in the section `query set name line col`: its sets, with where its locals stand.
 
-ghost use Rattle.std.specs.Prelude.{◌≤◌, length};
+ghost use Rattle.std.specs.Prelude.{◌≤◌};
 ghost use Rattle.base.specs.Limits as limits;
-ghost use Rattle.answer_blocks.specs.Inner.Layout as layout;
-ghost use Rattle.answer_blocks.specs.Inner.Asks.{AsksBlock};
-ghost use Rattle.answer_write.specs.Inner.Writes.{Puts};
-ghost use Rattle.answer.specs.Text.{set_rows};
-ghost use Rattle.answer_text.specs.Inner.Sound.{SoundBlocks, Bounds};
+ghost use Rattle.answer_write.specs.Inner.Texts.{Extends};
+ghost use Rattle.answer_blocks.specs.Inner.Layout.{word_at};
 ghost use Rattle.answer_text.specs.Inner.Ranges.{texts};
 ghost use Rattle.answer_text.specs.Inner.Texts.{local_line, name_line, sets_text};
-ghost use Rattle.answer_text.specs.Inner.Sections.{PutsSection};
 
-use crate::rows::put_five;
-use answer_blocks::{STATE, set_at, span_at, word_at};
-use answer_write::{put, put_bytes};
-use names::CAPACITY;
-use names_width::Width;
+use crate::answers::Answers;
+use crate::rows::put_row;
+use answer_blocks::state::{QuerySet, State};
+use answer_write::Text;
 
-// The locals of a query.
-fn put_locals(answers: &[u64], q: usize, answer: &mut [u8], at: usize, width: Width) -> usize
-    requires { AsksBlock width answers.now q × Bounds width answers.now q }
-    ensures { Puts answer.old at (texts (local_line width answers.now q) 0 limits.per_name) answer.new result }
-{
-    let names = set_at(width, answers, q, 0);
-    let mut place = at;
-    let mut x = names.next(0);
-    while x < CAPACITY {
-        let span = span_at(width, answers, q, x) as usize;
-        place = put_five(answer, place, q, 1, x, span / 65536, span % 65536);
-        x = names.next(x + 1);
+impl Answers<'_> {
+    // The locals of an analysed query.
+    fn put_locals(self, q: usize, text: &mut Text)
+        requires { (1 ≤ q) × (q ≤ limits.most_queries) × (1 ≤ word_at self.blocks.width self.blocks.words.now q 0) }
+        ensures { Extends text.old (texts (local_line self.entry.blocks.width self.entry.blocks.words.now q) 0 limits.per_name) text.new }
+    {
+        let names = self.blocks.set(q, QuerySet::Locals);
+        for x in names.members() {
+            let span = self.blocks.span(q, x) as usize;
+            put_row(text, &[q, 1, x, span / 65536, span % 65536]);
+        }
     }
-    place
-}
 
-// The names of another set of it, which have no position.
-fn put_names(
-    answers: &[u64],
-    q: usize,
-    set: usize,
-    answer: &mut [u8],
-    at: usize,
-    width: Width,
-) -> usize
-    requires { AsksBlock width answers.now q × (1 ≤ set) × (set ≤ 3) }
-    ensures { Puts answer.old at (texts (name_line width answers.now q set) 0 limits.per_name) answer.new result }
-{
-    let names = set_at(width, answers, q, set - 1);
-    let mut place = at;
-    let mut x = names.next(0);
-    while x < CAPACITY {
-        place = put_five(answer, place, q, set, x, 0, 0);
-        x = names.next(x + 1);
+    // The names of a set, with no position.
+    fn put_names(self, q: usize, set: QuerySet, text: &mut Text)
+        requires { (1 ≤ q) × (q ≤ limits.most_queries) }
+        ensures { Extends text.old (texts (name_line self.entry.blocks.width self.entry.blocks.words.now q set) 0 limits.per_name) text.new }
+    {
+        let names = self.blocks.set(q, set);
+        for x in names.members() {
+            put_row(text, &[q, set.number(), x, 0, 0]);
+        }
     }
-    place
-}
 
-// The lines of a query: none where it is never analysed.
-fn put_query_sets(answers: &[u64], q: usize, answer: &mut [u8], at: usize, width: Width) -> usize
-    requires { AsksBlock width answers.now q × SoundBlocks width answers.now }
-    ensures { Puts answer.old at (sets_text width answers.now q) answer.new result }
-{
-    if word_at(width, answers, q, STATE) == 0 {
-        return at;
+    // A line for each name of its sets: none where it is never analysed.
+    pub(crate) fn put_sets(self, q: usize, text: &mut Text)
+        requires { (1 ≤ q) × (q ≤ limits.most_queries) }
+        ensures { Extends text.old (sets_text self.entry.blocks.width self.entry.blocks.words.now q) text.new }
+    {
+        if self.blocks.state(q) == State::Unanalysed {
+            return;
+        }
+        self.put_locals(q, text);
+        self.put_names(q, QuerySet::Unscoped, text);
+        self.put_names(q, QuerySet::Inputs, text);
     }
-    let unscoped = put_locals(answers, q, answer, at, width);
-    let inputs = put_names(answers, q, 2, answer, unscoped, width);
-    put_names(answers, q, 3, answer, inputs, width)
-}
-
-pub fn put_sets(
-    answers: &[u64],
-    queries: usize,
-    answer: &mut [u8],
-    at: usize,
-    width: Width,
-) -> usize
-    requires { (layout.answers_size width ≤ length answers.now) × (queries ≤ limits.most_queries) × SoundBlocks width answers.now }
-    ensures { PutsSection set_rows "query set name line col" width answers.now queries answer.old at answer.new result }
-{
-    let mut place = put_bytes(answer, at, b"query set name line col\n");
-    let mut q = 1;
-    while q <= queries {
-        place = put_query_sets(answers, q, answer, place, width);
-        q += 1;
-    }
-    put(answer, place, b'\n')
 }

@@ -1,53 +1,61 @@
-// Text into lent bytes. A place past the end counts as one past the end: so what is written is told to fit or not when all is written.
+// Text that is written into lent bytes.
 
 #![tactic(auto)]
 
-ghost use Rattle.std.specs.Prelude.{◌≡◌, [], ◌∷◌, ◌++◌, ◌≤◌, length};
+mod bytes;
+
+ghost use Rattle.std.specs.Prelude.{◌≡◌, [], ◌∷◌, ◌++◌, ◌≤◌};
 ghost use Rattle.base.specs.Limits as limits;
-ghost use Rattle.answer_write.specs.Inner.Writes.{Puts};
 ghost use Rattle.answer.specs.Text.{decimal};
-ghost use Rattle.answer_write.specs.Inner.Decimal.{PutsNumber};
 
-// A byte at a place. Answers the place behind it.
-pub fn put(answer: &mut [u8], at: usize, byte: u8) -> usize
-    ensures { Puts answer.old at (byte ∷ []) answer.new result }
-{
-    let room = answer.len();
-    if at < room {
-        answer[at] = byte;
-        return at + 1;
-    }
-    room + 1
+use crate::bytes::{put_byte, put_number};
+
+// The bytes, and the place behind the text. A place past the bytes counts as one past them: so the text is told to fit or not when all is
+// written.
+#[derive(Drop)]
+pub struct Text<'a> {
+    bytes: &'a mut [u8],
+    end: usize,
 }
 
-pub fn put_bytes(answer: &mut [u8], at: usize, bytes: &[u8]) -> usize
-    ensures { Puts answer.old at bytes.now answer.new result }
-{
-    let mut place = at;
-    let mut i = 0;
-    while i < bytes.len() {
-        place = put(answer, place, bytes[i]);
-        i += 1;
-    }
-    place
-}
+impl<'a> Text<'a> {
+    ghost use Rattle.answer_write.specs.Inner.Texts.{Extends};
 
-// A number in decimal.
-fn put_number(answer: &mut [u8], at: usize, n: usize) -> usize
-    ensures { PutsNumber answer.old at n answer.new result }
-{
-    if n < 10 {
-        return put(answer, at, 48 + n as u8);
+    pub fn new(bytes: &'a mut [u8]) -> Text<'a>
+        ensures same { result.bytes.ghost_name ≡ bytes.entry.ghost_name }
+        ensures bytes { result.bytes.now ≡ bytes.old }
+        ensures start { result.end ≡ 0 }
+    {
+        Text { bytes, end: 0 }
     }
-    let front = put_number(answer, at, n / 10);
-    put(answer, front, 48 + (n % 10) as u8)
-}
 
-// A value and a byte behind it: a space, or the end of the line.
-pub fn put_value(answer: &mut [u8], at: usize, n: usize, end: u8) -> usize
-    requires { n ≤ limits.largest_value }
-    ensures { Puts answer.old at (decimal n ++ (end ∷ [])) answer.new result }
-{
-    let behind = put_number(answer, at, n);
-    put(answer, behind, end)
+    pub fn put(&mut self, byte: u8)
+        ensures { Extends self.old (byte ∷ []) self.new }
+    {
+        self.end = put_byte(self.bytes, self.end, byte);
+    }
+
+    pub fn put_bytes(&mut self, bytes: &[u8])
+        ensures { Extends self.old bytes.now self.new }
+    {
+        for byte in bytes {
+            self.put(*byte);
+        }
+    }
+
+    // A value and a byte behind it: a space, or the end of the line.
+    pub fn put_value(&mut self, n: usize, end: u8)
+        requires { n ≤ limits.largest_value }
+        ensures { Extends self.old (decimal n ++ (end ∷ [])) self.new }
+    {
+        let behind = put_number(self.bytes, self.end, n as u16);
+        self.end = put_byte(self.bytes, behind, end);
+    }
+
+    // How many bytes the text has, or one more than there is room for.
+    pub fn end(&self) -> usize
+        ensures { result ≡ self.now.end }
+    {
+        self.end
+    }
 }

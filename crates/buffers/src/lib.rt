@@ -5,28 +5,44 @@
 ghost use Rattle.std.specs.Prelude.{◌≡◌, ◌++◌, ◌≤◌, length, drop, replicate};
 ghost use Rattle.base.specs.Lists.{range};
 
+// What a lent buffer has: a number, of which one is zero.
+pub trait Element: Copy {
+    ghost zero: { Self };
+
+    fn zero() -> Self
+        ensures { result ≡ zero };
+}
+
+impl Element for u8 {
+    ghost zero = { 0 };
+
+    fn zero() -> u8 {
+        0
+    }
+}
+
+impl Element for u16 {
+    ghost zero = { 0 };
+
+    fn zero() -> u16 {
+        0
+    }
+}
+
+impl Element for u64 {
+    ghost zero = { 0 };
+
+    fn zero() -> u64 {
+        0
+    }
+}
+
 // Zeros throughout.
-pub fn clear(buffer: &mut [u16])
-    ensures { buffer.new ≡ replicate (length buffer.old) 0 }
+pub fn clear<T: Element>(buffer: &mut [T])
+    ensures { buffer.new ≡ replicate (length buffer.old) T.zero }
 {
-    for i in 0..buffer.len() {
-        buffer[i] = 0;
-    }
-}
-
-pub fn clear_words(buffer: &mut [u64])
-    ensures { buffer.new ≡ replicate (length buffer.old) 0 }
-{
-    for at in 0..buffer.len() {
-        buffer[at] = 0;
-    }
-}
-
-pub fn clear_bytes(buffer: &mut [u8])
-    ensures { buffer.new ≡ replicate (length buffer.old) 0 }
-{
-    for place in 0..buffer.len() {
-        buffer[place] = 0;
+    for element in buffer.iter_mut() {
+        *element = T::zero();
     }
 }
 

@@ -14,6 +14,10 @@ ghost use Rattle.call.specs.Inner.Replies.{Replies};
 
 use crate::replies::{Reply, of_fault};
 use answer_blocks::answers_of;
+use answer_blocks::blocks::Blocks;
+use answer_text::answers::Answers;
+use answer_text::put_answer;
+use answer_write::Text;
 use definition_query::snippet::analyze_sheet;
 use names_width::Width;
 
@@ -23,9 +27,15 @@ fn write_answer(work: &[u64], queries: usize, answer: &mut [u8], width: Width) -
     ensures { (schedules : List QuerySchedule) → Stored width (answers_of width work.now) schedules → Replies (length answer.old) (fitting (length answer.old) (answer_text queries schedules)) result answer.new }
 {
     let from = work.len() - answers_of(width);
-    let end = answer_text::put_answer(&work[from..], queries, answer, 0, width);
+    let blocks = Blocks {
+        width,
+        words: &work[from..],
+    };
+    let mut text = Text::new(answer);
+    put_answer(Answers { blocks }, queries, &mut text);
+    let end = text.end();
     if answer.len() < end {
-        buffers::clear_bytes(answer);
+        buffers::clear(answer);
         return Reply {
             number: 7,
             line: 0,
@@ -44,9 +54,8 @@ pub fn answer_sheet(tables: &[u16], work: &mut [u64], answer: &mut [u8], width: 
     requires { AsksSheet tables.now width work.old × (answer.old ≡ replicate (length answer.old) 0) }
     ensures { Replies (length answer.old) (analysed_once (sheet_at tables.now) (length answer.old)) result answer.new }
 {
-    let fault = analyze_sheet(tables, work, width);
-    if !fault.is_sound() {
-        return of_fault(fault);
+    match analyze_sheet(tables, work, width) {
+        None => write_answer(work, tables[4] as usize, answer, width),
+        Some(fault) => of_fault(fault),
     }
-    write_answer(work, tables[4] as usize, answer, width)
 }

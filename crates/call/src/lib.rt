@@ -11,7 +11,7 @@ ghost use Rattle.answer.specs.Call.{result_of, left};
 ghost use Rattle.call.specs.Inner.Replies.{as_left, Replies};
 
 use crate::answering::answer_sheet;
-use crate::replies::{Reply, of_outcome};
+use crate::replies::{Reply, of_refusal};
 use names_width::Width;
 
 // All questions, with lent bytes that are zeros. Tables and work are left as they come.
@@ -25,11 +25,10 @@ fn reply_to(
     requires { answer.old ≡ replicate (length answer.old) 0 }
     ensures { Replies (length answer.old) (result_of (limits width) sheet.now (length tables.old) (length work.old) (length answer.old)) result answer.new }
 {
-    let outcome = sheet_read::take(sheet, tables, work, width);
-    if sheet_read::number_of(outcome) != 0 {
-        return of_outcome(outcome);
+    match sheet_read::take(sheet, tables, work, width) {
+        Ok(()) => answer_sheet(&tables[..base::TABLE_ENTRIES], work, answer, width),
+        Err(refusal) => of_refusal(refusal),
     }
-    answer_sheet(&tables[..base::TABLE_ENTRIES], work, answer, width)
 }
 
 // The answer's text, or a refusal and zeros. Tables and work are zeros afterwards in any case.
@@ -42,9 +41,9 @@ pub fn analyze(
 ) -> Reply
     ensures { as_left result tables.new work.new answer.new ≡ left (limits width) sheet.now (length tables.old) (length work.old) (length answer.old) }
 {
-    buffers::clear_bytes(answer);
+    buffers::clear(answer);
     let reply = reply_to(sheet, tables, work, answer, width);
     buffers::clear(tables);
-    buffers::clear_words(work);
+    buffers::clear(work);
     reply
 }

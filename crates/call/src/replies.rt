@@ -2,11 +2,11 @@
 
 ghost use Rattle.std.specs.Prelude.{◌≡◌, ◌≤◌};
 ghost use Rattle.base.specs.Limits as limits;
-ghost use Rattle.sheet.specs.Verdict.{fault_line};
-ghost use Rattle.call.specs.Inner.Replies.{outcome_reply, fault_reply};
+ghost use Rattle.sheet.specs.Verdict.{refusal_line};
+ghost use Rattle.call.specs.Inner.Replies.{refusal_reply, fault_reply};
 
 use definition_state::Fault;
-use sheet::Outcome;
+use sheet::Refusal;
 
 #[derive(Clone, Copy)]
 pub struct Reply {
@@ -16,13 +16,13 @@ pub struct Reply {
 }
 
 // Questions 1 to 6.
-pub fn of_outcome(outcome: Outcome) -> Reply
-    requires { fault_line outcome ≤ limits.largest_value }
-    ensures { result ≡ outcome_reply outcome }
+pub fn of_refusal(refusal: Refusal) -> Reply
+    requires { refusal_line refusal ≤ limits.largest_value }
+    ensures { result ≡ refusal_reply refusal }
 {
     Reply {
-        number: sheet_read::number_of(outcome) as u16,
-        line: sheet_read::line_of(outcome) as u16,
+        number: refusal.number(),
+        line: refusal.line() as u16,
         col: 0,
     }
 }
@@ -32,11 +32,6 @@ pub fn of_fault(fault: Fault) -> Reply
     ensures { result ≡ fault_reply fault }
 {
     match fault {
-        Fault::Sound => Reply {
-            number: 0,
-            line: 0,
-            col: 0,
-        },
         Fault::Undefined(line, col) => Reply {
             number: 11,
             line,

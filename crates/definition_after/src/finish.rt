@@ -21,7 +21,7 @@ pub fn begun(scope: Scope, width: Width) -> Progress
     Progress {
         scope,
         count: 0,
-        fault: Fault::Sound,
+        fault: None,
         width,
     }
 }
@@ -43,7 +43,7 @@ pub fn finish(
     p: Progress,
     spans: &[u32],
     work: &mut [u64],
-) -> Fault
+) -> Option<Fault>
     requires asks_finish { AsksConclude tables.now query spans.now × (row_words p.width * p.count + answers_size p.width ≤ length work.old) × (is_sound p.fault ≡ true → Based p.width tables.now (answers_of p.width work.old)) }
     requires schedulable { is_sound p.fault ≡ true → Schedulable p.width tables.now work.old query p.count }
     ensures { Finished tables.now work.old query scope p spans.now result work.new }

@@ -1,6 +1,6 @@
 // All names that an expression uses, once its comprehensions and those of the modifiers are analysed.
 
-ghost use Rattle.std.specs.Prelude.{◌≡◌, ◌&&◌, ◌≤◌, eqb};
+ghost use Rattle.std.specs.Prelude.{◌≡◌, ◌&&◌, ◌≤◌, eqb, length};
 ghost use Rattle.scope_walk.specs.Inner.Sheets.{expr_count};
 ghost use Rattle.definition_comprs.specs.Inner.Lists.{listed_at};
 ghost use Rattle.definition_comprs.specs.Inner.Used.{AsksListed};
@@ -17,49 +17,41 @@ use definition_state::Progress;
 use names::Names;
 use names_width::Width;
 use scope_state::Scope;
-use sheet::Row;
+use sheet::{Kind, Row};
 use sheet_rows::row_at;
 
-// Beside the names that it uses by itself. The first `end` rows of the list are its comprehensions, and those of the modifiers.
+// Beside the names that it uses by itself. The listed rows are its comprehensions, and those of the modifiers.
 pub fn all_used(
     tables: &[u16],
     p: Progress,
     names: Names,
     rows: &[u16],
-    end: usize,
     context: Context,
     work: &[u64],
 ) -> Names
-    requires { AsksListed tables.now p.width rows.now 0 end work.now }
-    ensures { AllUsed tables.now p.width p.scope names (listed_at tables.now rows.now 0 end) context work.now result }
+    requires { AsksListed tables.now p.width rows.now work.now }
+    ensures { AllUsed tables.now p.width p.scope names (listed_at tables.now rows.now 0 (length rows.now)) context work.now result }
 {
     let scope = p.scope;
     let width = p.width;
     let by = names.union(context.names);
-    comprs_used(tables, scope, work, rows, 0, end, by, width)
+    comprs_used(tables, scope, work, rows, by, width)
 }
 
 // Are there no comprehensions, neither of an expression nor of the modifiers?
 pub fn none_left(comprs: usize, mods: usize) -> bool
     ensures { result ≡ (eqb comprs 0 && eqb mods 0) }
 {
-    if comprs != 0 {
-        return false;
-    }
-    mods == 0
+    comprs == 0 && mods == 0
 }
 
 // All names, where there are none: its own and those of the modifiers.
 pub fn without_comprs(u: Using, context: Context) -> Using
     ensures { WithoutComprs u context result }
 {
-    let progress = u.progress;
-    let own = u.names;
-    let names = own.union(context.names);
     Using {
-        progress,
-        names,
-        comprs: u.comprs,
+        names: u.names.union(context.names),
+        ..u
     }
 }
 
@@ -80,7 +72,7 @@ fn other_used(
     let by = used_names(tables, scope, none, row, false, names);
     let mut rows: [u16; LISTED] = [0; LISTED];
     let end = list_both(tables, row, false, mods, &mut rows);
-    comprs_used(tables, scope, work, &rows, 0, end, by, width)
+    comprs_used(tables, scope, work, &rows[..end], by, width)
 }
 
 // A variable of a some-in pattern: a part by itself, but for a local and `input`.
@@ -122,52 +114,10 @@ fn leaves_used(
     let w = row_at(tables, row);
     let first = w.first as usize;
     let width = p.width;
-    let kind = w.kind;
-    let s = match kind {
-        // String
-        1 => other_used(tables, p.scope, row, mods, work, names, width),
-        // RawString
-        2 => other_used(tables, p.scope, row, mods, work, names, width),
-        // Number
-        3 => other_used(tables, p.scope, row, mods, work, names, width),
-        // Bool
-        4 => other_used(tables, p.scope, row, mods, work, names, width),
-        // Null
-        5 => other_used(tables, p.scope, row, mods, work, names, width),
-        // Var
-        6 => var_used(tables, p, row, w, mods, work, names),
-        // Array: items
-        7 => leaves_used(tables, p, first, mods, work, names),
-        // Set
-        8 => other_used(tables, p.scope, row, mods, work, names, width),
-        // Object: fields, keys and values in turn
-        9 => leaves_used(tables, p, first, mods, work, names),
-        // ArrayCompr
-        10 => other_used(tables, p.scope, row, mods, work, names, width),
-        // SetCompr
-        11 => other_used(tables, p.scope, row, mods, work, names, width),
-        // ObjectCompr
-        12 => other_used(tables, p.scope, row, mods, work, names, width),
-        // Call
-        13 => other_used(tables, p.scope, row, mods, work, names, width),
-        // UnaryExpr
-        14 => other_used(tables, p.scope, row, mods, work, names, width),
-        // RefDot
-        15 => other_used(tables, p.scope, row, mods, work, names, width),
-        // RefBrack
-        16 => other_used(tables, p.scope, row, mods, work, names, width),
-        // BinExpr
-        17 => other_used(tables, p.scope, row, mods, work, names, width),
-        // BoolExpr
-        18 => other_used(tables, p.scope, row, mods, work, names, width),
-        // ArithExpr
-        19 => other_used(tables, p.scope, row, mods, work, names, width),
-        // AssignExpr `Eq`
-        20 => other_used(tables, p.scope, row, mods, work, names, width),
-        // AssignExpr `ColEq`
-        21 => other_used(tables, p.scope, row, mods, work, names, width),
-        // Membership
-        22 => other_used(tables, p.scope, row, mods, work, names, width),
+    let s = match Kind::from(w.kind) {
+        Kind::Var => var_used(tables, p, row, w, mods, work, names),
+        // items; fields: keys and values in turn
+        Kind::Array | Kind::Object => leaves_used(tables, p, first, mods, work, names),
         _ => other_used(tables, p.scope, row, mods, work, names, width),
     };
     if w.next == 0 {

@@ -1,12 +1,12 @@
 // What the query of a comprehension takes rises to the query around it (`propagate_nested_scope`), where it is used.
 
-ghost use Rattle.std.specs.Prelude.{◌≡◌, ◌≤◌, ◌<◌, length};
+ghost use Rattle.std.specs.Prelude.{◌≤◌, length};
 ghost use Rattle.base.specs.Limits as limits;
 ghost use Rattle.answer_blocks.specs.Inner.Layout.{answers_size};
 ghost use Rattle.answer_blocks.specs.Inner.Asks.{AsksBlock};
 ghost use Rattle.definition_comprs.specs.Inner.Queries.{QueryIn};
 ghost use Rattle.definition_comprs.specs.Inner.Propagated.{Propagated};
-ghost use Rattle.definition_comprs.specs.Inner.Uses.{row_named, UsesNames};
+ghost use Rattle.definition_comprs.specs.Inner.Uses.{UsesNames};
 ghost use Rattle.definition_comprs.specs.Inner.Rising.{Risen};
 ghost use Rattle.definition_comprs.specs.Inner.After.{AfterCompr};
 
@@ -15,7 +15,7 @@ use crate::taken::taken_by;
 use definition_state::{Fault, Progress};
 use definition_walk::first::add_first_use;
 use definition_walk::row::is_compr;
-use names::{CAPACITY, Names};
+use names::Names;
 use scope_state::Scope;
 use sheet::Row;
 
@@ -24,32 +24,8 @@ fn propagate(scope: Scope, uses: bool, names: Names) -> Scope
     ensures { Propagated scope uses names result }
 {
     let flagged = scope.use_input(uses);
-    let locals = flagged.locals;
-    let unscoped = flagged.unscoped;
     let inputs = flagged.inputs.union(names);
-    Scope {
-        locals,
-        unscoped,
-        inputs,
-        uses: flagged.uses,
-    }
-}
-
-// A variable of this name where w stands.
-fn with_name(w: Row, name: usize) -> Row
-    requires { name < limits.per_name }
-    ensures { result ≡ row_named w name }
-{
-    Row {
-        kind: w.kind,
-        name: name as u16,
-        line: w.line,
-        col: w.col,
-        first: w.first,
-        second: w.second,
-        third: w.third,
-        next: w.next,
-    }
+    Scope { inputs, ..flagged }
 }
 
 // Each of the names is used where w stands.
@@ -57,11 +33,12 @@ fn use_names(w: Row, names: Names, firsts: &mut [u64])
     requires { limits.per_name ≤ length firsts.old }
     ensures { UsesNames w names firsts.old firsts.new }
 {
-    let mut x = names.next(0);
-    while x < CAPACITY {
-        let v = with_name(w, x);
+    for x in names.members() {
+        let v = Row {
+            name: x as u16,
+            ..w
+        };
         add_first_use(v, firsts);
-        x = names.next(x + 1);
     }
 }
 
@@ -82,15 +59,21 @@ fn rise(w: Row, p: Progress, firsts: &mut [u64], work: &[u64]) -> Progress
     p.with_scope(wider)
 }
 
-// After the query of w was analysed with this fault, if w is a comprehension and p has none.
-pub fn after_compr(w: Row, p: Progress, fault: Fault, firsts: &mut [u64], work: &[u64]) -> Progress
+// After the query of w was analysed, to this fault or to none, if w is a comprehension and p has none.
+pub fn after_compr(
+    w: Row,
+    p: Progress,
+    fault: Option<Fault>,
+    firsts: &mut [u64],
+    work: &[u64],
+) -> Progress
     requires { (limits.per_name ≤ length firsts.old) × (answers_size p.width ≤ length work.now) × QueryIn w }
     ensures { AfterCompr w work.now p fault firsts.old result firsts.new }
 {
     if is_compr(w) {
         if p.is_sound() {
-            let analysed = p.fail(fault);
-            if fault.is_sound() {
+            let analysed = p.with_fault(fault);
+            if fault.is_none() {
                 return rise(w, analysed, firsts, work);
             }
             return analysed;

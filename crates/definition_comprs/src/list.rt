@@ -7,7 +7,7 @@ ghost use Rattle.scope_walk.specs.Inner.Sheets.{Accepted, expr_count};
 ghost use Rattle.definition_comprs.specs.Inner.Lists.{Lists, AtRow, comprs_by, AsksList, AsksBoth, ListsBoth};
 
 use scope_walk::{next_of, none, one, three, two};
-use sheet::Row;
+use sheet::{Kind, Row};
 use sheet_rows::row_at;
 
 // Room for those of two expressions: a comprehension has a query of its own, so neither has more than there are queries.
@@ -32,63 +32,28 @@ fn list_comprs(tables: &[u16], row: usize, rest: bool, rows: &mut [u16], count: 
     }
     let w = row_at(tables, row);
     let next = next_of(w, rest);
-    let kind = w.kind;
     let mut n = count;
-    let k = match kind {
-        // String
-        1 => none(),
-        // RawString
-        2 => none(),
-        // Number
-        3 => none(),
-        // Bool
-        4 => none(),
-        // Null
-        5 => none(),
-        // Var
-        6 => none(),
-        // Array: items
-        7 => one(w.first),
-        // Set: items
-        8 => one(w.first),
-        // Object: fields, keys and values in turn
-        9 => one(w.first),
-        // ArrayCompr
-        10 => {
+    let k = match Kind::from(w.kind) {
+        Kind::String | Kind::RawString | Kind::Number | Kind::Bool | Kind::Null => none(),
+        Kind::Var => none(),
+        // items; fields: keys and values in turn
+        Kind::Array | Kind::Set | Kind::Object => one(w.first),
+        Kind::ArrayCompr | Kind::SetCompr | Kind::ObjectCompr => {
             n = list_row(row, rows, count);
             none()
         }
-        // SetCompr
-        11 => {
-            n = list_row(row, rows, count);
-            none()
-        }
-        // ObjectCompr
-        12 => {
-            n = list_row(row, rows, count);
-            none()
-        }
-        // Call: params
-        13 => one(w.second),
-        // UnaryExpr: expr
-        14 => one(w.first),
-        // RefDot: refr
-        15 => one(w.first),
-        // RefBrack: refr, index
-        16 => two(w.first, w.second),
-        // BinExpr: lhs, rhs
-        17 => two(w.first, w.second),
-        // BoolExpr: lhs, rhs
-        18 => two(w.first, w.second),
-        // ArithExpr: lhs, rhs
-        19 => two(w.first, w.second),
-        // AssignExpr `Eq`: lhs, rhs
-        20 => two(w.first, w.second),
-        // AssignExpr `ColEq`: lhs, rhs
-        21 => two(w.first, w.second),
-        // Membership: key, value, collection
-        22 => three(w.first, w.second, w.third),
-        _ => none(),
+        // params
+        Kind::Call => one(w.second),
+        // expr; refr
+        Kind::UnaryExpr | Kind::RefDot => one(w.first),
+        // refr, index
+        Kind::RefBrack => two(w.first, w.second),
+        // lhs, rhs
+        Kind::BinExpr | Kind::BoolExpr | Kind::ArithExpr | Kind::AssignEq | Kind::AssignColEq =>
+            two(w.first, w.second),
+        // key, value, collection
+        Kind::Membership => three(w.first, w.second, w.third),
+        Kind::Unknown => none(),
     };
     if k.first != 0 {
         n = list_comprs(tables, k.first, true, rows, n);

@@ -1,17 +1,17 @@
 // What listed comprehensions use of the query around them.
 
-ghost use Rattle.std.specs.Prelude.{◌-◌};
+ghost use Rattle.std.specs.Prelude.{length};
 ghost use Rattle.answer_blocks.specs.Inner.Asks.{AsksBlock};
 ghost use Rattle.definition_comprs.specs.Inner.Lists.{listed_at};
 ghost use Rattle.definition_comprs.specs.Inner.Used.{AsksListed, ComprStep, ComprsUsed};
 
-use crate::list::listed_at;
 use crate::own::own_inputs;
 use crate::taken::taken_by;
 use names::Names;
 use names_width::Width;
 use scope_state::Scope;
 use sheet::Row;
+use sheet_rows::row_at;
 
 // A comprehension: the own names among the inputs of its query come to `names`.
 fn compr_step(scope: Scope, work: &[u64], w: Row, names: Names, width: Width) -> Names
@@ -25,24 +25,22 @@ fn compr_step(scope: Scope, work: &[u64], w: Row, names: Names, width: Width) ->
     names.union(own)
 }
 
-// Those from place `at` of the list on, before place `end`.
+// Those at listed rows.
 pub fn comprs_used(
     tables: &[u16],
     scope: Scope,
     work: &[u64],
     rows: &[u16],
-    at: usize,
-    end: usize,
     names: Names,
     width: Width,
 ) -> Names
-    requires { AsksListed tables.now width rows.now at end work.now }
-    ensures { ComprsUsed width scope work.now (listed_at tables.now rows.now at (end - at)) names result }
+    requires { AsksListed tables.now width rows.now work.now }
+    ensures { ComprsUsed width scope work.now (listed_at tables.now rows.now 0 (length rows.now)) names result }
 {
-    if at == end {
-        return names;
+    let mut used = names;
+    for row in rows {
+        let w = row_at(tables, *row as usize);
+        used = compr_step(scope, work, w, used, width);
     }
-    let w = listed_at(tables, rows, at);
-    let s = compr_step(scope, work, w, names, width);
-    comprs_used(tables, scope, work, rows, at + 1, end, s, width)
+    used
 }

@@ -11,7 +11,8 @@ ghost use Rattle.definition_expr.specs.Inner.ComprRows.{joined_row, joining};
 use definition_state::Progress;
 use names::Names;
 
-// The analysis, the names used, and the row whose comprehensions are to be analysed: 0 where there are none.
+// The analysis, the names used, and the row whose comprehensions are to be analysed: 0 where there are none, as a sheet has it and the walks
+// take it.
 #[derive(Clone, Copy)]
 pub struct Using {
     pub progress: Progress,
@@ -24,12 +25,9 @@ impl Using {
     pub(crate) fn after(self, first: usize, row: usize) -> Using
         ensures { result ≡ joining self first row }
     {
-        let progress = self.progress;
-        let names = self.names;
         Using {
-            progress,
-            names,
             comprs: joined_row(first, self.comprs, row),
+            ..self
         }
     }
 }

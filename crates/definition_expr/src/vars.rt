@@ -33,20 +33,14 @@ fn fail_undefined(tables: &[u16], row: usize, p: Progress) -> Progress
 fn use_defined(row: usize, p: Progress, used: Used) -> Using
     ensures { Taken row p used result }
 {
-    let before = p.scope;
-    let scope = before.use_input(used.reads);
-    let fault = p.fault;
-    let names = used.names;
-    let width = p.width;
-    let progress = Progress {
-        scope,
-        count: used.count,
-        fault,
-        width,
-    };
+    let scope = p.scope.use_input(used.reads);
     Using {
-        progress,
-        names,
+        progress: Progress {
+            scope,
+            count: used.count,
+            ..p
+        },
+        names: used.names,
         comprs: compr_row(used.comprs, row),
     }
 }
@@ -66,37 +60,33 @@ pub fn use_vars(
     requires { AsksUse tables.now row p firsts.old work.old (bracket_vars (expr_by tables.now rest row)) × ListedExtras extras }
     ensures { UsesVars tables.now extras statement row rest p firsts.old work.old result firsts.new work.new }
 {
-    if p.is_sound() {
-        let scope = p.scope;
-        let width = p.width;
-        let end = work.len() - answers_of(width);
-        let used = used_vars(
-            tables,
-            scope,
-            extras,
-            statement,
-            row,
-            rest,
-            p.count,
-            firsts,
-            &mut work[..end],
-            width,
-        );
-        if used.undefined == 0 {
-            return use_defined(row, p, used);
-        }
-        let names = Names::empty();
-        let progress = fail_undefined(tables, used.undefined, p);
+    if !p.is_sound() {
         return Using {
-            progress,
-            names,
+            progress: p,
+            names: Names::empty(),
             comprs: row,
         };
     }
-    let names = Names::empty();
-    Using {
-        progress: p,
-        names,
-        comprs: row,
+    let width = p.width;
+    let end = work.len() - answers_of(width);
+    let used = used_vars(
+        tables,
+        p.scope,
+        extras,
+        statement,
+        row,
+        rest,
+        p.count,
+        firsts,
+        &mut work[..end],
+        width,
+    );
+    match used.undefined {
+        None => use_defined(row, p, used),
+        Some(at) => Using {
+            progress: fail_undefined(tables, at, p),
+            names: Names::empty(),
+            comprs: row,
+        },
     }
 }

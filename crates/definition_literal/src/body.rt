@@ -2,7 +2,7 @@
 
 ghost use Rattle.std.specs.Prelude.{◌≡◌, cond};
 ghost use Rattle.definition_state.specs.Inner.Faults.{is_sound};
-ghost use Rattle.definition_state.specs.Inner.Frames.{failed};
+ghost use Rattle.definition_state.specs.Inner.Frames.{with_fault};
 
 use definition_state::{Fault, Progress};
 
@@ -16,12 +16,12 @@ pub fn body_of(p: Progress, query: usize) -> usize
     0
 }
 
-// The fault that the body came to, if there was none before.
-pub fn after_body(p: Progress, fault: Fault) -> Progress
-    ensures { result ≡ cond (is_sound p.fault) (failed p fault) p }
+// What the body came to, if there was no fault before.
+pub fn after_body(p: Progress, fault: Option<Fault>) -> Progress
+    ensures { result ≡ cond (is_sound p.fault) (with_fault p fault) p }
 {
     if p.is_sound() {
-        return p.fail(fault);
+        return p.with_fault(fault);
     }
     p
 }

@@ -42,15 +42,8 @@ pub fn extra_vars(tables: &[u16], outer: &[u32], arg: usize) -> Names
 fn join_unscoped(scope: Scope, extras: Names) -> Scope
     ensures { Joined scope extras result }
 {
-    let locals = scope.locals;
     let unscoped = scope.unscoped.union(extras);
-    let inputs = scope.inputs;
-    Scope {
-        locals,
-        unscoped,
-        inputs,
-        uses: scope.uses,
-    }
+    Scope { unscoped, ..scope }
 }
 
 // They are so from here on, unless there is a fault.

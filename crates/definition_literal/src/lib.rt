@@ -5,7 +5,6 @@
 pub mod body;
 pub mod context;
 pub mod extra;
-pub mod kinds;
 pub mod pairs;
 pub mod some;
 pub mod used_names;

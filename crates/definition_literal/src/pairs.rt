@@ -10,23 +10,20 @@ ghost use Rattle.definition_literal.specs.Inner.Pairs.{chains_by, pair_by};
 
 use definition_state::{Fault, Progress};
 use scope_paths::extra::end_of;
-use sheet::Row;
-use sheet_rows::kinds::ARRAY;
+use sheet::{Kind, Row};
 
-// Rows to assign to each other, chains of rows to pair, 0 where there are none; or arrays whose lengths differ.
-#[derive(Clone, Copy)]
-pub struct Pair {
-    pub left: usize,
-    pub right: usize,
-    pub lefts: usize,
-    pub rights: usize,
-    pub differs: bool,
+// Rows to assign to each other, or chains of rows to pair, or arrays whose lengths differ.
+#[derive(Clone, Copy, Debug, PartialEq, Eq)]
+pub enum Pair {
+    Sides(usize, usize),
+    Chains(usize, usize),
+    Differ,
 }
 
 fn both_arrays(a: Row, b: Row) -> bool
     ensures { result ≡ (is_array a && is_array b) }
 {
-    a.kind == ARRAY && b.kind == ARRAY
+    matches!(Kind::from(a.kind), Kind::Array) && matches!(Kind::from(b.kind), Kind::Array)
 }
 
 // Two arrays, by the chains of their parts.
@@ -37,21 +34,9 @@ fn arrays(tables: &[u16], lefts: usize, rights: usize) -> Pair
     let a = end_of(tables, lefts);
     let b = end_of(tables, rights);
     if a.count == b.count {
-        return Pair {
-            left: 0,
-            right: 0,
-            lefts,
-            rights,
-            differs: false,
-        };
+        return Pair::Chains(lefts, rights);
     }
-    Pair {
-        left: 0,
-        right: 0,
-        lefts: 0,
-        rights: 0,
-        differs: true,
-    }
+    Pair::Differ
 }
 
 // The rows a and b at `left` and `right`.
@@ -62,23 +47,15 @@ pub fn pair_of(tables: &[u16], left: usize, right: usize, a: Row, b: Row) -> Pai
     if both_arrays(a, b) {
         return arrays(tables, a.first as usize, b.first as usize);
     }
-    Pair {
-        left,
-        right,
-        lefts: 0,
-        rights: 0,
-        differs: false,
-    }
+    Pair::Sides(left, right)
 }
 
-// 13 at the right side b, where the lengths differ.
-pub fn differ(pair: Pair, b: Row, p: Progress) -> Progress
-    ensures { result ≡ cond (pair.differs && is_sound p.fault) (failed p (Lengths b.line b.col)) p }
+// 13 at the right side b, whose length differs, if there is no fault before.
+pub fn differ(b: Row, p: Progress) -> Progress
+    ensures { result ≡ cond (is_sound p.fault) (failed p (Lengths b.line b.col)) p }
 {
-    if pair.differs {
-        if p.is_sound() {
-            return p.fail(Fault::Lengths(b.line, b.col));
-        }
+    if p.is_sound() {
+        return p.fail(Fault::Lengths(b.line, b.col));
     }
     p
 }

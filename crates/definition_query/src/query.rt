@@ -27,8 +27,7 @@ use definition_expr::vars::use_vars;
 use definition_literal::body::{after_body, body_of};
 use definition_literal::context::Context;
 use definition_literal::extra::{bind_extras, extra_arg, extra_vars};
-use definition_literal::kinds::is_col_eq;
-use definition_literal::pairs::{differ, pair_of};
+use definition_literal::pairs::{Pair, differ, pair_of};
 use definition_literal::some::{fail_if_some, non_var};
 use definition_record::checks::check_vars;
 use definition_record::least::at_least_one;
@@ -41,9 +40,8 @@ use names_width::Width;
 use scope_gather::body::enclose_every;
 use scope_gather::local_vars::gather_local_vars;
 use scope_state::enclose::enclose;
-use scope_vars::vars::is_assign;
-use sheet::Statement;
-use sheet_rows::kinds::{EVERY, EXPR, SOME_IN, SOME_VARS};
+use scope_vars::vars::{is_assign, is_col_eq};
+use sheet::{Form, Statement};
 use sheet_rows::{first_at, row_at, statement_at};
 
 // `process_comprs`: the comprehensions at listed rows, from place `at` on, before place `end`. Each query is analysed once, and what it takes
@@ -128,7 +126,7 @@ fn use_expr(
         firsts,
         work,
     );
-    let names = all_used(tables, progress, u.names, &rows, end, context, work);
+    let names = all_used(tables, progress, u.names, &rows[..end], context, work);
     Using {
         progress,
         names,
@@ -186,26 +184,11 @@ fn process_pairs(
     }
     let a = row_at(tables, left);
     let b = row_at(tables, right);
-    let pair = pair_of(tables, left, right, a, b);
-    let mut s = differ(pair, b, p);
-    if pair.left != 0 {
-        s = assign_pair(
-            tables, inner, pair.left, pair.right, check, context, s, firsts, work,
-        );
-    }
-    if pair.lefts != 0 {
-        s = process_pairs(
-            tables,
-            inner,
-            pair.lefts,
-            pair.rights,
-            check,
-            context,
-            s,
-            firsts,
-            work,
-        );
-    }
+    let s = match pair_of(tables, left, right, a, b) {
+        Pair::Sides(l, r) => assign_pair(tables, inner, l, r, check, context, p, firsts, work),
+        Pair::Chains(l, r) => process_pairs(tables, inner, l, r, check, context, p, firsts, work),
+        Pair::Differ => differ(b, p),
+    };
     if a.next == 0 {
         return s;
     }
@@ -440,26 +423,16 @@ fn process_literal(
     requires { OnStatement tables.now outer.now spans.now firsts.old (AsksLiteral tables.now outer.now spans.now st context p firsts.old work.old) }
     ensures { DoesStep tables.now (literal_step tables.now st context) outer.now spans.now context p firsts.old work.old result firsts.new work.new }
 {
-    if st.form == SOME_VARS {
-        return check_vars(tables, st.first as usize, p, firsts);
+    let first = st.first as usize;
+    match Form::from(st.form) {
+        Form::SomeVars => check_vars(tables, first, p, firsts),
+        Form::SomeIn => process_some_in(tables, outer, st, context, p, spans, firsts, work),
+        Form::Every => process_every(tables, outer, st, context, p, spans, firsts, work),
+        Form::Expr => process_expr(tables, outer, first, true, context, p, spans, firsts, work),
+        Form::NotExpr | Form::Unknown => {
+            process_expr(tables, outer, first, false, context, p, spans, firsts, work)
+        }
     }
-    if st.form == SOME_IN {
-        return process_some_in(tables, outer, st, context, p, spans, firsts, work);
-    }
-    if st.form == EVERY {
-        return process_every(tables, outer, st, context, p, spans, firsts, work);
-    }
-    process_expr(
-        tables,
-        outer,
-        st.first as usize,
-        st.form == EXPR,
-        context,
-        p,
-        spans,
-        firsts,
-        work,
-    )
 }
 
 // The statements from a row on, the first being statement `statement`.
@@ -509,6 +482,7 @@ fn process_stmts(
 
 // `analyze_query`: the scope is gathered, the statements are processed in their order, then the outputs; last, the query is scheduled.
 // Nothing where there is no query.
+// The fault is handed back as the query around it keeps it in its progress: a Result would be made of an Option, and turned into one again.
 #[cycle(analysis)]
 pub fn analyze_query(
     tables: &[u16],
@@ -519,15 +493,15 @@ pub fn analyze_query(
     levels: usize,
     work: &mut [u64],
     width: Width,
-) -> Fault
+) -> Option<Fault>
     requires { Accepted tables.now × (limits.per_name ≤ length outer.now) × AsksQuery tables.now width outer.now work.old query key value }
     ensures { DoesQuery tables.now width outer.now query key value levels work.old result work.new }
 {
     if query == 0 {
-        return Fault::Sound;
+        return None;
     }
     if levels == 0 {
-        return Fault::Sound;
+        return None;
     }
     let mut spans: [u32; CAPACITY] = [0; CAPACITY];
     let mut firsts: [u64; CAPACITY] = [0; CAPACITY];

@@ -18,7 +18,7 @@ const NEVER: u32 = 65536;
 const DEEPEST: usize = base::NESTING;
 
 // The answers are left in the last words of work, as many as the width's answers have.
-pub fn analyze_sheet(tables: &[u16], work: &mut [u64], width: Width) -> Fault
+pub fn analyze_sheet(tables: &[u16], work: &mut [u64], width: Width) -> Option<Fault>
     requires { AsksSheet tables.now width work.old × (1 ≤ query_count tables.now) }
     ensures { Analysed width tables.now work.new result }
 {

@@ -8,18 +8,17 @@ ghost use Rattle.definition_record.specs.Inner.Checks.{VarChecked, VarsChecked, 
 use crate::first::check_first_use;
 use definition_state::Progress;
 use scope_walk::next_of;
-use sheet::Row;
-use sheet_rows::kinds::VAR;
+use sheet::{Kind, Row};
 use sheet_rows::row_at;
 
 fn check_var(w: Row, p: Progress, firsts: &[u64]) -> Progress
     requires { (w.name < limits.per_name) × (limits.per_name ≤ length firsts.now) }
     ensures { VarChecked w p firsts.now result }
 {
-    if w.kind == VAR {
-        return check_first_use(w, p, firsts);
+    match Kind::from(w.kind) {
+        Kind::Var => check_first_use(w, p, firsts),
+        _ => p,
     }
-    p
 }
 
 // The variables of the chain from a row on.
@@ -71,52 +70,10 @@ pub fn check_assigned(
     let w = row_at(tables, row);
     let next = next_of(w, rest);
     let first = w.first as usize;
-    let kind = w.kind;
-    let q = match kind {
-        // String
-        1 => p,
-        // RawString
-        2 => p,
-        // Number
-        3 => p,
-        // Bool
-        4 => p,
-        // Null
-        5 => p,
-        // Var
-        6 => check_local(w, p, firsts),
-        // Array: items
-        7 => check_assigned(tables, first, true, p, firsts),
-        // Set
-        8 => p,
-        // Object: fields, keys and values in turn
-        9 => check_assigned(tables, first, true, p, firsts),
-        // ArrayCompr
-        10 => p,
-        // SetCompr
-        11 => p,
-        // ObjectCompr
-        12 => p,
-        // Call
-        13 => p,
-        // UnaryExpr
-        14 => p,
-        // RefDot
-        15 => p,
-        // RefBrack
-        16 => p,
-        // BinExpr
-        17 => p,
-        // BoolExpr
-        18 => p,
-        // ArithExpr
-        19 => p,
-        // AssignExpr `Eq`
-        20 => p,
-        // AssignExpr `ColEq`
-        21 => p,
-        // Membership
-        22 => p,
+    let q = match Kind::from(w.kind) {
+        Kind::Var => check_local(w, p, firsts),
+        // items; fields: keys and values in turn
+        Kind::Array | Kind::Object => check_assigned(tables, first, true, p, firsts),
         _ => p,
     };
     if next == 0 {

@@ -5,7 +5,7 @@ ghost use Rattle.base.specs.Limits as limits;
 ghost use Rattle.definition_record.specs.Inner.Each.{Less, EachFits, EachDefined};
 
 use definition_walk::index::push_definition;
-use names::{CAPACITY, Names};
+use names::Names;
 use names_width::Width;
 
 // The names that x is defined from: those used, without x itself where `without`.
@@ -33,12 +33,10 @@ pub fn define_each(
     ensures { EachDefined width statement names used without definitions.old definitions.new count result }
 {
     let mut n = count;
-    let mut x = names.next(0);
-    while x < CAPACITY {
+    for x in names.members() {
         let from = less(used, x, without);
         push_definition(statement, x, from, n, definitions, width);
-        n = n + 1;
-        x = names.next(x + 1);
+        n += 1;
     }
     n
 }

@@ -9,19 +9,18 @@ use crate::record::record_one;
 use definition_state::Progress;
 use names::Names;
 use names_width::Width;
-use order_rows::statement_at;
+use order_rows::Rows;
 
 // Is a row from `first` on, of `count` in all, one of the statement?
 fn has_row(statement: usize, first: usize, count: usize, work: &[u64], width: Width) -> bool
     requires { count ≤ length work.now / row_words width }
     ensures { Looked (row_words width) statement work.now first count result }
 {
-    let mut j = first;
-    while j < count {
-        if statement_at(width, work, j) == statement {
+    let rows = Rows { width, words: work };
+    for j in first..count {
+        if rows.statement(j) == statement {
             return true;
         }
-        j = j + 1;
     }
     false
 }

@@ -7,7 +7,7 @@ use crate::each::{define_each, less};
 use answer_blocks::answers_of;
 use definition_state::Progress;
 use definition_walk::index::push_definition;
-use names::{CAPACITY, Names};
+use names::Names;
 
 // The statement uses names under the empty name.
 pub fn record_one(statement: usize, used: Names, p: Progress, work: &mut [u64]) -> Progress
@@ -66,7 +66,7 @@ pub fn record_each(
     requires { NamesFit 1 names p work.old }
     ensures { EachRecorded statement names used without p work.old result work.new }
 {
-    if names.next(0) == CAPACITY {
+    if names.is_empty() {
         let from = less(used, 0, without);
         return record_one(statement, from, p, work);
     }

@@ -10,7 +10,7 @@ use names::Names;
 use scope_state::Scope;
 use scope_state::special::is_input;
 use scope_walk::next_of;
-use sheet::Row;
+use sheet::{Kind, Row};
 use sheet_rows::row_at;
 
 // Is a variable a local, and not `input`?
@@ -49,52 +49,10 @@ pub fn some_vars(tables: &[u16], scope: Scope, row: usize, names: Names) -> Name
     let w = row_at(tables, row);
     let next = next_of(w, true);
     let first = w.first as usize;
-    let kind = w.kind;
-    let s = match kind {
-        // String
-        1 => names,
-        // RawString
-        2 => names,
-        // Number
-        3 => names,
-        // Bool
-        4 => names,
-        // Null
-        5 => names,
-        // Var
-        6 => some_var(tables, scope, w, names),
-        // Array: items
-        7 => some_vars(tables, scope, first, names),
-        // Set
-        8 => names,
-        // Object: fields, keys and values in turn
-        9 => some_vars(tables, scope, first, names),
-        // ArrayCompr
-        10 => names,
-        // SetCompr
-        11 => names,
-        // ObjectCompr
-        12 => names,
-        // Call
-        13 => names,
-        // UnaryExpr
-        14 => names,
-        // RefDot
-        15 => names,
-        // RefBrack
-        16 => names,
-        // BinExpr
-        17 => names,
-        // BoolExpr
-        18 => names,
-        // ArithExpr
-        19 => names,
-        // AssignExpr `Eq`
-        20 => names,
-        // AssignExpr `ColEq`
-        21 => names,
-        // Membership
-        22 => names,
+    let s = match Kind::from(w.kind) {
+        Kind::Var => some_var(tables, scope, w, names),
+        // items; fields: keys and values in turn
+        Kind::Array | Kind::Object => some_vars(tables, scope, first, names),
         _ => names,
     };
     if next == 0 {
@@ -125,52 +83,10 @@ pub fn first_some(tables: &[u16], scope: Scope, row: usize, firsts: &mut [u64])
     let w = row_at(tables, row);
     let next = next_of(w, true);
     let first = w.first as usize;
-    let kind = w.kind;
-    match kind {
-        // String
-        1 => {}
-        // RawString
-        2 => {}
-        // Number
-        3 => {}
-        // Bool
-        4 => {}
-        // Null
-        5 => {}
-        // Var
-        6 => enter_var(tables, scope, w, firsts),
-        // Array: items
-        7 => first_some(tables, scope, first, firsts),
-        // Set
-        8 => {}
-        // Object: fields, keys and values in turn
-        9 => first_some(tables, scope, first, firsts),
-        // ArrayCompr
-        10 => {}
-        // SetCompr
-        11 => {}
-        // ObjectCompr
-        12 => {}
-        // Call
-        13 => {}
-        // UnaryExpr
-        14 => {}
-        // RefDot
-        15 => {}
-        // RefBrack
-        16 => {}
-        // BinExpr
-        17 => {}
-        // BoolExpr
-        18 => {}
-        // ArithExpr
-        19 => {}
-        // AssignExpr `Eq`
-        20 => {}
-        // AssignExpr `ColEq`
-        21 => {}
-        // Membership
-        22 => {}
+    match Kind::from(w.kind) {
+        Kind::Var => enter_var(tables, scope, w, firsts),
+        // items; fields: keys and values in turn
+        Kind::Array | Kind::Object => first_some(tables, scope, first, firsts),
         _ => {}
     }
     if next == 0 {

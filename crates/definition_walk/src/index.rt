@@ -13,18 +13,17 @@ use names::Names;
 use names_width::{Width, store_set};
 use scope_state::Scope;
 use scope_walk::next_of;
-use sheet::Row;
-use sheet_rows::kinds::REF_BRACK;
+use sheet::{Kind, Row};
 use sheet_rows::row_at;
 
 // The index of a bracket, 0 for any other row.
 pub fn index_of(w: Row) -> usize
     ensures { result ≡ cond (is_ref_brack w) w.second 0 }
 {
-    if w.kind == REF_BRACK {
-        return w.second as usize;
+    match Kind::from(w.kind) {
+        Kind::RefBrack => w.second as usize,
+        _ => 0,
     }
-    0
 }
 
 // Row `count`: the statement defines the name from the names `used`.
@@ -87,22 +86,10 @@ pub fn define_index(
     let w = row_at(tables, row);
     let next = next_of(w, true);
     let first = w.first as usize;
-    let kind = w.kind;
-    let n = match kind {
-        // String
-        1 => count,
-        // RawString
-        2 => count,
-        // Number
-        3 => count,
-        // Bool
-        4 => count,
-        // Null
-        5 => count,
-        // Var
-        6 => define_var(scope, statement, w, used, count, definitions, width),
-        // Array: items
-        7 => define_index(
+    let n = match Kind::from(w.kind) {
+        Kind::Var => define_var(scope, statement, w, used, count, definitions, width),
+        // items; fields: keys and values in turn
+        Kind::Array | Kind::Object => define_index(
             tables,
             scope,
             statement,
@@ -112,45 +99,6 @@ pub fn define_index(
             definitions,
             width,
         ),
-        // Set
-        8 => count,
-        // Object: fields, keys and values in turn
-        9 => define_index(
-            tables,
-            scope,
-            statement,
-            first,
-            used,
-            count,
-            definitions,
-            width,
-        ),
-        // ArrayCompr
-        10 => count,
-        // SetCompr
-        11 => count,
-        // ObjectCompr
-        12 => count,
-        // Call
-        13 => count,
-        // UnaryExpr
-        14 => count,
-        // RefDot
-        15 => count,
-        // RefBrack
-        16 => count,
-        // BinExpr
-        17 => count,
-        // BoolExpr
-        18 => count,
-        // ArithExpr
-        19 => count,
-        // AssignExpr `Eq`
-        20 => count,
-        // AssignExpr `ColEq`
-        21 => count,
-        // Membership
-        22 => count,
         _ => count,
     };
     if next == 0 {

@@ -14,16 +14,15 @@ use crate::own::owns;
 use names::Names;
 use scope_state::Scope;
 use scope_state::special::{is_input, is_special};
-use sheet::Row;
-use sheet_rows::kinds::{ARRAY_COMPR, OBJECT_COMPR};
+use sheet::{Kind, Row};
 
 pub fn is_compr(w: Row) -> bool
     ensures { result ≡ is_compr w }
 {
-    if w.kind < ARRAY_COMPR {
-        return false;
-    }
-    w.kind <= OBJECT_COMPR
+    matches!(
+        Kind::from(w.kind),
+        Kind::ArrayCompr | Kind::SetCompr | Kind::ObjectCompr
+    )
 }
 
 // A variable of the query: a use, unless the extra argument binds it.

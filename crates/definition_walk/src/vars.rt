@@ -13,7 +13,7 @@ use names::Names;
 use names_width::Width;
 use scope_state::Scope;
 use scope_walk::{next_of, none, one, three, two};
-use sheet::Row;
+use sheet::{Kind, Row};
 use sheet_rows::row_at;
 
 // No name so far; the rest stays.
@@ -84,9 +84,7 @@ fn used_here(
     Used {
         names,
         count,
-        undefined: part.undefined,
-        reads: part.reads,
-        comprs: part.comprs,
+        ..part
     }
 }
 
@@ -112,69 +110,34 @@ fn used_from(
     }
     let w = row_at(tables, row);
     let next = next_of(w, rest);
-    let kind = w.kind;
     let mut own = used;
-    let k = match kind {
-        // String
-        1 => none(),
-        // RawString
-        2 => none(),
-        // Number
-        3 => none(),
-        // Bool
-        4 => none(),
-        // Null
-        5 => none(),
-        // Var
-        6 => {
+    let k = match Kind::from(w.kind) {
+        Kind::String | Kind::RawString | Kind::Number | Kind::Bool | Kind::Null => none(),
+        Kind::Var => {
             own = use_var(tables, scope, extras, row, w, used, firsts);
             none()
         }
-        // Array: items
-        7 => one(w.first),
-        // Set: items
-        8 => one(w.first),
-        // Object: fields, keys and values in turn
-        9 => one(w.first),
-        // ArrayCompr
-        10 => {
+        // items; fields: keys and values in turn
+        Kind::Array | Kind::Set | Kind::Object => one(w.first),
+        Kind::ArrayCompr | Kind::SetCompr | Kind::ObjectCompr => {
             own = used.with_compr();
             none()
         }
-        // SetCompr
-        11 => {
-            own = used.with_compr();
-            none()
-        }
-        // ObjectCompr
-        12 => {
-            own = used.with_compr();
-            none()
-        }
-        // Call: params
-        13 => one(w.second),
-        // UnaryExpr: expr
-        14 => one(w.first),
-        // RefDot: refr
-        15 => one(w.first),
-        // RefBrack: refr, index
-        16 => {
+        // params
+        Kind::Call => one(w.second),
+        // expr; refr
+        Kind::UnaryExpr | Kind::RefDot => one(w.first),
+        // refr, index
+        Kind::RefBrack => {
             own = use_index(tables, scope, w, used);
             two(w.first, w.second)
         }
-        // BinExpr: lhs, rhs
-        17 => two(w.first, w.second),
-        // BoolExpr: lhs, rhs
-        18 => two(w.first, w.second),
-        // ArithExpr: lhs, rhs
-        19 => two(w.first, w.second),
-        // AssignExpr `Eq`: lhs, rhs
-        20 => two(w.first, w.second),
-        // AssignExpr `ColEq`: lhs, rhs
-        21 => two(w.first, w.second),
-        // Membership: key, value, collection
-        22 => three(w.first, w.second, w.third),
-        _ => none(),
+        // lhs, rhs
+        Kind::BinExpr | Kind::BoolExpr | Kind::ArithExpr | Kind::AssignEq | Kind::AssignColEq =>
+            two(w.first, w.second),
+        // key, value, collection
+        Kind::Membership => three(w.first, w.second, w.third),
+        Kind::Unknown => none(),
     };
     let mut part = fresh(own);
     if k.first != 0 {
@@ -258,7 +221,7 @@ pub fn used_vars(
     let start = Used {
         names,
         count,
-        undefined: 0,
+        undefined: None,
         reads: false,
         comprs: false,
     };

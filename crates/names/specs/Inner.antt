@@ -1,2 +1,5 @@
 pub mod Sets
 pub mod Lowest
+pub mod Zipped
+pub mod Members
+pub mod Names

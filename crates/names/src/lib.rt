@@ -1,104 +1,126 @@
-// Sets of names, a bit for each name. A name is a number below CAPACITY. Sets of statements are in `statements`.
+// Sets of small numbers, a bit for each number: of names, and of statements, which are the same sets of other sizes.
 // The public contracts speak of members alone (specs/Inner/Sets.antt); no caller sees a bit.
-// By value, words are read and stored in loops over WORDS alone: unrolled, these have constant indexes, where an index that a name gives would have
+// By value, words are read and stored at each index in turn: unrolled, these are constant indexes, where an index that a name gives would have
 // the set stored to memory and loaded back at once, which stalls. A set in lent words has no such cost (`has`, `add`).
 
 #![tactic(auto)]
 
-pub mod statements;
+mod members;
 
-ghost use Rattle.std.specs.Prelude.{◌≡◌, cond, ◌-◌, ◌<◌, length, get_or};
-ghost use Rattle.base.specs.Limits as limits;
+ghost use Rattle.std.specs.Prelude.{◌≡◌, ◌-◌, ◌*◌, ◌^◌, ◌<◌, length, get_or, bit_or, bit_and};
 ghost use Rattle.base.specs.Lists.{all};
 ghost use Rattle.base.specs.Sets.{member, members};
 ghost use Rattle.names.specs.Inner.Sets.{is_empty, Empty, Only, Inserted, Removed, Union, Difference, Intersection, Next};
 ghost use Rattle.names.specs.Inner.Lowest.{LowestBit};
+ghost use Rattle.names.specs.Inner.Zipped.{Zipped};
 
-// How many words a set has; the proofs say it in proofs/Size.antt.
+pub use members::Members;
+
+// The set of numbers below 64 * N: n is bit n % 64 of word n / 64. Laid out for C: it is part of what an exported call takes.
+#[repr(C)]
+#[derive(Clone, Copy)]
+pub struct Set<const N: usize> {
+    pub words: [u64; N],
+}
+
+// How many words a set of names has; the proofs say it in proofs/Size.antt.
 pub const WORDS: usize = base::WORDS;
 
 // How many names there are.
 pub const CAPACITY: usize = 64 * WORDS;
 
-// The name n is bit n % 64 of word n / 64. Laid out for C: it is part of what an exported call takes.
-#[repr(C)]
-#[derive(Clone, Copy)]
-pub struct Names {
-    pub words: [u64; WORDS],
-}
+pub type Names = Set<WORDS>;
 
-impl Names {
-    pub fn empty() -> Names
+// Two words, whatever the names: a list has at most 128 statements.
+pub type Statements = Set<2>;
+
+impl<const N: usize> Set<N> {
+    pub fn empty() -> Self
         ensures { Empty result.words }
     {
-        Names { words: [0; WORDS] }
+        Set { words: [0; N] }
     }
 
-    pub fn insert(self, name: usize) -> Names
-        requires { name < CAPACITY }
-        ensures { Inserted self.words name result.words }
+    pub fn insert(self, number: usize) -> Self
+        requires { number < 64 * N }
+        ensures { Inserted self.entry.words number result.words }
     {
-        self.union(Names::only(name))
+        self.union(Set::only(number))
     }
 
-    pub fn remove(self, name: usize) -> Names
-        requires { name < CAPACITY }
-        ensures { Removed self.words name result.words }
+    pub fn remove(self, number: usize) -> Self
+        requires { number < 64 * N }
+        ensures { Removed self.entry.words number result.words }
     {
-        self.difference(Names::only(name))
+        self.difference(Set::only(number))
     }
 
-    pub fn contains(self, name: usize) -> bool
-        requires { name < CAPACITY }
-        ensures { result ≡ member self.words name }
+    pub fn contains(self, number: usize) -> bool
+        requires { number < 64 * N }
+        ensures { result ≡ member self.entry.words number }
     {
-        (self.word_at(name / 64) >> (name % 64)) & 1 == 1
+        (self.word_at(number / 64) >> (number % 64)) & 1 == 1
     }
 
-    pub fn union(self, other: Names) -> Names
-        ensures { Union self.words other.words result.words }
+    pub fn union(self, other: Self) -> Self
+        ensures { Union self.entry.words other.entry.words result.words }
     {
-        let mut both = self;
-        for i in 0..WORDS {
-            both.words[i] = self.words[i] | other.words[i];
-        }
-        both
+        self.zip(
+            other,
+            |mine, theirs| -> u64
+                ensures { result ≡ bit_or mine theirs }
+            { mine | theirs },
+        )
     }
 
     // The members that are none of `other`'s.
-    pub fn difference(self, other: Names) -> Names
-        ensures { Difference self.words other.words result.words }
+    pub fn difference(self, other: Self) -> Self
+        ensures { Difference self.entry.words other.entry.words result.words }
     {
-        let mut rest = self;
-        for i in 0..WORDS {
-            rest.words[i] = self.words[i] & !other.words[i];
-        }
-        rest
+        self.zip(
+            other,
+            |mine, theirs| -> u64
+                ensures { result ≡ bit_and mine (2 ^ 64 - 1 - theirs) }
+            { mine & !theirs },
+        )
     }
 
     // The members that are `other`'s too.
-    pub fn intersection(self, other: Names) -> Names
-        ensures { Intersection self.words other.words result.words }
+    pub fn intersection(self, other: Self) -> Self
+        ensures { Intersection self.entry.words other.entry.words result.words }
     {
-        let mut shared = self;
-        for i in 0..WORDS {
-            shared.words[i] = self.words[i] & other.words[i];
+        self.zip(
+            other,
+            |mine, theirs| -> u64
+                ensures { result ≡ bit_and mine theirs }
+            { mine & theirs },
+        )
+    }
+
+    // The set whose words are made of these two sets'.
+    fn zip<F: Fn(u64, u64) -> u64>(self, other: Self, make: F) -> Self
+        requires { F.IsAlwaysCallable make }
+        ensures { Zipped (F.post make) N self.entry.words other.entry.words result.words }
+    {
+        let mut words = self.words;
+        for i in 0..N {
+            words[i] = make(words[i], other.words[i]);
         }
-        shared
+        Set { words }
     }
 
     // Is there no member?
     pub fn is_empty(self) -> bool
-        ensures { result ≡ is_empty self.words }
+        ensures { result ≡ is_empty self.entry.words }
     {
-        self.is_subset(Names::empty())
+        self.is_subset(Set::empty())
     }
 
     // Is every member one of `other`'s?
-    pub fn is_subset(self, other: Names) -> bool
-        ensures { result ≡ all (member other.words) (members self.words) }
+    pub fn is_subset(self, other: Self) -> bool
+        ensures { result ≡ all (member other.entry.words) (members self.entry.words) }
     {
-        for i in 0..WORDS {
+        for i in 0..N {
             let theirs = other.words[i];
             if self.words[i] | theirs != theirs {
                 return false;
@@ -107,76 +129,72 @@ impl Names {
         true
     }
 
-    // The lowest member from `from` up, or CAPACITY where there is none: so always where `from` is CAPACITY or more.
-    // A loop over the members, from the lowest up:
-    //     let mut n = s.next(0);
-    //     while n < CAPACITY { ..; n = s.next(n + 1); }
+    // The lowest member from `from` up, or the set's capacity where there is none: so always where `from` is that or more.
     pub fn next(self, from: usize) -> usize
-        ensures { Next self.words CAPACITY from result }
+        requires { 64 * N < 2 ^ 64 }
+        ensures { Next self.entry.words (64 * N) from result }
     {
-        for i in from / 64..WORDS {
-            let k = lowest(self.words[i], above(from, 64 * i));
+        for i in from / 64..N {
+            let k = lowest(self.words[i], from.saturating_sub(64 * i));
             if k < 64 {
                 return 64 * i + k;
             }
         }
-        CAPACITY
+        64 * N
     }
 
-    // The set that has `name` alone.
-    fn only(name: usize) -> Names
-        requires { name < CAPACITY }
-        ensures { Only name result.words }
+    // All members, from the lowest up: `for name in names.members()`.
+    pub fn members(self) -> Members<N>
+        ensures { (result.set ≡ self.entry) × (result.from ≡ 0) }
     {
-        let mut one = Names { words: [0; WORDS] };
-        for i in 0..WORDS {
-            one.words[i] = pick(i == name / 64, 1 << (name % 64), 0);
+        Members { set: self, from: 0 }
+    }
+
+    // The set that has `number` alone.
+    fn only(number: usize) -> Self
+        requires { number < 64 * N }
+        ensures { Only number result.words }
+    {
+        let mut words = [0; N];
+        for i in 0..N {
+            words[i] = if i == number / 64 {
+                1 << (number % 64)
+            } else {
+                0
+            };
         }
-        one
+        Set { words }
     }
 
     // The word at `at`.
     fn word_at(self, at: usize) -> u64
-        requires { at < WORDS }
-        ensures { result ≡ get_or self.words at 0 }
+        requires { at < N }
+        ensures { result ≡ get_or self.entry.words at 0 }
     {
         let mut word = 0;
-        for i in 0..WORDS {
-            word = pick(i == at, self.words[i], word);
+        for i in 0..N {
+            if i == at {
+                word = self.words[i];
+            }
         }
         word
     }
 }
 
-// `a` where `first` holds, and `b` where not.
-pub(crate) fn pick(first: bool, a: u64, b: u64) -> u64
-    ensures { result ≡ cond first a b }
+// Is the number in the set with these words? What is lent stays in memory, where a set by value is copied at each call.
+pub fn has<const N: usize>(words: &[u64; N], number: usize) -> bool
+    requires { (length words.now ≡ N) × (number < 64 * N) }
+    ensures { result ≡ member words.now number }
 {
-    if first { a } else { b }
+    (words[number / 64] >> (number % 64)) & 1 == 1
 }
 
-// Is the name in the set with these words? What is lent stays in memory, where a set by value is copied at each call.
-pub fn has(words: &[u64; WORDS], name: usize) -> bool
-    requires { (length words.now ≡ (limits.library).words) × (name < limits.per_name) }
-    ensures { result ≡ member words.now name }
+// Puts a number into the set with these words.
+pub fn add<const N: usize>(words: &mut [u64; N], number: usize)
+    requires { (length words.old ≡ N) × (number < 64 * N) }
+    ensures { (length words.new ≡ N) × Inserted words.old number words.new }
 {
-    (words[name / 64] >> (name % 64)) & 1 == 1
-}
-
-// Puts a name into the set with these words.
-pub fn add(words: &mut [u64; WORDS], name: usize)
-    requires { (length words.old ≡ (limits.library).words) × (name < limits.per_name) }
-    ensures { (length words.new ≡ 8) × Inserted words.old name words.new }
-{
-    let at = name / 64;
-    words[at] = words[at] | (1 << (name % 64));
-}
-
-// How far `a` is above `b`: 0 where it is not.
-pub fn above(a: usize, b: usize) -> usize
-    ensures { result ≡ a - b }
-{
-    if b < a { a - b } else { 0 }
+    words[number / 64] |= 1 << (number % 64);
 }
 
 // The lowest set bit of `word` from bit `from` up: 64 or more where there is none.
@@ -184,7 +202,7 @@ pub fn lowest(word: u64, from: usize) -> usize
     ensures { LowestBit word from result }
 {
     if from < 64 {
-        from + u64::trailing_zeros(word >> from) as usize
+        from + (word >> from).trailing_zeros() as usize
     } else {
         64
     }

@@ -7,10 +7,10 @@ ghost use Rattle.names.specs.Inner.Sets.{Next};
 ghost use Rattle.names_width.specs.Inner.Widths.{set_words, names, work, row_words, Same, Put};
 ghost use Rattle.base.specs.Sets.{words_at};
 
-use names::{Names, above, lowest};
+use names::{Names, lowest};
 
 // How many words a set has: a call's limits say it.
-#[derive(Clone, Copy)]
+#[derive(Clone, Copy, PartialEq, Eq, Debug)]
 pub enum Width {
     Two,
     Eight,
@@ -26,14 +26,11 @@ impl Width {
         }
     }
 
-    // The largest name.
+    // The largest name: a set has a bit for it, and one for the empty name.
     pub fn names(self) -> usize
         ensures { result ≡ names self }
     {
-        match self {
-            Width::Two => base::PRINTING_NAMES,
-            Width::Eight => base::NAMES,
-        }
+        64 * self.words() - 1
     }
 
     // The words of work that a call asks for.
@@ -50,10 +47,7 @@ impl Width {
     pub fn row(self) -> usize
         ensures { result ≡ row_words self }
     {
-        match self {
-            Width::Two => 4,
-            Width::Eight => 10,
-        }
+        2 + self.words()
     }
 }
 
@@ -63,11 +57,9 @@ pub fn load_set(width: Width, memory: &[u64], at: usize) -> Names
     ensures { Same (words_at (set_words width) memory.now at) result.words }
 {
     let count = width.words();
-    let mut set = Names::empty();
-    for i in 0..count {
-        set.words[i] = memory[at + i];
-    }
-    set
+    let mut words = [0; base::WORDS];
+    words[..count].copy_from_slice(&memory[at..at + count]);
+    Names { words }
 }
 
 // Puts a set's words from `at` up, as many as the width has.
@@ -76,10 +68,7 @@ pub fn store_set(width: Width, memory: &mut [u64], at: usize, set: Names)
     ensures { Put (set_words width) memory.old at set.words memory.new }
 {
     let count = width.words();
-    let words = set.words;
-    for i in 0..count {
-        memory[at + i] = words[i];
-    }
+    memory[at..at + count].copy_from_slice(&set.words[..count]);
 }
 
 // The lowest member, from `from` up, of the set whose words stand from `at` up; the end of these words where there is none.
@@ -88,8 +77,16 @@ pub fn next_at(width: Width, memory: &[u64], at: usize, from: usize) -> usize
     ensures { Next (words_at (set_words width) memory.now at) (64 * set_words width) from result }
 {
     let count = width.words();
-    for i in from / 64..count {
-        let k = lowest(memory[at + i], above(from, 64 * i));
+    let first = from / 64;
+    if count <= first {
+        return 64 * count;
+    }
+    let k = lowest(memory[at + first], from % 64);
+    if k < 64 {
+        return 64 * first + k;
+    }
+    for i in first + 1..count {
+        let k = lowest(memory[at + i], 0);
         if k < 64 {
             return 64 * i + k;
         }

@@ -5,9 +5,8 @@ use Rattle.base.specs.Limits.{Limits, library}
 use Rattle.order.specs.Call.{refusal, schedule_number, schedule_outcome, order_buffer, reached_buffer}
 use Rattle.order_records.specs.declared.Definition.{Definition}
 use Rattle.order_records.specs.Records.{rows_of_records}
-use Rattle.sheet.specs.declared.Outcome.{Outcome}
 use Rattle.sheet.specs.Verdict as Verdict
-use Rattle.sheet.specs.Verdict.{verdict, left_tables}
+use Rattle.sheet.specs.Verdict.{Outcome, verdict, left_tables}
 use Rattle.answer.specs.Call.{Left, left}
 
 -- `nokchbem_schedule`: the number of its outcome, and every element of both buffers, whatever stood in them before.

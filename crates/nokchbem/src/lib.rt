@@ -2,18 +2,15 @@
 
 #![tactic(auto)]
 
-ghost use Rattle.std.specs.Prelude.{◌≡◌, List, ◌≤◌, length};
+ghost use Rattle.std.specs.Prelude.{◌≡◌, ◌≤◌, length};
 ghost use Rattle.base.specs.Limits.{library};
 ghost use Rattle.order.specs.Call.{refusal};
-ghost use Rattle.order_records.specs.declared.Definition.{Definition};
-ghost use Rattle.order_records.specs.Inner.Copies.{CopyOf};
 ghost use Rattle.nokchbem.specs.Calls.{ScheduleCall, RecordsCall, ReadCall, AnalyzeCall};
 
-use base::DEFINITIONS;
 use names_width::Width;
-use order_records::Definition;
+use order_records::{Definition, schedule_records};
+use order_rows::Rows;
 use order_schedule::{number_of, schedule};
-use sheet_read::line_of;
 
 // A refusal and its position as one number.
 pub fn pack(number: u64, line: usize, col: usize) -> u64
@@ -36,20 +33,11 @@ pub fn nokchbem_schedule(
 ) -> u64
     ensures { ScheduleCall definitions.now statements (length order.old) (length reached.old) result order.new reached.new }
 {
-    number_of(schedule(Width::Eight, definitions, statements, order, reached))
-}
-
-// The call below, over a copy of its records.
-fn schedule_copy(
-    all: [Definition; DEFINITIONS],
-    len: usize,
-    statements: usize,
-    order: &mut [u16],
-    reached: &mut [u16],
-) -> u64
-    ensures { (records : List Definition) → length records ≡ len → CopyOf all records → RecordsCall records statements (length order.old) (length reached.old) result order.new reached.new }
-{
-    number_of(order_records::schedule_copy(all, len, statements, order, reached))
+    let rows = Rows {
+        width: Width::Eight,
+        words: definitions,
+    };
+    number_of(schedule(rows, statements, order, reached))
 }
 
 // The same as `nokchbem_schedule`, of definitions that are records. More than 640 of them are refused as more than 640 rows are.
@@ -61,13 +49,7 @@ pub fn nokchbem_schedule_records(
 ) -> u64
     ensures { RecordsCall records.now statements (length order.old) (length reached.old) result order.new reached.new }
 {
-    schedule_copy(
-        order_records::copied(records),
-        records.len(),
-        statements,
-        order,
-        reached,
-    )
+    number_of(schedule_records(records, statements, order, reached))
 }
 
 // Reads a sheet, and answers whether it passes questions 1 to 6.
@@ -77,8 +59,10 @@ pub fn nokchbem_schedule_records(
 pub fn nokchbem_read(sheet: &[u8], tables: &mut [u16], work: &mut [u64]) -> u64
     ensures { ReadCall library sheet.now (length tables.old) (length work.old) result tables.new work.new }
 {
-    let outcome = sheet_read::read(sheet, tables, work, Width::Eight);
-    pack(sheet_read::number_of(outcome), line_of(outcome), 0)
+    match sheet_read::read(sheet, tables, work, Width::Eight) {
+        Ok(()) => 0,
+        Err(refusal) => pack(u64::from(refusal.number()), refusal.line(), 0),
+    }
 }
 
 // Analyses the queries of a sheet, and writes the text of the answer.

@@ -1,6 +1,6 @@
 -- The scheduler's call: definitions as rows of words, its one question, and what it returns and leaves.
 -- Beside: document 01, Questions (the scheduler's own call).
-use Rattle.std.specs.Prelude.{List, map, ◌++◌, ℕ, ◌+◌, ◌-◌, ◌*◌, ◌/◌, ◌%◌, ◌^◌, length, get_or, replicate, Bool, ◌&&◌, true, false, cond, eqb, ltb, leb}
+use Rattle.std.specs.Prelude.{List, map, ◌++◌, ℕ, ◌+◌, ◌-◌, ◌*◌, ◌/◌, ◌%◌, ◌^◌, length, get_or, replicate, Bool, ◌&&◌, cond, eqb, ltb, leb, Result, Ok, Err}
 use Rattle.base.specs.Lists.{range, all}
 use Rattle.base.specs.Sets.{members, words_at}
 use Rattle.order.specs.Definitions.{Definition}
@@ -8,8 +8,8 @@ use Rattle.base.specs.Limits as limits
 use Rattle.base.specs.Limits.{Limits}
 use Rattle.base.specs.Refusals as refusals
 use Rattle.order.specs.Turns.{placed, order, reached, mark}
-use Rattle.order.specs.declared.Outcome.{Outcome}
-use Rattle.order.specs.declared.Outcome.TheVariants.{Refused, Placed, Unplaced}
+use Rattle.order.specs.declared.Refused.{Refused}
+use Rattle.order.specs.declared.Refused.TheVariants.{BadList}
 
 -- ---- definitions as rows of words
 
@@ -54,21 +54,22 @@ module _ (lim : Limits) where
 abbrev pub refusal : ℕ → ℕ → ℕ → ℕ
 refusal number line col = number * 2 ^ 32 + line * 2 ^ 16 + col
 
+-- What the call comes to: the list is refused, or it is scheduled, and all statements are placed or not.
+abbrev pub ScheduleOutcome : Type 0
+ScheduleOutcome = Result Bool Refused
+
 -- The number that an outcome is returned as: a refusal at line 0, column 0; or the mark placed.
-abbrev pub schedule_number : Outcome → ℕ
-schedule_number Refused = refusal refusals.bad_list 0 0
-schedule_number Placed = 1
-schedule_number Unplaced = 0
+abbrev pub schedule_number : ScheduleOutcome → ℕ
+schedule_number (Err BadList) = refusal refusals.bad_list 0 0
+schedule_number (Ok all) = mark all
 
 -- The outcome, by whether the list is accepted and whether it is placed.
-abbrev pub outcome : Bool → Bool → Outcome
-outcome false p = Refused
-outcome true true = Placed
-outcome true false = Unplaced
+abbrev pub outcome : Bool → Bool → ScheduleOutcome
+outcome accepted all = cond accepted (Ok all) (Err BadList)
 
 -- Rows `ws` of definitions, n statements, and buffers of lengths `room` and `marks`; names below 512.
 module _ (lim : Limits) (ws : List ℕ) (n room marks : ℕ) where
-  abbrev pub schedule_outcome : Outcome
+  abbrev pub schedule_outcome : ScheduleOutcome
   schedule_outcome = outcome (accepts lim ws n room marks) (placed (definitions lim.row ws) n limits.per_name)
 
   -- An entry for each statement and zeros after; zeros throughout on a refusal.

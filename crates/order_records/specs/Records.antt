@@ -13,7 +13,7 @@ use Rattle.order.specs.Call.{within}
 
 -- The eight words of a record's used set.
 abbrev pub used_words : Definition → List ℕ
-used_words d = words_at 8 d.used.words 0
+used_words d = words_at 8 d.used 0
 
 -- The row of a record, ten words.
 abbrev pub row_of_record : Definition → List ℕ

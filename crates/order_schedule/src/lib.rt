@@ -2,57 +2,65 @@
 
 #![tactic(auto)]
 
-ghost use Rattle.std.specs.Prelude.{◌≡◌, ℕ, length, get_or};
+ghost use Rattle.std.specs.Prelude.{◌≡◌, true, ℕ, ◌<◌, length};
 ghost use Rattle.base.specs.Limits as limit;
+ghost use Rattle.base.specs.Sets.{member};
 ghost use Rattle.order.specs.Inner.Orders.{placed_order};
 ghost use Rattle.names_width.specs.Widths.{limits};
-ghost use Rattle.names_width.specs.Inner.Widths.{row_words};
-ghost use Rattle.order.specs.Call.{definitions, schedule_number};
+ghost use Rattle.order.specs.Call.{schedule_number};
+ghost use Rattle.order_rows.specs.Inner.Rows.{definitions_of};
 ghost use Rattle.order_bounds.specs.Inner.Answers.{AcceptedList};
 ghost use Rattle.order_place.specs.Inner.State.{After};
-ghost use Rattle.order_schedule.specs.Inner.Call.{Arranged, Scheduled};
+ghost use Rattle.order_schedule.specs.Inner.Call.{Arranged, Scheduled, MarkedBy};
 
-use names_width::Width;
-use order::Outcome;
-use order_place::State;
-use order_rows::{CELLS, MASKS};
+use base::{DEFINITIONS, STATEMENTS};
+use names::{CAPACITY, Statements};
+use order::{Refused, ScheduleOutcome};
+use order_place::{Indexed, State, place_all};
+use order_rows::{Links, Rows, link, mask};
 
-// Indexes the rows of a list in bounds, and places what can be placed in buffers of zeros.
-pub fn place_rows(
-    width: Width,
-    rows: &[u64],
-    n: usize,
-    order: &mut [u16],
-    reached: &mut [u16],
-) -> State
-    requires accepted_list { AcceptedList (limits width) rows.now n (length order.old) (length reached.old) }
-    requires order_zeros { (i : ℕ) → get_or order.old i 0 ≡ 0 }
-    requires reached_zeros { (i : ℕ) → get_or reached.old i 0 ≡ 0 }
-    ensures { After (definitions (row_words width) rows.now) n (placed_order (definitions (row_words width) rows.now) n limit.per_name) result order.new reached.new }
+// Indexes the rows of a list in bounds, and places what can be placed.
+fn place_rows(rows: Rows<'_>, n: usize) -> State
+    requires { AcceptedList (limits rows.width) rows.words.now n n n }
+    ensures { After (definitions_of rows.entry) n (placed_order (definitions_of rows.entry) n limit.per_name) result }
 {
-    let mut links: [u16; CELLS] = [0; CELLS];
-    order_rows::link(width, rows, &mut links);
-    let mut masks: [u64; MASKS] = [0; MASKS];
-    let defined = order_rows::mask(width, rows, &mut masks);
-    order_place::place_all(width, rows, &links, &masks, defined, n, order, reached)
+    let mut links = Links {
+        first: [0; STATEMENTS],
+        next: [0; DEFINITIONS],
+    };
+    link(rows, &mut links);
+    let mut masks = [Statements::empty(); CAPACITY];
+    let defined = mask(rows, &mut masks);
+    place_all(&Indexed {
+        rows,
+        n,
+        links: &links,
+        masks: &masks,
+        defined,
+    })
+}
+
+// A mark for each statement of a set, and zeros.
+fn mark(placed: Statements, reached: &mut [u16])
+    requires { (i : ℕ) → member placed.words i ≡ true → i < length reached.old }
+    ensures { MarkedBy placed.words reached.old reached.new }
+{
+    reached.fill(0);
+    for i in placed.members() {
+        reached[i] = 1;
+    }
 }
 
 // A list in bounds: the turn rule; where not all are placed, the written order. Are all placed?
-pub fn arrange_rows(
-    width: Width,
-    rows: &[u64],
-    n: usize,
-    order: &mut [u16],
-    reached: &mut [u16],
-) -> bool
-    requires accepted_list { AcceptedList (limits width) rows.now n (length order.old) (length reached.old) }
-    requires order_zeros { (i : ℕ) → get_or order.old i 0 ≡ 0 }
-    requires reached_zeros { (i : ℕ) → get_or reached.old i 0 ≡ 0 }
-    ensures { Arranged (limits width) rows.now n (length order.old) (length reached.old) result order.new reached.new }
+pub fn arrange_rows(rows: Rows<'_>, n: usize, order: &mut [u16], reached: &mut [u16]) -> bool
+    requires accepted_list { AcceptedList (limits rows.width) rows.words.now n (length order.old) (length reached.old) }
+    ensures { Arranged (limits rows.entry.width) rows.entry.words.now n (length order.old) (length reached.old) result order.new reached.new }
 {
-    let end = place_rows(width, rows, n, order, reached);
-    let count = end.count;
-    if count == n {
+    let state = place_rows(rows, n);
+    mark(state.placed, reached);
+    order.fill(0);
+    if state.count == n {
+        order[..n].copy_from_slice(&state.order[..n]);
         return true;
     }
     buffers::count_up(order, n);
@@ -60,33 +68,23 @@ pub fn arrange_rows(
 }
 
 // The call: its question, then the list is arranged.
-pub fn schedule(
-    width: Width,
-    rows: &[u64],
-    n: usize,
-    order: &mut [u16],
-    reached: &mut [u16],
-) -> Outcome
-    ensures { Scheduled (limits width) rows.now n (length order.old) (length reached.old) result order.new reached.new }
+pub fn schedule(rows: Rows<'_>, n: usize, order: &mut [u16], reached: &mut [u16]) -> ScheduleOutcome
+    ensures { Scheduled (limits rows.entry.width) rows.entry.words.now n (length order.old) (length reached.old) result order.new reached.new }
 {
-    buffers::clear(order);
-    buffers::clear(reached);
-    if !order_bounds::admits(width, rows, n, order.len(), reached.len()) {
-        return Outcome::Refused;
+    if !order_bounds::admits(rows, n, order.len(), reached.len()) {
+        order.fill(0);
+        reached.fill(0);
+        return Err(Refused::BadList);
     }
-    if arrange_rows(width, rows, n, order, reached) {
-        return Outcome::Placed;
-    }
-    Outcome::Unplaced
+    Ok(arrange_rows(rows, n, order, reached))
 }
 
 // The number that an outcome is returned as.
-pub fn number_of(outcome: Outcome) -> u64
+pub fn number_of(outcome: ScheduleOutcome) -> u64
     ensures { result ≡ schedule_number outcome }
 {
     match outcome {
-        Outcome::Refused => 0x8_0000_0000,
-        Outcome::Placed => 1,
-        Outcome::Unplaced => 0,
+        Err(Refused::BadList) => 0x8_0000_0000,
+        Ok(all) => all as u64,
     }
 }

@@ -8,31 +8,28 @@ ghost use Rattle.answer.specs.Call.{result_of, printed};
 ghost use Rattle.io.specs.Counts.{IsPrefixLen};
 ghost use Rattle.print.specs.Inner.Ends.{Ends};
 
-use answer_text::rows::put_three;
-use answer_write::{put, put_bytes};
+use answer_text::rows::put_row;
+use answer_write::Text;
 use names_width::Width;
 
 fn put_refusal(answer: &mut [u8], number: usize, line: usize, col: usize) -> usize
     requires { (number ≤ 65535) × (line ≤ 65535) × (col ≤ 65535) }
     ensures { Puts answer.old 0 (refusal_text number line col) answer.new result }
 {
-    let row = put_bytes(answer, 0, b"refusal line col\n");
-    let end = put_three(answer, row, number, line, col);
-    put(answer, end, b'\n')
+    let mut text = Text::new(answer);
+    text.put_bytes(b"refusal line col\n");
+    put_row(&mut text, &[number, line, col]);
+    text.put(b'\n');
+    text.end()
 }
 
 // How many bytes stand in front of the first zero.
 fn text_length(text: &[u8]) -> usize
     ensures { Ends text.now result }
 {
-    let mut at = 0;
-    while at < text.len() {
-        if text[at] == 0 {
-            return at;
-        }
-        at += 1;
-    }
-    at
+    text.iter()
+        .position(|byte| *byte == 0)
+        .unwrap_or(text.len())
 }
 
 // Answers how many bytes are to be printed. Any refusal has room in 64.

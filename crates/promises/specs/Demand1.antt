@@ -1,13 +1,12 @@
 -- Demand 1: what a call on a sheet can come to. Refusals, each with where it lies; or a text that fits.
 -- Beside: document 01, Questions (the last paragraph).
-use Rattle.std.specs.Prelude.{◌≡◌, true, List, [], ◌∷◌, ◌++◌, ℕ, ◌≤◌, ◌-◌, ◌/◌, ◌%◌, ◌^◌, length, replicate}
+use Rattle.std.specs.Prelude.{◌≡◌, true, List, [], ◌∷◌, ◌++◌, ℕ, ◌≤◌, ◌-◌, ◌/◌, ◌%◌, ◌^◌, length, replicate, Ok}
 use Rattle.base.specs.Lists.{elem}
 use Rattle.base.specs.Refusals as refusals
 use Rattle.base.specs.Limits.{Limits}
 use Rattle.base.specs.Limits as least
 use Rattle.names_width.specs.declared.Width.{Width}
 use Rattle.names_width.specs.Widths.{limits}
-use Rattle.sheet.specs.declared.Outcome.TheVariants.{Read}
 use Rattle.sheet.specs.Verdict.{read_tables, verdict}
 use Rattle.answer.specs.Call.{refused, answered, result_of}
 use Rattle.nokchbem.specs.Calls.{AnalyzeCall, ReadCall}
@@ -64,5 +63,5 @@ module _ (v : Width) {s : List ℕ} {tables work r : ℕ} {t w : List ℕ} (call
   -- Either 0 is returned and the tables hold the sheet's counts and rows, with zeros behind them; or a refusal with its position, and the tables
   -- are zeros. Work is zeros in both cases.
   pub data HasRead : Type 0 where
-    succeeds : r ≡ 0 → verdict (limits v) s tables work ≡ Read → t ≡ read_tables s ++ replicate (tables - least.table_entries) 0 → w ≡ replicate work 0 → HasRead
+    succeeds : r ≡ 0 → verdict (limits v) s tables work ≡ Ok tt → t ≡ read_tables s ++ replicate (tables - least.table_entries) 0 → w ≡ replicate work 0 → HasRead
     refuses : (n l : ℕ) → Parts r n l 0 → Position n l 0 → t ≡ replicate tables 0 → w ≡ replicate work 0 → HasRead

@@ -8,19 +8,20 @@ ghost use Rattle.scope_gather.specs.Inner.Locals.{LocalStep, LocalsEach};
 use scope_state::Scope;
 use scope_state::spans::put_span;
 use scope_walk::next_of;
-use sheet::Row;
-use sheet_rows::kinds::VAR;
+use sheet::{Kind, Row};
 use sheet_rows::row_at;
 
 fn local_step(w: Row, scope: Scope, spans: &mut [u32]) -> Scope
     requires { (w.name < limits.per_name) × (limits.per_name ≤ length spans.old) }
     ensures { LocalStep w scope spans.old result spans.new }
 {
-    if w.kind == VAR {
-        put_span(spans, w);
-        return scope.add_local(w.name as usize);
+    match Kind::from(w.kind) {
+        Kind::Var => {
+            put_span(spans, w);
+            scope.add_local(w.name as usize)
+        }
+        _ => scope,
     }
-    scope
 }
 
 // Those of the chain from a row on.

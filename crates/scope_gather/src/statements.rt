@@ -9,8 +9,7 @@ use scope_paths::extra::get_extra_arg;
 use scope_state::Scope;
 use scope_vars::each::{gather_read_each, gather_vars_each};
 use scope_vars::vars::{gather_read, gather_vars, is_assign};
-use sheet::Statement;
-use sheet_rows::kinds::{EXPR, NOT_EXPR, SOME_IN, SOME_VARS};
+use sheet::{Form, Statement};
 use sheet_rows::row_at;
 
 // An expression by itself: an assignment binds, and so does an extra argument.
@@ -40,21 +39,18 @@ fn gather_literal(
     requires { AsksStmt tables.now outer.now st spans.old }
     ensures { LiteralStep tables.now outer.now st scope spans.old result spans.new }
 {
-    if st.form == SOME_VARS {
-        return add_locals(tables, st.first as usize, scope, spans);
+    match Form::from(st.form) {
+        Form::SomeVars => add_locals(tables, st.first as usize, scope, spans),
+        Form::SomeIn => {
+            let mut s = gather_vars_each(tables, outer, st.first as usize, true, scope, spans);
+            s = gather_vars_each(tables, outer, st.second as usize, true, s, spans);
+            gather_read(tables, outer, st.third as usize, true, s, spans)
+        }
+        Form::Expr | Form::NotExpr => gather_expr(tables, outer, st.first as usize, scope, spans),
+        Form::Every | Form::Unknown => {
+            gather_read(tables, outer, st.third as usize, true, scope, spans)
+        }
     }
-    if st.form == SOME_IN {
-        let mut s = gather_vars_each(tables, outer, st.first as usize, true, scope, spans);
-        s = gather_vars_each(tables, outer, st.second as usize, true, s, spans);
-        return gather_read(tables, outer, st.third as usize, true, s, spans);
-    }
-    if st.form == EXPR {
-        return gather_expr(tables, outer, st.first as usize, scope, spans);
-    }
-    if st.form == NOT_EXPR {
-        return gather_expr(tables, outer, st.first as usize, scope, spans);
-    }
-    gather_read(tables, outer, st.third as usize, true, scope, spans)
 }
 
 // The modifiers come first.

@@ -9,20 +9,12 @@ use crate::Scope;
 use crate::spans::LINE;
 use names::{CAPACITY, Names};
 
-fn lesser(a: u32, b: u32) -> u32
-    ensures { result ≡ min a b }
-{
-    if a < b { a } else { b }
-}
-
 // `to` receives the number of each name.
 fn copy(from: &[u32], to: &mut [u32])
     requires { (limits.per_name ≤ length from.now) × (limits.per_name ≤ length to.old) }
     ensures { Copied from.now limits.per_name to.new }
 {
-    for name in 0..CAPACITY {
-        to[name] = from[name];
-    }
+    to[..CAPACITY].copy_from_slice(&from[..CAPACITY]);
 }
 
 // A local exists from its line on, where it did not before.
@@ -30,10 +22,8 @@ fn lower_locals(locals: Names, spans: &[u32], inner: &mut [u32])
     requires { (limits.per_name ≤ length spans.now) × (limits.per_name ≤ length inner.old) }
     ensures { Lowered locals.words spans.now inner.old inner.new }
 {
-    let mut name = locals.next(0);
-    while name < CAPACITY {
-        inner[name] = lesser(spans[name] / LINE, inner[name]);
-        name = locals.next(name + 1);
+    for name in locals.members() {
+        inner[name] = inner[name].min(spans[name] / LINE);
     }
 }
 
@@ -42,10 +32,8 @@ fn clear_unscoped(unscoped: Names, inner: &mut [u32])
     requires { limits.per_name ≤ length inner.old }
     ensures { Cleared unscoped.words inner.old inner.new }
 {
-    let mut name = unscoped.next(0);
-    while name < CAPACITY {
+    for name in unscoped.members() {
         inner[name] = 0;
-        name = unscoped.next(name + 1);
     }
 }
 

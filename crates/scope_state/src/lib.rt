@@ -39,73 +39,43 @@ impl Scope {
         ensures { WithLocal self name result }
     {
         let locals = self.locals.insert(name);
-        let unscoped = self.unscoped;
-        let inputs = self.inputs;
-        Scope {
-            locals,
-            unscoped,
-            inputs,
-            uses: self.uses,
-        }
+        Scope { locals, ..self }
     }
 
     pub fn add_unscoped(self, name: usize) -> Scope
         requires { name < limits.per_name }
         ensures { WithUnscoped self name result }
     {
-        let locals = self.locals;
         let unscoped = self.unscoped.insert(name);
-        let inputs = self.inputs;
-        Scope {
-            locals,
-            unscoped,
-            inputs,
-            uses: self.uses,
-        }
+        Scope { unscoped, ..self }
     }
 
     pub fn add_input(self, name: usize) -> Scope
         requires { name < limits.per_name }
         ensures { WithInput self name result }
     {
-        let locals = self.locals;
-        let unscoped = self.unscoped;
         let inputs = self.inputs.insert(name);
-        Scope {
-            locals,
-            unscoped,
-            inputs,
-            uses: self.uses,
-        }
+        Scope { inputs, ..self }
     }
 
     // The flag is set, if `set`.
     pub fn use_input(self, set: bool) -> Scope
         ensures { WithFlag self set result }
     {
-        let locals = self.locals;
-        let unscoped = self.unscoped;
-        let inputs = self.inputs;
-        Scope {
-            locals,
-            unscoped,
-            inputs,
-            uses: set || self.uses,
-        }
+        let uses = set || self.uses;
+        Scope { uses, ..self }
     }
 
     // The locals leave inputs and unscoped.
     pub fn remove_shadowed(self) -> Scope
         ensures { WithoutLocals self result }
     {
-        let locals = self.locals;
-        let unscoped = self.unscoped.difference(locals);
-        let inputs = self.inputs.difference(locals);
+        let unscoped = self.unscoped.difference(self.locals);
+        let inputs = self.inputs.difference(self.locals);
         Scope {
-            locals,
             unscoped,
             inputs,
-            uses: self.uses,
+            ..self
         }
     }
 
@@ -113,29 +83,18 @@ impl Scope {
     pub fn opened(self) -> Scope
         ensures { Opened self result }
     {
-        let locals = self.locals;
-        let unscoped = locals.union(self.unscoped);
-        let inputs = self.inputs;
-        Scope {
-            locals,
-            unscoped,
-            inputs,
-            uses: self.uses,
-        }
+        let unscoped = self.locals.union(self.unscoped);
+        Scope { unscoped, ..self }
     }
 
     // The same locals and unscoped names, with the inputs and the flag of `other`.
     pub fn with_inputs_of(self, other: Scope) -> Scope
         ensures { result ≡ with_inputs_of self other }
     {
-        let locals = self.locals;
-        let unscoped = self.unscoped;
-        let inputs = other.inputs;
         Scope {
-            locals,
-            unscoped,
-            inputs,
+            inputs: other.inputs,
             uses: other.uses,
+            ..self
         }
     }
 }

@@ -9,7 +9,7 @@ use scope_state::outer::var_exists;
 use scope_state::spans::put_span;
 use scope_state::special::{is_input, is_special};
 use scope_walk::next_of;
-use sheet::Row;
+use sheet::{Kind, Row};
 use sheet_rows::row_at;
 
 // A variable.
@@ -58,52 +58,12 @@ pub fn gather_assigned_vars(
     let w = row_at(tables, row);
     let next = next_of(w, rest);
     let first = w.first as usize;
-    let kind = w.kind;
-    let s = match kind {
-        // String
-        1 => scope,
-        // RawString
-        2 => scope,
-        // Number
-        3 => scope,
-        // Bool
-        4 => scope,
-        // Null
-        5 => scope,
-        // Var
-        6 => assign_var(tables, outer, w, can_shadow, scope, spans),
-        // Array: items
-        7 => gather_assigned_vars(tables, outer, first, true, can_shadow, scope, spans),
-        // Set
-        8 => scope,
-        // Object: fields, keys and values in turn
-        9 => gather_assigned_vars(tables, outer, first, true, can_shadow, scope, spans),
-        // ArrayCompr
-        10 => scope,
-        // SetCompr
-        11 => scope,
-        // ObjectCompr
-        12 => scope,
-        // Call
-        13 => scope,
-        // UnaryExpr
-        14 => scope,
-        // RefDot
-        15 => scope,
-        // RefBrack
-        16 => scope,
-        // BinExpr
-        17 => scope,
-        // BoolExpr
-        18 => scope,
-        // ArithExpr
-        19 => scope,
-        // AssignExpr `Eq`
-        20 => scope,
-        // AssignExpr `ColEq`
-        21 => scope,
-        // Membership
-        22 => scope,
+    let s = match Kind::from(w.kind) {
+        Kind::Var => assign_var(tables, outer, w, can_shadow, scope, spans),
+        // items; fields: keys and values in turn
+        Kind::Array | Kind::Object => {
+            gather_assigned_vars(tables, outer, first, true, can_shadow, scope, spans)
+        }
         _ => scope,
     };
     if next == 0 {

@@ -9,7 +9,7 @@ use names::{WORDS, add, has};
 use scope_state::outer::var_exists;
 use scope_state::special::is_input;
 use scope_walk::{next_of, none, one, three, two};
-use sheet::Row;
+use sheet::{Kind, Row};
 use sheet_rows::row_at;
 
 // A variable: `input` sets the flag, and a name that is not unscoped so far and exists is an input. Hands back the flag.
@@ -56,57 +56,28 @@ pub fn gather_input_vars(
     }
     let w = row_at(tables, row);
     let next = next_of(w, rest);
-    let kind = w.kind;
     let mut s = uses;
-    let k = match kind {
-        // String
-        1 => none(),
-        // RawString
-        2 => none(),
-        // Number
-        3 => none(),
-        // Bool
-        4 => none(),
-        // Null
-        5 => none(),
-        // Var
-        6 => {
+    let k = match Kind::from(w.kind) {
+        Kind::String | Kind::RawString | Kind::Number | Kind::Bool | Kind::Null => none(),
+        Kind::Var => {
             s = input_var(tables, outer, w, unscoped, inputs, uses);
             none()
         }
-        // Array: items
-        7 => one(w.first),
-        // Set: items
-        8 => one(w.first),
-        // Object: fields, keys and values in turn
-        9 => one(w.first),
-        // ArrayCompr
-        10 => none(),
-        // SetCompr
-        11 => none(),
-        // ObjectCompr
-        12 => none(),
-        // Call: params
-        13 => one(w.second),
-        // UnaryExpr: expr
-        14 => one(w.first),
-        // RefDot: refr
-        15 => one(w.first),
-        // RefBrack: refr, index
-        16 => two(w.first, w.second),
-        // BinExpr: lhs, rhs
-        17 => two(w.first, w.second),
-        // BoolExpr: lhs, rhs
-        18 => two(w.first, w.second),
-        // ArithExpr: lhs, rhs
-        19 => two(w.first, w.second),
-        // AssignExpr `Eq`: lhs, rhs
-        20 => two(w.first, w.second),
-        // AssignExpr `ColEq`: lhs, rhs
-        21 => two(w.first, w.second),
-        // Membership: key, value, collection
-        22 => three(w.first, w.second, w.third),
-        _ => none(),
+        // items; fields: keys and values in turn
+        Kind::Array | Kind::Set | Kind::Object => one(w.first),
+        Kind::ArrayCompr | Kind::SetCompr | Kind::ObjectCompr => none(),
+        // params
+        Kind::Call => one(w.second),
+        // expr; refr
+        Kind::UnaryExpr | Kind::RefDot => one(w.first),
+        // refr, index
+        Kind::RefBrack => two(w.first, w.second),
+        // lhs, rhs
+        Kind::BinExpr | Kind::BoolExpr | Kind::ArithExpr | Kind::AssignEq | Kind::AssignColEq =>
+            two(w.first, w.second),
+        // key, value, collection
+        Kind::Membership => three(w.first, w.second, w.third),
+        Kind::Unknown => none(),
     };
     if k.first != 0 {
         s = gather_input_vars(tables, outer, k.first, true, unscoped, inputs, s);

@@ -13,10 +13,10 @@ use names::{Names, WORDS};
 use scope_state::Scope;
 use scope_state::special::is_input;
 use scope_walk::{next_of, none, one, three, two};
-use sheet::Row;
+use sheet::{Kind, Row};
 use sheet_rows::row_at;
 
-// Puts the words of a set.
+// Puts the words of a set. It is a function, since no proof is made of a field that is an array and is stored straight.
 fn put(set: Names, words: &mut [u64; WORDS])
     ensures { (words.new ≡ set.words) × (length set.words ≡ (limits.library).words) }
 {
@@ -79,60 +79,31 @@ pub fn gather_loop_vars(
     let w = row_at(tables, row);
     let next = next_of(w, rest);
     let index = w.second as usize;
-    let kind = w.kind;
     let mut s = uses;
-    let k = match kind {
-        // String
-        1 => none(),
-        // RawString
-        2 => none(),
-        // Number
-        3 => none(),
-        // Bool
-        4 => none(),
-        // Null
-        5 => none(),
-        // Var
-        6 => {
+    let k = match Kind::from(w.kind) {
+        Kind::String | Kind::RawString | Kind::Number | Kind::Bool | Kind::Null => none(),
+        Kind::Var => {
             s = flag_input(tables, w, uses);
             none()
         }
-        // Array: items
-        7 => one(w.first),
-        // Set: items
-        8 => one(w.first),
-        // Object: fields, keys and values in turn
-        9 => one(w.first),
-        // ArrayCompr
-        10 => none(),
-        // SetCompr
-        11 => none(),
-        // ObjectCompr
-        12 => none(),
-        // Call: params
-        13 => one(w.second),
-        // UnaryExpr: expr
-        14 => one(w.first),
-        // RefDot: refr
-        15 => one(w.first),
-        // RefBrack: refr, index
-        16 => {
+        // items; fields: keys and values in turn
+        Kind::Array | Kind::Set | Kind::Object => one(w.first),
+        Kind::ArrayCompr | Kind::SetCompr | Kind::ObjectCompr => none(),
+        // params
+        Kind::Call => one(w.second),
+        // expr; refr
+        Kind::UnaryExpr | Kind::RefDot => one(w.first),
+        // refr, index
+        Kind::RefBrack => {
             s = bind_index(tables, outer, index, locals, unscoped, inputs, uses, spans);
             two(w.first, w.second)
         }
-        // BinExpr: lhs, rhs
-        17 => two(w.first, w.second),
-        // BoolExpr: lhs, rhs
-        18 => two(w.first, w.second),
-        // ArithExpr: lhs, rhs
-        19 => two(w.first, w.second),
-        // AssignExpr `Eq`: lhs, rhs
-        20 => two(w.first, w.second),
-        // AssignExpr `ColEq`: lhs, rhs
-        21 => two(w.first, w.second),
-        // Membership: key, value, collection
-        22 => three(w.first, w.second, w.third),
-        _ => none(),
+        // lhs, rhs
+        Kind::BinExpr | Kind::BoolExpr | Kind::ArithExpr | Kind::AssignEq | Kind::AssignColEq =>
+            two(w.first, w.second),
+        // key, value, collection
+        Kind::Membership => three(w.first, w.second, w.third),
+        Kind::Unknown => none(),
     };
     if k.first != 0 {
         s = gather_loop_vars(

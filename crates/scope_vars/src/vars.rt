@@ -1,7 +1,7 @@
 // What every expression that is read is put through, and `gather_vars`.
 
 ghost use Rattle.std.specs.Prelude.{◌≡◌, List};
-ghost use Rattle.sheet.specs.Kinds.{is_assign};
+ghost use Rattle.sheet.specs.Kinds.{is_assign, is_col_eq};
 ghost use Rattle.scope_walk.specs.Inner.Asks.{AsksWalk};
 ghost use Rattle.scope_vars.specs.Inner.Vars.{ReadWalk, BoundWalk, VarsWalk};
 
@@ -10,8 +10,7 @@ use crate::input::gather_input_vars;
 use crate::loops::gather_loop_vars;
 use names::Names;
 use scope_state::Scope;
-use sheet::Row;
-use sheet_rows::kinds::{ASSIGN_COL_EQ, ASSIGN_EQ};
+use sheet::{Kind, Row};
 use sheet_rows::row_at;
 
 // The expression at a row is read, with the rest of its chain if `rest`. The walks have the parts of the scope, which is put together again.
@@ -52,10 +51,13 @@ pub fn gather_read(
 pub fn is_assign(w: Row) -> bool
     ensures { result ≡ is_assign w }
 {
-    if w.kind == ASSIGN_EQ {
-        return true;
-    }
-    w.kind == ASSIGN_COL_EQ
+    matches!(Kind::from(w.kind), Kind::AssignEq | Kind::AssignColEq)
+}
+
+pub fn is_col_eq(w: Row) -> bool
+    ensures { result ≡ is_col_eq w }
+{
+    matches!(Kind::from(w.kind), Kind::AssignColEq)
 }
 
 // Both sides of an assignment are patterns, and `:=` shadows. Any other expression is a pattern itself.
@@ -76,7 +78,7 @@ fn gather_bound(
     }
     let w = row_at(tables, row);
     if is_assign(w) {
-        let shadows = w.kind == ASSIGN_COL_EQ;
+        let shadows = is_col_eq(w);
         let s = gather_assigned_vars(tables, outer, w.first as usize, true, shadows, scope, spans);
         return gather_assigned_vars(tables, outer, w.second as usize, true, false, s, spans);
     }

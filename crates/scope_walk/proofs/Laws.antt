@@ -2,6 +2,7 @@ pub mod Arms
 pub mod Descent
 pub mod Exprs
 pub mod Kids
+pub mod Numbers
 pub mod Onwards
 pub mod Patterns
 pub mod RowTrees

@@ -7,7 +7,7 @@ ghost use Rattle.scope_walk.specs.Inner.Kids.{kids_from};
 
 use sheet::Row;
 
-// The rows that are entered, in order; 0 behind the last.
+// The rows that are entered, in order; 0, no row of a sheet, behind the last. A list would be lent, which costs each walk a loop and its proof.
 #[derive(Clone, Copy)]
 pub struct Kids {
     pub first: usize,

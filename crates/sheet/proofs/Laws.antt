@@ -19,3 +19,5 @@ pub mod Trials
 pub mod Sheet
 pub mod ReadTrials
 pub mod FieldTrials
+pub mod AnswerLaws
+pub mod FieldSections

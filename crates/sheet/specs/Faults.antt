@@ -5,8 +5,8 @@ use Rattle.sheet.specs.declared.Counts.{Counts}
 use Rattle.sheet.specs.declared.Builtin.{Builtin}
 use Rattle.base.specs.Limits.{most_arity, nesting}
 use Rattle.sheet.specs.Sheet.{Rows}
-use Rattle.sheet.specs.declared.Field.{Field}
-use Rattle.sheet.specs.Fields.{query_section, limit_of}
+use Rattle.sheet.specs.declared.fields.Field.{Field}
+use Rattle.sheet.specs.Fields.{limit_of, for_queries}
 use Rattle.sheet.specs.Naming.{Entry, query_row, statement_row, expr_row, expr_entries, statement_entries, query_entries, namers, named_so, in_chain, namings}
 use Rattle.sheet.specs.Nesting.{enclosing, level, is_var_at, all_vars, ends_odd}
 use Rattle.sheet.specs.Form.{built_ins_at, exprs_at, statements_at, queries_at, line_or}
@@ -24,7 +24,7 @@ module _ (c : Counts) (t : Rows) where
 
   -- Is query v, which the field nests in query q, not larger, or is query q as deep as a query may be? Row 1 is larger than no query's.
   abbrev pub misnested : Field → ℕ → ℕ → Bool
-  misnested f v q = eqb f.section query_section && (leb v q || (eqb v 1 || leb nesting (level c t q)))
+  misnested f v q = for_queries f.section && (leb v q || (eqb v 1 || leb nesting (level c t q)))
 
   -- Is the field at fault, in a row that lies in query q?
   unfoldable pub field_fault : ℕ → Entry → Bool

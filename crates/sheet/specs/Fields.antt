@@ -1,37 +1,51 @@
 -- Question 6: what the fields of a row hold, by its kind or form, a line each. An unknown kind or form lists none.
 -- Beside: document 01, Sheet (the list of kinds and of forms).
-use Rattle.std.specs.Prelude.{true, false, cond, List, [], ◌∷◌, ℕ, eqb, get_or}
+use Rattle.std.specs.Prelude.{Bool, true, false, Option, Some, None, List, [], ◌∷◌, ℕ, get_or}
 use Rattle.sheet.specs.declared.Counts.{Counts}
-use Rattle.sheet.specs.declared.Field.{Field}
+use Rattle.sheet.specs.declared.fields.Section.{Section}
+use Rattle.sheet.specs.declared.fields.Section.TheVariants as section
+use Rattle.sheet.specs.declared.fields.Field.{Field}
+use Rattle.sheet.specs.declared.fields.KindFields.{KindFields}
+use Rattle.sheet.specs.declared.fields.FormFields.{FormFields}
 
--- ---- the section whose rows a field's numbers stand for; 0 where the field is not listed
+-- ---- the section whose rows a field's numbers stand for; none where the field is not listed
 
-abbrev pub name_section : ℕ
-name_section = 1
+abbrev pub name_section : Option Section
+name_section = Some section.Name
 
-abbrev pub expr_section : ℕ
-expr_section = 2
+abbrev pub expr_section : Option Section
+expr_section = Some section.Expression
 
-abbrev pub statement_section : ℕ
-statement_section = 3
+abbrev pub statement_section : Option Section
+statement_section = Some section.Statement
 
-abbrev pub query_section : ℕ
-query_section = 4
+abbrev pub query_section : Option Section
+query_section = Some section.Query
 
 -- How many rows a section has. Nothing has none.
-abbrev pub limit_of : Counts → ℕ → ℕ
-limit_of c s =
-    cond (eqb s name_section) c.names
-    (cond (eqb s expr_section) c.exprs (cond (eqb s statement_section) c.statements (cond (eqb s query_section) c.queries 0)))
+abbrev pub limit_of : Counts → Option Section → ℕ
+limit_of c None = 0
+limit_of c (Some section.Name) = c.names
+limit_of c (Some section.Expression) = c.exprs
+limit_of c (Some section.Statement) = c.statements
+limit_of c (Some section.Query) = c.queries
+
+-- Do the numbers stand for queries?
+abbrev pub for_queries : Option Section → Bool
+for_queries None = false
+for_queries (Some section.Name) = false
+for_queries (Some section.Expression) = false
+for_queries (Some section.Statement) = false
+for_queries (Some section.Query) = true
 
 -- ---- what a field holds
 
 -- Nothing: the field is not listed, and is 0.
 abbrev pub absent : Field
-absent = record { section = 0; set = false; term = false; chain = false; var = false; pairs = false }
+absent = record { section = None; set = false; term = false; chain = false; var = false; pairs = false }
 
 -- A row of a section; it is set.
-abbrev pub a_row : ℕ → Field
+abbrev pub a_row : Option Section → Field
 a_row s = record { section = s; set = true; term = false; chain = false; var = false; pairs = false }
 
 abbrev pub a_name : Field
@@ -69,12 +83,6 @@ abbrev pub or0 : Field → Field
 or0 f = record { section = f.section; set = false; term = f.term; chain = f.chain; var = f.var; pairs = f.pairs }
 
 -- ---- the kinds
-
-pub record KindFields : Type 0 where
-  pub name : Field
-  pub first : Field
-  pub second : Field
-  pub third : Field
 
 abbrev a_kind : Field → Field → Field → Field → KindFields
 a_kind n f s t = record { name = n; first = f; second = s; third = t }
@@ -114,12 +122,6 @@ unfoldable pub kind_of : ℕ → KindFields
 kind_of k = get_or kinds k no_kind
 
 -- ---- the forms
-
-pub record FormFields : Type 0 where
-  pub first : Field
-  pub second : Field
-  pub third : Field
-  pub query : Field
 
 abbrev a_form : Field → Field → Field → Field → FormFields
 a_form f s t q = record { first = f; second = s; third = t; query = q }

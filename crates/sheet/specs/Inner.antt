@@ -9,3 +9,5 @@ pub mod Headings
 pub mod Sheet
 pub mod Records
 pub mod Rows
+pub mod Kinds
+pub mod Answers

@@ -1,11 +1,13 @@
 -- Question 6: which rows name a row, and which rows are named so, exactly once and by a smaller row of their section.
 -- Beside: document 01, Sheet (the paragraph behind the lists).
-use Rattle.std.specs.Prelude.{Bool, cond, ◌&&◌, false, ◌||◌, List, [], ◌∷◌, ◌++◌, ℕ, ◌+◌, zero, suc, eqb, leb, ltb}
+use Rattle.std.specs.Prelude.{Bool, cond, ◌&&◌, false, ◌||◌, Option, Some, None, List, [], ◌∷◌, ◌++◌, ℕ, ◌+◌, zero, suc, eqb, leb, ltb}
 use Rattle.base.specs.Limits as limits
 use Rattle.sheet.specs.declared.Counts.{Counts}
 use Rattle.sheet.specs.Sheet.{Rows}
-use Rattle.sheet.specs.declared.Field.{Field}
-use Rattle.sheet.specs.Fields.{expr_section, statement_section, query_section, limit_of, absent, a_chain, a_statement, a_query, or0, kind_of, form_of}
+use Rattle.sheet.specs.declared.fields.Section.{Section}
+use Rattle.sheet.specs.declared.fields.Section.TheVariants as section
+use Rattle.sheet.specs.declared.fields.Field.{Field}
+use Rattle.sheet.specs.Fields.{limit_of, absent, a_chain, a_statement, a_query, or0, kind_of, form_of}
 use Rattle.base.specs.Lists.{filter}
 
 -- ---- one numbering for the rows that are named
@@ -25,9 +27,12 @@ abbrev pub is_query : ℕ → Bool
 is_query k = leb k limits.most_queries
 
 -- Row n of a section. A name is no row that is named.
-abbrev pub row_in : ℕ → ℕ → ℕ
-row_in s n =
-    cond (eqb s expr_section) (expr_row n) (cond (eqb s statement_section) (statement_row n) (cond (eqb s query_section) (query_row n) 0))
+abbrev pub row_in : Option Section → ℕ → ℕ
+row_in None n = 0
+row_in (Some section.Name) n = 0
+row_in (Some section.Expression) n = expr_row n
+row_in (Some section.Statement) n = statement_row n
+row_in (Some section.Query) n = query_row n
 
 -- `next` is for members of chains.
 abbrev pub next_field : Bool → Field

@@ -2,7 +2,15 @@
 
 #![tactic(auto)]
 
+mod fields;
+mod kinds;
+
+ghost use Rattle.std.specs.Prelude.{◌≡◌};
+ghost use Rattle.sheet.specs.Verdict.{refusal_number, refusal_line};
+
 use base::{BUILT_INS, EXPRESSIONS, NAMES, QUERIES, STATEMENTS};
+pub use fields::{Field, FormFields, KindFields, Section};
+pub use kinds::{Form, Kind};
 
 // Room for rows of so many values: row r, counted from 1, stands at start + width * r.
 #[derive(Clone, Copy)]
@@ -44,22 +52,6 @@ pub const QUERY_AREA: Area = Area {
     rows: QUERIES,
 };
 
-// What a field holds: the number of a row of a section.
-#[derive(Clone, Copy)]
-pub struct Field {
-    pub section: u32,
-    // It may not be 0.
-    pub set: bool,
-    // It is a comprehension's term, key or value, which lies in the comprehension's query.
-    pub term: bool,
-    // It is the first row of a chain.
-    pub chain: bool,
-    // It, or every member of the chain, is a Var.
-    pub var: bool,
-    // The chain alternates key and value.
-    pub pairs: bool,
-}
-
 // The rows of the names that the language gives a meaning, or 0.
 #[derive(Clone, Copy)]
 pub struct Special {
@@ -68,16 +60,44 @@ pub struct Special {
     pub data: usize,
 }
 
-// What a sheet comes to: read, or the first question that it fails, with the first line at fault.
-#[derive(Clone, Copy)]
-pub enum Outcome {
-    Read,
+// Why a sheet is refused: the first question that it fails, with the first line at fault.
+#[derive(Clone, Copy, Debug, PartialEq, Eq)]
+pub enum Refusal {
     NoRoom,
     TooLong,
     BadForm(usize),
     BadName(usize),
     BadCount(usize),
     BadField(usize),
+}
+
+impl Refusal {
+    // The number that it is returned as.
+    pub fn number(self) -> u16
+        ensures { result ≡ refusal_number self }
+    {
+        match self {
+            Refusal::NoRoom => 1,
+            Refusal::TooLong => 2,
+            Refusal::BadForm(_) => 3,
+            Refusal::BadName(_) => 4,
+            Refusal::BadCount(_) => 5,
+            Refusal::BadField(_) => 6,
+        }
+    }
+
+    // Its line at fault, or 0 where it has none.
+    pub fn line(self) -> usize
+        ensures { result ≡ refusal_line self }
+    {
+        match self {
+            Refusal::NoRoom | Refusal::TooLong => 0,
+            Refusal::BadForm(line)
+            | Refusal::BadName(line)
+            | Refusal::BadCount(line)
+            | Refusal::BadField(line) => line,
+        }
+    }
 }
 
 // A built-in's arity and path.

@@ -2,46 +2,38 @@
 
 #![tactic(auto)]
 
-ghost use Rattle.std.specs.Prelude.{◌≡◌, [], ◌∷◌};
+ghost use Rattle.std.specs.Prelude.{◌≡◌, ◌+◌, ◌<◌, ◌≤◌, MatchResult};
+ghost use Rattle.base.specs.Limits as limit;
 ghost use Rattle.names_width.specs.Widths.{limits};
 ghost use Rattle.sheet.specs.Questions.{count_fault};
+ghost use Rattle.sheet.specs.Faults.{listed};
+ghost use Rattle.sheet.specs.Inner.Answers.{unless_fault};
 
 use names_width::Width;
+use sheet::Counts;
 
-// The line of the first row over the most of its section; or of the heading of no query; or 0.
-pub fn counts_fault(
-    names: usize,
-    built_ins: usize,
-    expressions: usize,
-    statements: usize,
-    queries: usize,
-    width: Width,
-) -> usize
-    ensures { result ≡ count_fault (limits width) (names ∷ built_ins ∷ expressions ∷ statements ∷ queries ∷ []) }
+// The line of the heading behind a section; or of its first row over the most.
+fn heading_behind(heading: usize, rows: usize, most: usize) -> Result<usize, usize>
+    requires { (heading ≤ limit.largest_value) × (most ≤ limit.largest_value) }
+    ensures { MatchResult result (λ next. (rows ≤ most) × (next ≡ heading + rows + 2)) (λ line. (most < rows) × (line ≡ heading + most + 1)) }
 {
-    let most = width.names();
-    let mut heading = 1;
-    if most < names {
-        return heading + most + 1;
+    if most < rows {
+        return Err(heading + most + 1);
     }
-    heading = heading + names + 2;
-    if base::BUILT_INS < built_ins {
-        return heading + base::BUILT_INS + 1;
+    Ok(heading + rows + 2)
+}
+
+// The line of the first row over the most of its section, or of the heading of no query.
+pub fn check_counts(counts: Counts, width: Width) -> Result<(), usize>
+    ensures { result ≡ unless_fault (count_fault (limits width) (listed counts)) }
+{
+    let built_ins = heading_behind(1, counts.names, width.names())?;
+    let expressions = heading_behind(built_ins, counts.builtins, base::BUILT_INS)?;
+    let statements = heading_behind(expressions, counts.exprs, base::EXPRESSIONS)?;
+    let queries = heading_behind(statements, counts.statements, base::STATEMENTS)?;
+    heading_behind(queries, counts.queries, base::QUERIES)?;
+    if counts.queries == 0 {
+        return Err(queries);
     }
-    heading = heading + built_ins + 2;
-    if base::EXPRESSIONS < expressions {
-        return heading + base::EXPRESSIONS + 1;
-    }
-    heading = heading + expressions + 2;
-    if base::STATEMENTS < statements {
-        return heading + base::STATEMENTS + 1;
-    }
-    heading = heading + statements + 2;
-    if base::QUERIES < queries {
-        return heading + base::QUERIES + 1;
-    }
-    if queries == 0 {
-        return heading;
-    }
-    0
+    Ok(())
 }

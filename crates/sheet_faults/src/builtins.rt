@@ -12,13 +12,7 @@ use sheet_rows::builtin_at;
 fn same_path(a: Builtin, b: Builtin) -> bool
     ensures { result ≡ same_path_by a b }
 {
-    if a.first != b.first {
-        return false;
-    }
-    if a.second != b.second {
-        return false;
-    }
-    a.third == b.third
+    a.first == b.first && a.second == b.second && a.third == b.third
 }
 
 // Has one of the first n built-ins the path?
@@ -26,13 +20,10 @@ fn path_before(tables: &[u16], n: usize, b: Builtin) -> bool
     requires { (limits.table_entries ≤ length tables.now) × (n ≤ limits.most_built_ins) }
     ensures { result ≡ path_by tables.now n b }
 {
-    let mut left = n;
-    while 0 < left {
-        let a = builtin_at(tables, left);
-        if same_path(a, b) {
+    for row in (1..=n).rev() {
+        if same_path(builtin_at(tables, row), b) {
             return true;
         }
-        left -= 1;
     }
     false
 }
@@ -41,42 +32,24 @@ fn path_before(tables: &[u16], n: usize, b: Builtin) -> bool
 fn has_gap(b: Builtin) -> bool
     ensures { result ≡ gap_by b }
 {
-    if b.first == 0 {
-        return true;
-    }
-    if b.second == 0 {
-        return b.third != 0;
-    }
-    false
+    b.first == 0 || (b.second == 0 && b.third != 0)
 }
 
 fn is_beyond(counts: Counts, b: Builtin) -> bool
     ensures { result ≡ beyond_by counts b }
 {
-    if counts.names < b.first as usize {
-        return true;
-    }
-    if counts.names < b.second as usize {
-        return true;
-    }
-    counts.names < b.third as usize
+    counts.names < b.first as usize
+        || counts.names < b.second as usize
+        || counts.names < b.third as usize
 }
 
 // Is a built-in at fault that follows n others?
+#[tactic(auto, unfolding(crate::specs::Inner::Tests::builtin_by))]
 fn judge_builtin(tables: &[u16], counts: Counts, n: usize, b: Builtin) -> bool
     requires { (limits.table_entries ≤ length tables.now) × (n ≤ limits.most_built_ins) }
     ensures { result ≡ builtin_by counts tables.now n b }
 {
-    if base::ARITY < b.arity {
-        return true;
-    }
-    if has_gap(b) {
-        return true;
-    }
-    if is_beyond(counts, b) {
-        return true;
-    }
-    path_before(tables, n, b)
+    base::ARITY < b.arity || has_gap(b) || is_beyond(counts, b) || path_before(tables, n, b)
 }
 
 pub(crate) fn builtin_fault(tables: &[u16], counts: Counts, row: usize) -> bool

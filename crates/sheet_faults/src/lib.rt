@@ -4,112 +4,55 @@
 
 mod builtins;
 mod field;
+mod noted;
 mod rows;
 
-ghost use Rattle.std.specs.Prelude.{◌≡◌, ◌≤◌, length};
+ghost use Rattle.std.specs.Prelude.{◌≡◌, ◌≤◌, length, ℕ, Bool, unwrap_or, IfSome};
 ghost use Rattle.base.specs.Limits as limits;
 ghost use Rattle.base.specs.Inner.Sizes as sizes;
 ghost use Rattle.sheet.specs.Inner.Records.{Within};
-ghost use Rattle.sheet.specs.Faults.{expr_fault, statement_fault, query_fault, builtin_fault, first_at_fault, first_line};
-ghost use Rattle.sheet_faults.specs.Inner.Known.{Known};
+ghost use Rattle.sheet.specs.Faults.{first_line};
+ghost use Rattle.sheet_faults.specs.Inner.Firsts.{CallableTo, Tells, FirstFound};
 ghost use Rattle.sheet.specs.Inner.Rows.{in_tables};
 
 use crate::builtins::builtin_fault;
-use crate::rows::{expr_fault, query_fault, statement_fault};
+use crate::noted::Noted;
 use sheet::Counts;
-use sheet_chains::follow_all;
-use sheet_marks::mark_all;
 
-// ---- the first row at fault of each section, or 0
-
-fn first_builtin(tables: &[u16], counts: Counts) -> usize
-    requires { (limits.table_entries ≤ length tables.now) × Within counts }
-    ensures { (result ≡ first_at_fault (builtin_fault counts (in_tables tables.now)) 1 counts.builtins) × (result ≤ limits.most_built_ins) }
+// The first of the rows 1 to `last` that is at fault.
+fn first_fault<F: Fn(usize) -> bool>(last: usize, is_at_fault: F) -> Option<usize>
+    requires { CallableTo (F.pre is_at_fault) last }
+    ensures { (fault : ℕ → Bool) → Tells (F.post is_at_fault) fault last → FirstFound fault last result }
 {
-    let mut row = 1;
-    while row <= counts.builtins {
-        if builtin_fault(tables, counts, row) {
-            return row;
+    for row in 1..=last {
+        if is_at_fault(row) {
+            return Some(row);
         }
-        row += 1;
     }
-    0
+    None
 }
 
-fn first_expr(work: &[u64], tables: &[u16], counts: Counts) -> usize
-    requires { Known counts tables.now work.now }
-    ensures { (result ≡ first_at_fault (expr_fault counts (in_tables tables.now)) 1 counts.exprs) × (result ≤ limits.most_expressions) }
-{
-    let mut row = 1;
-    while row <= counts.exprs {
-        if expr_fault(work, tables, counts, row) {
-            return row;
-        }
-        row += 1;
-    }
-    0
-}
-
-fn first_statement(work: &[u64], tables: &[u16], counts: Counts) -> usize
-    requires { Known counts tables.now work.now }
-    ensures { (result ≡ first_at_fault (statement_fault counts (in_tables tables.now)) 1 counts.statements) × (result ≤ limits.most_statements) }
-{
-    let mut row = 1;
-    while row <= counts.statements {
-        if statement_fault(work, tables, counts, row) {
-            return row;
-        }
-        row += 1;
-    }
-    0
-}
-
-fn first_query(work: &[u64], tables: &[u16], counts: Counts) -> usize
-    requires { Known counts tables.now work.now }
-    ensures { (result ≡ first_at_fault (query_fault counts (in_tables tables.now)) 1 counts.queries) × (result ≤ limits.most_queries) }
-{
-    let mut row = 1;
-    while row <= counts.queries {
-        if query_fault(work, tables, counts, row) {
-            return row;
-        }
-        row += 1;
-    }
-    0
-}
-
-// ---- the first line at fault
-
-// What the tests ask the memory for: the marks of the rows, and what their chains come to.
-fn note_rows(work: &mut [u64], tables: &[u16], counts: Counts)
+// The first line at fault, in the order of the sheet.
+pub fn first_line(tables: &[u16], counts: Counts, work: &mut [u64]) -> Option<usize>
     requires { (limits.table_entries ≤ length tables.now) × (sizes.least_work ≤ length work.old) × Within counts }
-    ensures { Known counts tables.now work.new }
+    ensures { (unwrap_or result 0 ≡ first_line counts (in_tables tables.now)) × IfSome result (λ line. 1 ≤ line) }
 {
-    mark_all(work, tables, counts);
-    follow_all(work, tables, counts);
-}
-
-// The first line at fault, in the order of the sheet, or 0.
-pub fn first_line(tables: &[u16], counts: Counts, work: &mut [u64]) -> usize
-    requires { (limits.table_entries ≤ length tables.now) × (sizes.least_work ≤ length work.old) × Within counts }
-    ensures { result ≡ first_line counts (in_tables tables.now) }
-{
-    let b = first_builtin(tables, counts);
-    if b != 0 {
-        return counts.names + 3 + b;
+    let above = counts.names + 3;
+    if let Some(row) = first_fault(counts.builtins, |row| builtin_fault(tables, counts, row)) {
+        return Some(above + row);
     }
-    note_rows(work, tables, counts);
-    let e = first_expr(work, tables, counts);
-    if e != 0 {
-        return counts.names + counts.builtins + 5 + e;
+    let noted = Noted::new(tables, counts, work);
+    let above = above + counts.builtins + 2;
+    if let Some(row) = first_fault(counts.exprs, |row| noted.expr_fault(row)) {
+        return Some(above + row);
     }
-    let s = first_statement(work, tables, counts);
-    if s != 0 {
-        return counts.names + counts.builtins + counts.exprs + 7 + s;
+    let above = above + counts.exprs + 2;
+    if let Some(row) = first_fault(counts.statements, |row| noted.statement_fault(row)) {
+        return Some(above + row);
     }
-    let q = first_query(work, tables, counts);
-    if q != 0 {
-        return counts.names + counts.builtins + counts.exprs + counts.statements + 9 + q;
+    let above = above + counts.statements + 2;
+    if let Some(row) = first_fault(counts.queries, |row| noted.query_fault(row)) {
+        return Some(above + row);
     }
-    0
+    None
 }

@@ -2,167 +2,235 @@
 
 #![tactic(auto)]
 
-ghost use Rattle.std.specs.Prelude.{◌≡◌};
-ghost use Rattle.sheet.specs.Fields.{limit_of};
-ghost use Rattle.sheet_fields.specs.Inner.Packed.{kind_fields, form_fields, field_from};
+ghost use Rattle.std.specs.Prelude.{◌≡◌, ℕ};
+ghost use Rattle.sheet.specs.Fields.{limit_of, kind_of, form_of};
+ghost use Rattle.sheet.specs.Inner.Kinds.{KindNumbered, FormNumbered};
 
-use sheet::{Counts, Field};
+use sheet::{Counts, Field, Form, FormFields, Kind, KindFields, Section};
 
-// What a field holds, as one number: the section whose rows its numbers stand for, 0 where the field is not listed ..
-pub const NAMES: u32 = 1;
+// ---- what a field holds
 
-pub const EXPRESSIONS: u32 = 2;
+// Nothing: the field is not listed, and is 0.
+pub const ABSENT: Field = Field {
+    section: None,
+    set: false,
+    term: false,
+    chain: false,
+    var: false,
+    pairs: false,
+};
 
-pub const STATEMENTS: u32 = 3;
+const NAME_OR_NONE: Field = Field {
+    section: Some(Section::Name),
+    ..ABSENT
+};
 
-pub const QUERIES: u32 = 4;
+const NAME: Field = Field {
+    set: true,
+    ..NAME_OR_NONE
+};
 
-// .. and what is asked of it besides, a bit each.
-const SET: u32 = 8;
+// An expression that lies where its whole does.
+const PART_OR_NONE: Field = Field {
+    section: Some(Section::Expression),
+    ..ABSENT
+};
 
-const TERM: u32 = 16;
+const PART: Field = Field {
+    set: true,
+    ..PART_OR_NONE
+};
 
-const CHAIN: u32 = 32;
+// A comprehension's term, key or value, which lies in the comprehension's query.
+const TERM: Field = Field { term: true, ..PART };
 
-const VAR: u32 = 64;
+const VAR_OR_NONE: Field = Field {
+    var: true,
+    ..PART_OR_NONE
+};
 
-const PAIRS: u32 = 128;
-
-const NAME: u32 = NAMES + SET;
-
-const NAME_OR_NONE: u32 = NAMES;
-
-const PART: u32 = EXPRESSIONS + SET;
-
-const PART_OR_NONE: u32 = EXPRESSIONS;
-
-const A_TERM: u32 = EXPRESSIONS + SET + TERM;
-
-const A_VAR: u32 = EXPRESSIONS + SET + VAR;
-
-const A_VAR_OR_NONE: u32 = EXPRESSIONS + VAR;
-
-const CHAIN_OF_VARS: u32 = EXPRESSIONS + SET + CHAIN + VAR;
-
-const CHAIN_OF_PAIRS: u32 = EXPRESSIONS + CHAIN + PAIRS;
-
-pub const QUERY: u32 = QUERIES + SET;
+const VAR: Field = Field {
+    set: true,
+    ..VAR_OR_NONE
+};
 
 // The first of a chain, or 0. So is a statement's `with`, and the `next` of a chain's member.
-pub const CHAIN_OR_NONE: u32 = EXPRESSIONS + CHAIN;
+pub const CHAIN_OR_NONE: Field = Field {
+    chain: true,
+    ..PART_OR_NONE
+};
+
+const CHAIN_OF_VARS: Field = Field {
+    set: true,
+    var: true,
+    ..CHAIN_OR_NONE
+};
+
+const CHAIN_OF_PAIRS: Field = Field {
+    pairs: true,
+    ..CHAIN_OR_NONE
+};
 
 // A query's first statement, or a statement's `next`, or 0.
-pub const STATEMENT_OR_NONE: u32 = STATEMENTS;
+pub const STATEMENT_OR_NONE: Field = Field {
+    section: Some(Section::Statement),
+    ..ABSENT
+};
 
-// What the four fields of a row hold, as one number: a byte for a kind's `name` or a form's `query`, then one for each of these.
-pub const FIRST: u32 = 256;
+pub const QUERY: Field = Field {
+    section: Some(Section::Query),
+    set: true,
+    ..ABSENT
+};
 
-pub const SECOND: u32 = 65536;
+// ---- what the fields of a kind hold
 
-pub const THIRD: u32 = 16777216;
+const NO_KIND: KindFields = KindFields {
+    name: ABSENT,
+    first: ABSENT,
+    second: ABSENT,
+    third: ABSENT,
+};
 
-// What the rows of one kind or form have in these fields.
-const ONE_PART: u32 = PART * FIRST;
+const ONE_NAME: KindFields = KindFields {
+    name: NAME,
+    ..NO_KIND
+};
 
-const TWO_PARTS: u32 = PART * FIRST + PART * SECOND;
+const NAME_OR_NOTHING: KindFields = KindFields {
+    name: NAME_OR_NONE,
+    ..NO_KIND
+};
 
-const TWO_OR_THREE_PARTS: u32 = PART_OR_NONE * FIRST + PART * SECOND + PART * THIRD;
+const ONE_CHAIN: KindFields = KindFields {
+    first: CHAIN_OR_NONE,
+    ..NO_KIND
+};
 
-const PART_AND_NAME: u32 = NAME + PART * FIRST;
+const ONE_CHAIN_OF_PAIRS: KindFields = KindFields {
+    first: CHAIN_OF_PAIRS,
+    ..NO_KIND
+};
 
-const PART_AND_CHAIN: u32 = PART * FIRST + CHAIN_OR_NONE * SECOND;
+const TERM_AND_QUERY: KindFields = KindFields {
+    first: TERM,
+    third: QUERY,
+    ..NO_KIND
+};
 
-const ONE_CHAIN: u32 = CHAIN_OR_NONE * FIRST;
+const TWO_TERMS_AND_QUERY: KindFields = KindFields {
+    first: TERM,
+    second: TERM,
+    third: QUERY,
+    ..NO_KIND
+};
 
-const ONE_CHAIN_OF_PAIRS: u32 = CHAIN_OF_PAIRS * FIRST;
+const ONE_PART: KindFields = KindFields {
+    first: PART,
+    ..NO_KIND
+};
 
-const ONE_CHAIN_OF_VARS: u32 = CHAIN_OF_VARS * FIRST;
+const PART_AND_NAME: KindFields = KindFields {
+    name: NAME,
+    first: PART,
+    ..NO_KIND
+};
 
-const TERM_AND_QUERY: u32 = A_TERM * FIRST + QUERY * THIRD;
+const PART_AND_CHAIN: KindFields = KindFields {
+    first: PART,
+    second: CHAIN_OR_NONE,
+    ..NO_KIND
+};
 
-const TWO_TERMS_AND_QUERY: u32 = A_TERM * FIRST + A_TERM * SECOND + QUERY * THIRD;
+const TWO_PARTS: KindFields = KindFields {
+    first: PART,
+    second: PART,
+    ..NO_KIND
+};
 
-const VARS_PART_AND_QUERY: u32 = QUERY + A_VAR_OR_NONE * FIRST + A_VAR * SECOND + PART * THIRD;
+const TWO_OR_THREE_PARTS: KindFields = KindFields {
+    first: PART_OR_NONE,
+    second: PART,
+    third: PART,
+    ..NO_KIND
+};
 
-pub const KINDS: usize = 22;
-
-pub const FORMS: usize = 5;
-
-// What the fields of a kind hold. An unknown kind lists none. With an arm for each number it compiles to a table in read-only memory;
-// a `const` array is built anew at each use, and numbers side by side in one arm are compared.
-pub fn of_kind(kind: u16) -> u32
-    ensures { result ≡ kind_fields kind }
+// An unknown kind lists none.
+pub fn of_kind(kind: Kind) -> &'static KindFields
+    ensures { (number : ℕ) → KindNumbered number kind → result.now ≡ kind_of number }
 {
     match kind {
-        1 => NAME_OR_NONE, // String
-        2 => 0, // RawString
-        3 => 0, // Number
-        4 => 0, // Bool
-        5 => 0, // Null
-        6 => NAME, // Var
-        7 => ONE_CHAIN, // Array
-        8 => ONE_CHAIN, // Set
-        9 => ONE_CHAIN_OF_PAIRS, // Object
-        10 => TERM_AND_QUERY, // ArrayCompr
-        11 => TERM_AND_QUERY, // SetCompr
-        12 => TWO_TERMS_AND_QUERY, // ObjectCompr
-        13 => PART_AND_CHAIN, // Call
-        14 => ONE_PART, // UnaryExpr
-        15 => PART_AND_NAME, // RefDot
-        16 => TWO_PARTS, // RefBrack
-        17 => TWO_PARTS, // BinExpr
-        18 => TWO_PARTS, // BoolExpr
-        19 => TWO_PARTS, // ArithExpr
-        20 => TWO_PARTS, // AssignExpr Eq
-        21 => TWO_PARTS, // AssignExpr ColEq
-        22 => TWO_OR_THREE_PARTS, // Membership
-        _ => 0,
+        Kind::String => &NAME_OR_NOTHING,
+        Kind::Var => &ONE_NAME,
+        Kind::Array | Kind::Set => &ONE_CHAIN,
+        Kind::Object => &ONE_CHAIN_OF_PAIRS,
+        Kind::ArrayCompr | Kind::SetCompr => &TERM_AND_QUERY,
+        Kind::ObjectCompr => &TWO_TERMS_AND_QUERY,
+        Kind::Call => &PART_AND_CHAIN,
+        Kind::UnaryExpr => &ONE_PART,
+        Kind::RefDot => &PART_AND_NAME,
+        Kind::RefBrack | Kind::BinExpr | Kind::BoolExpr | Kind::ArithExpr => &TWO_PARTS,
+        Kind::AssignEq | Kind::AssignColEq => &TWO_PARTS,
+        Kind::Membership => &TWO_OR_THREE_PARTS,
+        Kind::RawString | Kind::Number | Kind::Bool | Kind::Null | Kind::Unknown => &NO_KIND,
     }
 }
 
-// What the fields of a form hold. An unknown form lists none.
-pub fn of_form(form: u16) -> u32
-    ensures { result ≡ form_fields form }
+// ---- what the fields of a form hold
+
+const NO_FORM: FormFields = FormFields {
+    first: ABSENT,
+    second: ABSENT,
+    third: ABSENT,
+    query: ABSENT,
+};
+
+const FIRST_OF_VARS: FormFields = FormFields {
+    first: CHAIN_OF_VARS,
+    ..NO_FORM
+};
+
+const FIRST_PART: FormFields = FormFields {
+    first: PART,
+    ..NO_FORM
+};
+
+const KEY_VALUE_AND_WHOLE: FormFields = FormFields {
+    first: PART_OR_NONE,
+    second: PART,
+    third: PART,
+    ..NO_FORM
+};
+
+const VARS_WHOLE_AND_QUERY: FormFields = FormFields {
+    first: VAR_OR_NONE,
+    second: VAR,
+    third: PART,
+    query: QUERY,
+};
+
+// An unknown form lists none.
+pub fn of_form(form: Form) -> &'static FormFields
+    ensures { (number : ℕ) → FormNumbered number form → result.now ≡ form_of number }
 {
     match form {
-        1 => ONE_CHAIN_OF_VARS, // SomeVars
-        2 => TWO_OR_THREE_PARTS, // SomeIn
-        3 => ONE_PART, // Expr
-        4 => ONE_PART, // NotExpr
-        5 => VARS_PART_AND_QUERY, // Every
-        _ => 0,
-    }
-}
-
-// What the lowest byte says.
-pub fn field_from(byte: u32) -> Field
-    ensures { result ≡ field_from byte }
-{
-    Field {
-        section: byte % 8,
-        set: byte / 8 % 2 == 1,
-        term: byte / 16 % 2 == 1,
-        chain: byte / 32 % 2 == 1,
-        var: byte / 64 % 2 == 1,
-        pairs: byte / 128 % 2 == 1,
+        Form::SomeVars => &FIRST_OF_VARS,
+        Form::SomeIn => &KEY_VALUE_AND_WHOLE,
+        Form::Expr | Form::NotExpr => &FIRST_PART,
+        Form::Every => &VARS_WHOLE_AND_QUERY,
+        Form::Unknown => &NO_FORM,
     }
 }
 
 // How many rows a section has.
-pub fn limit(counts: Counts, section: u32) -> usize
-    ensures { result ≡ limit_of counts section }
+pub fn limit(counts: &Counts, section: Option<Section>) -> usize
+    ensures { result ≡ limit_of counts.now section }
 {
-    if section == NAMES {
-        return counts.names;
+    match section {
+        Some(Section::Name) => counts.names,
+        Some(Section::Expression) => counts.exprs,
+        Some(Section::Statement) => counts.statements,
+        Some(Section::Query) => counts.queries,
+        None => 0,
     }
-    if section == EXPRESSIONS {
-        return counts.exprs;
-    }
-    if section == STATEMENTS {
-        return counts.statements;
-    }
-    if section == QUERIES {
-        return counts.queries;
-    }
-    0
 }

@@ -7,9 +7,10 @@ ghost use Rattle.base.specs.Inner.Sizes as sizes;
 ghost use Rattle.base.specs.Limits as limits;
 ghost use Rattle.sheet_levels.specs.Inner.Levels.{parent_by, level_by};
 
-use sheet_marks::home;
+use sheet_marks::{Mark, home};
 
-// The query that encloses query q, or 0.
+// The query that encloses query q, or 0: row 0 is none, as in the marks, and no Option is needed to climb from it.
+#[tactic(auto, unfolding(crate::specs::Inner::Levels::parent_by))]
 fn parent(work: &[u64], last: usize, q: usize) -> usize
     requires { (sizes.per_row ≤ length work.now) × (last ≤ sizes.named_rows) }
     ensures { result ≡ parent_by last work.now q }
@@ -17,11 +18,12 @@ fn parent(work: &[u64], last: usize, q: usize) -> usize
     if base::QUERIES < q {
         return 0;
     }
-    let mark = work[q];
-    if mark % 4 == 1 {
-        return home(work, last, mark / 8) as usize;
+    let mark = Mark::from(work[q]);
+    if mark.is_named_so() {
+        home(work, last, mark.place())
+    } else {
+        0
     }
-    0
 }
 
 // The level of query q, or 0 where no way leads up to row 1. No way has more than n queries.
@@ -30,13 +32,11 @@ pub fn level(work: &[u64], last: usize, n: usize, q: usize) -> usize
     ensures { result ≡ level_by last work.now n q }
 {
     let mut at = q;
-    let mut steps = 0;
-    while steps < n {
+    for steps in 0..n {
         if at == 1 {
             return steps + 1;
         }
         at = parent(work, last, at);
-        steps += 1;
     }
     0
 }

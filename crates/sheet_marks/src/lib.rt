@@ -3,6 +3,7 @@
 #![tactic(auto)]
 
 mod homes;
+mod mark;
 mod named;
 mod rows;
 
@@ -17,7 +18,8 @@ ghost use Rattle.sheet.specs.Inner.Rows.{in_tables};
 use crate::homes::settle;
 use crate::rows::{clear, name_exprs, name_queries, name_statements};
 pub use homes::home;
-pub use rows::next_holds;
+pub use mark::Mark;
+pub use rows::next_field;
 use sheet::Counts;
 
 // One numbering for the rows that are named: the queries, then the statements, then the expressions.

@@ -1,6 +1,5 @@
-pub mod Letters
+pub mod FirstSection
 pub mod Spelling
 pub mod Order
-pub mod FirstSection
 pub mod Checking
 pub mod Finding

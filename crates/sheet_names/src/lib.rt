@@ -2,125 +2,82 @@
 
 #![tactic(auto)]
 
-ghost use Rattle.std.specs.Prelude.{◌≡◌, true, ◌≤◌, length, drop};
+ghost use Rattle.std.specs.Prelude.{◌≡◌, true, drop};
 ghost use Rattle.sheet.specs.Text.{lines};
-ghost use Rattle.sheet.specs.Inner.Lines.{is_line, line_at};
-ghost use Rattle.sheet.specs.Inner.Headings.{has_line};
-ghost use Rattle.sheet.specs.Inner.LineBytes.{no_newline};
+ghost use Rattle.sheet.specs.Form.{same};
+ghost use Rattle.sheet.specs.Inner.Lines.{is_line};
+ghost use Rattle.sheet.specs.Inner.Answers.{unless_fault};
 ghost use Rattle.sheet.specs.Questions.{letter, letter_or_digit, before, form_fault, names_fault};
 ghost use Rattle.sheet_names.specs.Inner.Names.{NameRead, found, SpecialRead};
 
 use sheet::Special;
-use sheet_values::Line;
 
 // A letter, or `_`.
 fn is_letter(b: u8) -> bool
     ensures { result ≡ letter b }
 {
-    if b'a' <= b {
-        return b <= b'z';
-    }
-    if b'Z' < b {
-        return b == b'_';
-    }
-    b'A' <= b
+    b.is_ascii_alphabetic() || b == b'_'
 }
 
 fn is_letter_or_digit(b: u8) -> bool
     ensures { result ≡ letter_or_digit b }
 {
-    if b <= b'9' {
-        return b'0' <= b;
-    }
-    is_letter(b)
+    is_letter(b) || b.is_ascii_digit()
 }
 
-// The line at a place is a name, and where it ends.
-fn name_at(s: &[u8], at: usize) -> Line
+// The place behind the line at a place, if that is a name.
+fn name_at(s: &[u8], at: usize) -> Option<usize>
     requires { is_line (lines (drop at s.now)) ≡ true }
     ensures { NameRead s.now at result }
 {
-    if !is_letter(s[at]) {
-        return Line {
-            good: false,
-            next: at,
-        };
+    let length = s[at..].iter().position(|byte| !is_letter_or_digit(*byte))?;
+    let end = at + length;
+    if !is_letter(s[at]) || s[end] != b'\n' || base::NAME_BYTES < length {
+        return None;
     }
-    let mut i = at + 1;
-    while s[i] != b'\n' {
-        if !is_letter_or_digit(s[i]) {
-            return Line {
-                good: false,
-                next: at,
-            };
-        }
-        i += 1;
-    }
-    Line {
-        good: i - at <= base::NAME_BYTES,
-        next: i + 1,
-    }
+    Some(end + 1)
 }
 
-// Does the line at p stand before the line at q, in the order of bytes?
-fn is_before(s: &[u8], p: usize, q: usize) -> bool
-    requires { (is_line (lines (drop p s.now)) ≡ true) × (is_line (lines (drop q s.now)) ≡ true) }
-    ensures { result ≡ before (line_at s.now p) (line_at s.now q) }
+// Does a name stand before another, in the order of bytes?
+#[tactic(auto, using(crate::proofs::Laws::Order::before_as_slices))]
+fn is_before(first: &[u8], second: &[u8]) -> bool
+    ensures { result ≡ before first.now second.now }
 {
-    let mut i = p;
-    let mut j = q;
-    loop {
-        let a = s[i];
-        let b = s[j];
-        if b == b'\n' {
-            return false;
-        }
-        if a == b'\n' {
-            return true;
-        }
-        if a != b {
-            return a < b;
-        }
-        i += 1;
-        j += 1;
-    }
+    first < second
 }
 
-// The first line whose name is at fault, or 0. The names stand behind the five bytes of the heading, up to an empty line.
-pub fn names_fault(s: &[u8]) -> usize
+// The first line whose name is at fault. The names stand behind the five bytes of the heading, up to an empty line.
+pub fn check_names(s: &[u8]) -> Result<(), usize>
     requires { form_fault s.now ≡ 0 }
-    ensures { result ≡ names_fault s.now }
+    ensures { result ≡ unless_fault (names_fault s.now) }
 {
-    let mut last = 4;
+    let mut last: &[u8] = &[];
     let mut at = 5;
     let mut line = 2;
     while s[at] != b'\n' {
-        let name = name_at(s, at);
-        if !name.good {
-            return line;
+        let Some(next) = name_at(s, at) else {
+            return Err(line);
+        };
+        let name = &s[at..next - 1];
+        if !is_before(last, name) {
+            return Err(line);
         }
-        if !is_before(s, last, at) {
-            return line;
-        }
-        last = at;
-        at = name.next;
+        last = name;
+        at = next;
         line += 1;
     }
-    0
+    Ok(())
 }
 
-// The row where a name has been found, or the row of the line at a place, if that is the name; else 0.
-fn find(s: &[u8], at: usize, name: &[u8], row: usize, earlier: usize) -> usize
-    requires { (at ≤ length s.now) × (no_newline name.now ≡ true) }
-    ensures { result ≡ found earlier (has_line name.now (lines (drop at s.now))) row }
+// The row where a name is found first: an earlier one, or the row of a line that is the name; else 0.
+fn find(line: &[u8], name: &[u8], row: usize, earlier: usize) -> usize
+    ensures { result ≡ found earlier (same line.now name.now) row }
 {
-    if earlier != 0 {
-        return earlier;
+    if earlier == 0 && line == name {
+        row
+    } else {
+        earlier
     }
-    if sheet_sections::line_is(s, at, name) {
-        return row;
-    }
-    0
 }
 
 // The rows of `_`, `input` and `data`.
@@ -133,12 +90,15 @@ pub fn special_names(s: &[u8]) -> Special
     let mut data = 0;
     let mut at = 5;
     let mut row = 1;
-    while s[at] != b'\n' {
-        blank = find(s, at, b"_", row, blank);
-        input = find(s, at, b"input", row, input);
-        data = find(s, at, b"data", row, data);
-        let line = sheet_sections::skip_line(s, at);
-        at = line.next;
+    while let Some(next) = sheet_sections::skip_line(s, at) {
+        let line = &s[at..next - 1];
+        if line.is_empty() {
+            break;
+        }
+        blank = find(line, b"_", row, blank);
+        input = find(line, b"input", row, input);
+        data = find(line, b"data", row, data);
+        at = next;
         row += 1;
     }
     Special { blank, input, data }

@@ -4,3 +4,4 @@ pub mod Leaving
 pub mod TextLines
 pub mod LineBounds
 pub mod Passed
+pub mod Ways

@@ -2,8 +2,6 @@
 
 #![tactic(auto)]
 
-pub mod kinds;
-
 ghost use Rattle.std.specs.Prelude.{◌≡◌, ◌≤◌, length};
 ghost use Rattle.sheet.specs.Inner.Sheet.{row_at};
 ghost use Rattle.base.specs.Limits as limits;

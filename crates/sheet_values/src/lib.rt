@@ -2,187 +2,116 @@
 
 #![tactic(auto)]
 
-ghost use Rattle.std.specs.Prelude.{◌≡◌, ◌+◌, ◌≤◌, ◌<◌, length, drop};
-ghost use Rattle.base.specs.Limits as limits;
-ghost use Rattle.sheet_values.specs.Inner.Numbers.{digit_at, NumberRead, Checked};
+ghost use Rattle.std.specs.Prelude.{◌≡◌, ◌<◌, ◌≤◌, length, drop, IfSome};
+ghost use Rattle.sheet.specs.Text.{plain};
+ghost use Rattle.sheet_values.specs.Inner.Numbers.{digit_at, NumberRead};
 ghost use Rattle.sheet_values.specs.Inner.Fields.{FieldRead};
 ghost use Rattle.sheet_values.specs.Inner.Rows.{RowRead};
 
 // The largest value.
 const LARGEST: u32 = base::LARGEST_VALUE;
 
-// Digits that are a number, their value, and the place behind them.
+// A number, and the place behind what is read of it: its digits, or its separator.
 #[derive(Clone, Copy)]
-pub struct Number {
-    pub good: bool,
-    pub value: u16,
-    pub end: usize,
+struct Number {
+    value: u16,
+    next: usize,
 }
 
-// A number with a separator behind it, and the place behind that.
-#[derive(Clone, Copy)]
-pub struct Field {
-    pub good: bool,
-    pub value: u16,
-    pub next: usize,
-}
-
-// A line that has its form, and the place behind it.
-#[derive(Clone, Copy)]
-pub struct Line {
-    pub good: bool,
-    pub next: usize,
-}
-
-fn wide(b: u8) -> u32
-    ensures { result ≡ b }
-{
-    b as u32
-}
-
-// The digit at a place, or 10 where none is.
-fn digit_at(s: &[u8], i: usize) -> u32
+// The digit at a place, if one is there.
+fn digit_at(s: &[u8], i: usize) -> Option<u32>
     requires { i ≤ length s.now }
-    ensures { result ≡ digit_at (drop i s.now) }
+    ensures value { result ≡ digit_at (drop i s.now) }
+    ensures small { IfSome result (λ d. d < 10) }
 {
-    if i == s.len() {
-        return 10;
+    let byte = *s.get(i)?;
+    if !byte.is_ascii_digit() {
+        return None;
     }
-    let b = wide(s[i]);
-    if b < 48 {
-        return 10;
+    Some(u32::from(byte - b'0'))
+}
+
+// Is there a digit, and no other behind a 0 that leads?
+fn is_plain(digits: &[u8]) -> bool
+    ensures { result ≡ plain digits.now }
+{
+    match digits {
+        [] => false,
+        [b'0', _, ..] => false,
+        _ => true,
     }
-    if 57 < b {
-        return 10;
-    }
-    b - 48
 }
 
 // The number at a place.
-fn number_at(s: &[u8], at: usize) -> Number
+fn number_at(s: &[u8], at: usize) -> Option<Number>
     requires { at ≤ length s.now }
     ensures { NumberRead (drop at s.now) at result }
 {
-    let mut value: u32 = 0;
-    let mut i = at;
-    let mut digit = digit_at(s, at);
-    while digit < 10 {
+    let mut value = 0;
+    let mut next = at;
+    while let Some(digit) = digit_at(s, next) {
         value = value * 10 + digit;
         if LARGEST < value {
-            return Number {
-                good: false,
-                value: 0,
-                end: at,
-            };
+            return None;
         }
-        i += 1;
-        digit = digit_at(s, i);
+        next += 1;
     }
-    check_digits(s, at, i, value)
-}
-
-// The digits from `at` to `end` are a number if there is one, and no other behind a 0 that leads.
-fn check_digits(s: &[u8], at: usize, end: usize, value: u32) -> Number
-    requires { (at ≤ end) × (end ≤ length s.now) × (value ≤ limits.largest_value) }
-    ensures { Checked s.now at end value result }
-{
-    if end == at {
-        return Number {
-            good: false,
-            value: 0,
-            end,
-        };
+    if !is_plain(&s[at..next]) {
+        return None;
     }
-    if at + 1 < end {
-        if s[at] == b'0' {
-            return Number {
-                good: false,
-                value: 0,
-                end,
-            };
-        }
-    }
-    Number {
-        good: true,
+    Some(Number {
         value: value as u16,
-        end,
-    }
+        next,
+    })
 }
 
 // The number at a place, and the separator behind it. Most numbers are one digit, which is looked for first.
-fn field_at(s: &[u8], at: usize, separator: u8) -> Field
+fn field_at(s: &[u8], at: usize, separator: u8) -> Option<Number>
     requires { at ≤ length s.now }
     ensures { FieldRead s.now at separator result }
 {
     let end = at + 1;
-    if end < s.len() {
-        if s[end] == separator {
-            let digit = digit_at(s, at);
-            if digit < 10 {
-                return Field {
-                    good: true,
-                    value: digit as u16,
-                    next: end + 1,
-                };
-            }
+    if end < s.len() && s[end] == separator {
+        if let Some(digit) = digit_at(s, at) {
+            return Some(Number {
+                value: digit as u16,
+                next: end + 1,
+            });
         }
     }
     long_field_at(s, at, separator)
 }
 
 // The number at a place, of any length, and the separator behind it.
-fn long_field_at(s: &[u8], at: usize, separator: u8) -> Field
+fn long_field_at(s: &[u8], at: usize, separator: u8) -> Option<Number>
     requires { at ≤ length s.now }
     ensures { FieldRead s.now at separator result }
 {
-    let n = number_at(s, at);
-    if n.good {
-        let end = n.end;
-        if end < s.len() {
-            if s[end] == separator {
-                return Field {
-                    good: true,
-                    value: n.value,
-                    next: end + 1,
-                };
-            }
-        }
+    let number = number_at(s, at)?;
+    let end = number.next;
+    if end < s.len() && s[end] == separator {
+        return Some(Number {
+            next: end + 1,
+            ..number
+        });
     }
-    Field {
-        good: false,
-        value: 0,
-        next: at,
-    }
+    None
 }
 
-// The row of `width` values at a place. The values go into the table at `to`; where the row has not the form, only some do.
-pub fn row_at(s: &[u8], at: usize, width: usize, table: &mut [u16], to: usize) -> Line
-    requires { (at ≤ length s.now) × (0 < width) × (to + width ≤ length table.old) }
-    ensures { RowRead s.now at width table.old to result table.new }
+// The row of values at a place, and the place behind it. Where the row has not the form, only some of its values are stored.
+pub fn row_at(s: &[u8], at: usize, row: &mut [u16]) -> Option<usize>
+    requires { (at ≤ length s.now) × (0 < length row.old) }
+    ensures { RowRead s.now at (length row.old) result row.new }
 {
-    let last = width - 1;
-    let mut i = at;
-    for j in 0..last {
-        let f = field_at(s, i, b' ');
-        if !f.good {
-            return Line {
-                good: false,
-                next: at,
-            };
-        }
-        table[to + j] = f.value;
-        i = f.next;
+    let last = row.len() - 1;
+    let mut next = at;
+    // By index, since no proof sees what is stored through `iter_mut`.
+    for i in 0..last {
+        let field = field_at(s, next, b' ')?;
+        row[i] = field.value;
+        next = field.next;
     }
-    let f = field_at(s, i, b'\n');
-    if !f.good {
-        return Line {
-            good: false,
-            next: at,
-        };
-    }
-    table[to + last] = f.value;
-    Line {
-        good: true,
-        next: f.next,
-    }
+    let field = field_at(s, next, b'\n')?;
+    row[last] = field.value;
+    Some(field.next)
 }

@@ -1,20 +1,18 @@
 -- Laws of the layout, for both widths.
-use mathlib.Core.Path.{◌≡◌, refl, sym, ap, ◌∙◌, subst}
-use mathlib.Core.Bool.{Bool, true, false}
+use mathlib.Core.Path.{◌≡◌, refl, sym, ap, ◌∙◌}
+use mathlib.Core.Bool.{true, false}
 use mathlib.Core.List.{List}
 use mathlib.Core.Logic.{◌⊎◌, inl, inr}
 use Prim.Native.Nat.{ℕ, ◌+◌, ◌-◌, ◌*◌, ◌/◌, ◌%◌, ◌≤◌, ◌<◌}
 use native.Mathlib.Omega.{arith}
 use lib.Dec.{eqb}
-use lib.ListN.{length, get_or, set, length-set}
-use lib.Seq.{get_or-set_same, get_or-set_other}
+use lib.ListN.{length, get_or}
 use borrow.Author.Tests.{eq-eqb, ne_eqb}
-use borrow.Author.Count.{below_none, below_more}
 use Rattle.base.specs.Limits as limits
 use Rattle.base.proofs.Laws.Truth.{eq_cases}
 use Rattle.names_width.specs.declared.Width.{Width}
 use Rattle.names_width.specs.declared.Width.TheVariants.{Two, Eight}
-use Rattle.names_width.specs.Inner.Widths.{set_words, Put}
+use Rattle.names_width.specs.Inner.Widths.{set_words}
 use Rattle.answer_blocks.specs.Inner.Layout.{block_size, places, answers_size, both, half, SpansPut}
 
 -- A block has room for four words, three sets and half as many words as names; the places are behind them all.
@@ -34,10 +32,6 @@ pub answers_are : (v : Width) → answers_size v ≡ places v + limits.most_stat
 answers_are Two = refl
 answers_are Eight = refl
 
-pub places-few : (v : Width) → places v ≤ places Eight
-places-few Two = omega arith
-places-few Eight = omega arith
-
 pub block-few : (v : Width) → (4 ≤ block_size v) × (block_size v ≤ block_size Eight)
 block-few Two = (omega arith, omega arith)
 block-few Eight = (omega arith, omega arith)
@@ -47,9 +41,6 @@ pub set_in : (v : Width) (s : ℕ) → s ≤ 2 → (4 + set_words v * s) + set_w
 set_in Two s h = omega arith
 set_in Eight s h = omega arith
 
-pub put_at : (w : ℕ) (before : List ℕ) (m n : ℕ) (a after : List ℕ) → m ≡ n → Put w before m a after → Put w before n a after
-put_at w before m n a after e = subst (λ (k : ℕ). Put w before k a after) e
-
 -- ---- halves
 
 pub lower_is : (a b : ℕ) → half (both a b) false ≡ a % 4294967296
@@ -57,12 +48,6 @@ lower_is a b = omega arith
 
 pub upper_is : (a b : ℕ) → half (both a b) true ≡ b % 4294967296
 upper_is a b = omega arith
-
-pub half_lower : (n : ℕ) (u : Bool) → u ≡ false → n % 4294967296 ≡ half n u
-half_lower n u e = rw e
-
-pub half_upper : (n : ℕ) (u : Bool) → u ≡ true → n / 4294967296 ≡ half n u
-half_upper n u e = rw e
 
 -- ---- positions put one word after the other, from `first` up
 
@@ -74,32 +59,6 @@ pub record PuttingSpans (before : List ℕ) (first count : ℕ) (l after : List 
   pub put : (j : ℕ) → j < i → get_or after (first + j) 0 ≡ both (get_or l (2 * j) 0) (get_or l (2 * j + 1) 0)
   pub below : (j : ℕ) → j < first → get_or after j 0 ≡ get_or before j 0
   pub above : (j : ℕ) → first + i ≤ j → get_or after j 0 ≡ get_or before j 0
-
-module _ (before : List ℕ) (first count : ℕ) (l : List ℕ) where
-  pub putting_none : first + count ≤ length before → 2 * count ≤ length l → PuttingSpans before first count l before 0
-  putting_none room enough = record {
-    room = room;
-    enough = enough;
-    here = omega arith;
-    long = refl;
-    put = below_none _;
-    below = λ j h. refl;
-    above = λ j h. refl;
-  }
-
-  pub spans_put_next : (after : List ℕ) (i : ℕ) → i < count → PuttingSpans before first count l after i → (x : ℕ)
-      → x ≡ both (get_or l (2 * i) 0) (get_or l (2 * i + 1) 0) → PuttingSpans before first count l (set after (first + i) x) (i + 1)
-  spans_put_next after i h p x is = record {
-    room = p.room;
-    enough = p.enough;
-    here = omega arith;
-    long = length-set after (first + i) x ∙ p.long;
-    put = below_more (λ j. get_or (set after (first + i) x) (first + j) 0 ≡ both (get_or l (2 * j) 0) (get_or l (2 * j + 1) 0)) i
-        (λ j b. get_or-set_other after (first + i) (first + j) x 0 (λ e. omega (arith, e)) ∙ p.put j b)
-        (get_or-set_same after (first + i) x 0 (omega (arith, p.long, p.room)) ∙ is);
-    below = λ j b. get_or-set_other after (first + i) j x 0 (λ e. omega (arith, e)) ∙ p.below j b;
-    above = λ j b. get_or-set_other after (first + i) j x 0 (λ e. omega (arith, e)) ∙ p.above j (omega arith);
-  }
 
 -- The position of x is a half of word x / 2.
 module _ (a b l : List ℕ) (n : ℕ) (first x : ℕ) (put : get_or b (first + x / 2) 0 ≡ both (get_or l (2 * (x / 2)) 0) (get_or l (2 * (x / 2) + 1) 0)) where

@@ -84,17 +84,6 @@ module _ (v : Width) (w : List ℕ) (enough : answers_size v ≤ length w) (n i 
       put_other v w enough p (block_size v * n + i) is x (block_size v * (q - 1) + j)
       (λ e. let s = blocks_apart v q n j i l b low e in ne s.0 s.1)
 
-pub fresh-none : (v : Width) (w : List ℕ) → FreshTo v w 0
-fresh-none v w q l u = absurd (omega arith)
-
-pub fresh-next : (v : Width) (w : List ℕ) (n : ℕ) → FreshTo v w n → answers_size v ≤ length w → n < limits.most_queries → (p : ℕ)
-    → p ≡ length w - answers_size v + (block_size v * n + 0) → FreshTo v (set w p 0) (n + 1)
-fresh-next v w n h enough few p is q l u = go (eq_cases q (n + 1))
-  where
-    go : (q ≡ n + 1) ⊎ (q ≡ n + 1 → ⊥) → word_at v (answers_of v (set w p 0)) q 0 ≡ 0
-    go (inl e) = word_set v w enough n 0 few (omega arith) p is 0 q e
-    go (inr ne) = word-other v w enough n 0 few (omega arith) p is 0 q 0 l (omega arith) (λ e f. ne e) ∙ h q l (omega (arith, u, ne))
-
 -- ---- bases
 
 module _ (t : List ℕ) where

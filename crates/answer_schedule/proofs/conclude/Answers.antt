@@ -1,14 +1,14 @@
 -- The answers are lent on and come back (Answers.antt); with what the scheduler left, the schedule enters the table (`concluded`).
-use mathlib.Core.Path.{sym, ap}
-use Prim.Native.Nat.{ℕ, ◌+◌, ◌*◌, ◌≤◌}
+use mathlib.Core.Path.{ap}
+use Prim.Native.Nat.{ℕ, ◌+◌, ◌*◌, ◌≤◌, ◌<◌}
 use native.Mathlib.Omega.{arith}
 use lib.ListN.{length}
-use lib.Seq.{length-take-le}
+use lib.Seq.{get_or-take, length-take-le}
 use Rattle.answer_blocks.specs.Inner.Layout.{answers_size}
-use Rattle.order_rows.proofs.Laws.Zeros.{zero-at}
 use Rattle.answer_schedule.proofs.Laws.Bases.{roomy}
 use Rattle.answer_schedule.proofs.Laws.Answers.{lent_is, lent-long, lent-room, answers_back-length, back-answers, back-front}
 use Rattle.answer_schedule.proofs.Laws.Places.{entries_in}
+use Rattle.answer_schedule.proofs.Laws.Concluded.{answer_cut}
 use Rattle.answer_schedule.proofs.Laws.Entering.{lent-taken, lent_arranged, concluded}
 use Rattle.answer_schedule.proofs.Laws.Counts.{count-few}
 use Rattle.answer_schedule.proofs.conclude.Goals.{After-row}
@@ -19,24 +19,24 @@ rows_fit : (c : After-row) → (let a = c.args in c.row.result * a.count + answe
 rows_fit c =
     omega (arith, ap (λ (m : ℕ). m * c.args.count) c.row.ensures, c.requires.room.0)
 
-pub overflow_mul-rows : goal.overflow_mul-rows
-overflow_mul-rows c = record { fits = omega (arith, rows_fit c) }
-
-pub slice_bounds-arrange_rows-end : goal.slice_bounds-arrange_rows-end
-slice_bounds-arrange_rows-end c = omega (arith, rows_fit c)
-
-pub slice_bounds-arrange_rows-end-2 : goal.slice_bounds-arrange_rows-end-2
-slice_bounds-arrange_rows-end-2 c =
-    let a = c.args in
-    sym (length-take-le (c.row.result * a.count) a.work.now (omega (arith, rows_fit c)))
-
 pub arrange_rows-placed-requires : goal.arrange_rows-placed-requires
 arrange_rows-placed-requires c =
     let a = c.args in
-    record {
-      accepted_list = lent-taken a.width a.work.now _ a.count _ c.row.ensures _ a.query c.count_stmts-n.ensures c.requires.schedulable;
-      order_zeros = zero-at 128;
-      reached_zeros = zero-at 128;
+    record { accepted_list = lent-taken a.width a.work.now _ a.count _ c.row.ensures _ a.query c.count_stmts-n.ensures c.requires.schedulable }
+
+-- The buffers have room for the query's statements.
+few : (c : After-row) → c.count_stmts-n.result ≤ 128
+few c = omega (arith, c.count_stmts-n.ensures, count-few _ c.requires.asks_conclude.accepted c.args.query)
+
+pub invariant_of-answer : goal.invariant_of-answer
+invariant_of-answer c =
+    let s = c.arrange_rows-placed in
+    let n = c.count_stmts-n.result in
+    let low = few (goal.at.invariant_of-answer c).After-row in record {
+      spans_room = c.requires.asks_conclude.spans-room;
+      marked = λ k l.
+          let inside : k < n = omega (arith, l, length-take-le n s.new.order (omega (arith, low, s.auto.order))) in
+          omega (arith, get_or-take n s.new.order k 0 inside, entries_in _ _ _ _ _ _ _ _ s.ensures (omega (arith, low, s.auto.reached)) k inside);
     }
 
 pub store_answer-requires : goal.store_answer-requires
@@ -48,19 +48,16 @@ store_answer-requires c =
     let count = c.count_stmts-n in
     let s = c.arrange_rows-placed in
     let m = c.answers_of in record {
-      asks_block = (
-        record {
-          room = lent-long v w _ m.ensures enough;
-          from = pre.asks_conclude.from;
-          to = omega (arith, pre.asks_conclude.to, pre.asks_conclude.accepted.within.few-queries);
-        },
-        pre.asks_conclude.spans-room,
-      );
-      asks_places = record {
-        places-room = lent-room v w _ m.ensures enough _ pre.room.1 (roomy _ pre.asks_conclude.accepted) _ pre.asks_conclude.from pre.asks_conclude.to _ count.ensures;
-        ordered = omega (arith, count.ensures, count-few _ pre.asks_conclude.accepted c.args.query, s.auto.order);
-        marked = entries_in _ _ _ _ _ _ _ _ s.ensures (omega (arith, count.ensures, count-few _ pre.asks_conclude.accepted c.args.query, s.auto.reached));
+      asks_block = record {
+        room = lent-long v w _ m.ensures enough;
+        from = pre.asks_conclude.from;
+        to = omega (arith, pre.asks_conclude.to, pre.asks_conclude.accepted.within.few-queries);
       };
+      places_room = omega (
+        arith,
+        length-take-le count.result s.new.order (omega (arith, few (goal.at.store_answer-requires c).After-row, s.auto.order)),
+        lent-room v w _ m.ensures enough _ pre.room.1 (roomy _ pre.asks_conclude.accepted) _ pre.asks_conclude.from pre.asks_conclude.to _ count.ensures,
+      );
     }
 
 pub returns : goal.returns
@@ -75,9 +72,10 @@ returns c =
     let s = c.arrange_rows-placed in
     let m = c.answers_of in
     let last = c.store_answer in
-    let p = last.new.answers in
+    let p = last.new.words in
     concluded v a.tables.now pre.asks_conclude.accepted (roomy _ pre.asks_conclude.accepted) w a.query pre.asks_conclude.from pre.asks_conclude.to a.scope a.spans.now
     a.count pre.room.0 count.result count.ensures s.result _ _ (lent_arranged v w _ a.count _ row.ensures _ _ _ s.ensures)
-    _ (lent_is v w _ m.ensures enough) p last.ensures _
-    (back-answers v w _ m.ensures enough p last.auto.answers)
-    (answers_back-length v w _ m.ensures enough p last.auto.answers) (back-front v w _ m.ensures enough p last.auto.answers)
+    _ (lent_is v w _ m.ensures enough) p
+    (answer_cut _ _ _ _ _ count.result s.result s.new.order _ _ (omega (arith, few (goal.at.returns c).After-row, s.auto.order)) last.ensures) _
+    (back-answers v w _ m.ensures enough p last.auto.words)
+    (answers_back-length v w _ m.ensures enough p last.auto.words) (back-front v w _ m.ensures enough p last.auto.words)

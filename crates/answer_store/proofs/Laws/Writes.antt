@@ -1,39 +1,38 @@
--- Laws of `Writes`.
-use mathlib.Core.Path.{◌≡◌, refl, sym, ap, ◌∙◌, subst}
-use mathlib.Core.List.{List}
-use mathlib.Core.Logic.{◌⊎◌, inl, inr}
-use Prim.Native.Nat.{ℕ, ◌+◌, ◌<◌}
+-- Laws of `Written`.
+use mathlib.Core.Path.{◌≡◌, sym, ap, ◌∙◌}
+use mathlib.Core.List.{List, ◌++◌}
+use Prim.Native.Nat.{ℕ, ◌+◌, ◌-◌, ◌≤◌}
 use native.Mathlib.Omega.{arith}
-use lib.ListN.{length, get_or, set, length-set}
-use lib.Seq.{get_or-set_same, get_or-set_other}
-use Rattle.base.proofs.Laws.Truth.{eq_cases}
-use Rattle.answer_store.specs.Inner.Writes.{Written}
+use lib.ListN.{length, get_or, take, drop, length-drop, get_or-append}
+use lib.Seq.{get_or-append-add, get_or-take, get_or-drop, length-take-le}
+use borrow.Rule.Slice.PartMut.{post_of, put_mid, same_len_mid, mid_of}
+use Rattle.answer_store.specs.Inner.Writes.{Written, words_from}
 
-pub written_at : (w v : List ℕ) (m k n : ℕ) (f : ℕ → ℕ) → m ≡ k → Written w v m n f → Written w v k n f
-written_at w v m k n f e = subst (λ (at : ℕ). Written w v at n f) e
+-- Words that come back into the part that was lent.
+module _ (w : List ℕ) (at n : ℕ) (words : List ℕ) (room : at + n ≤ length w) (long : length words ≡ n) where
+  front : length (take at w) ≡ at
+  front = length-take-le at w (omega arith)
 
-module _ (w : List ℕ) (at : ℕ) (f : ℕ → ℕ) where
-  pub written_none : Written w w at 0 f
-  written_none = record {
-    long = refl;
-    within = λ i l. absurd (omega arith);
-    below = λ i l. refl;
-    above = λ i l. refl;
+  behind : (i : ℕ) → get_or (put_mid at n w words) (at + i) 0 ≡ get_or (words ++ post_of at n w) i 0
+  behind i =
+      let e : at + i ≡ length (take at w) + i = omega (arith, front) in
+      ap (λ (k : ℕ). get_or (put_mid at n w words) k 0) e ∙ get_or-append-add (take at w) (words ++ post_of at n w) i 0
+
+  part : length words ≡ length (mid_of at n w)
+  part = long ∙ sym (length-take-le n (drop at w) (omega (arith, length-drop at w)))
+
+  pub written_slice : Written w (put_mid at n w words) at n (words_from words)
+  written_slice = record {
+    long = same_len_mid at n w words part;
+    within = λ i l. behind i ∙ get_or-append words (post_of at n w) 0 i (omega (arith, long));
+    below = λ i l. get_or-append (take at w) (words ++ post_of at n w) 0 i (omega (arith, front)) ∙ get_or-take at w i 0 l;
+    above = λ i l. above-at (i - (at + n)) i (omega arith);
   }
-
-  module _ (v : List ℕ) (n : ℕ) (h : Written w v at n f) where
-    pub written-more : at + n < length w → (x : ℕ) → x ≡ f n → Written w (set v (at + n) x) at (n + 1) f
-    written-more room x is = record {
-      long = length-set v (at + n) x ∙ h.long;
-      within = λ i l. go i l (eq_cases i n);
-      below = λ i l. get_or-set_other v (at + n) i x 0 (λ e. omega (arith, e)) ∙ h.below i l;
-      above = λ i l. get_or-set_other v (at + n) i x 0 (λ e. omega (arith, e)) ∙ h.above i (omega arith);
-    }
-      where
-        go : (i : ℕ) → i < n + 1 → (i ≡ n) ⊎ (i ≡ n → ⊥) → get_or (set v (at + n) x) (at + i) 0 ≡ f i
-        go i l (inl e) =
-            ap (λ (k : ℕ). get_or (set v (at + n) x) (at + k) 0) e ∙ get_or-set_same v (at + n) x 0 (omega (arith, h.long, room)) ∙ is ∙ ap f (sym e)
-        go i l (inr ne) = get_or-set_other v (at + n) (at + i) x 0 (λ e. ne (omega (arith, e))) ∙ h.within i (omega (arith, l, ne))
-
-    pub written_all : (m : ℕ) → n ≡ m → Written w v at m f
-    written_all m e = subst (λ (k : ℕ). Written w v at k f) e h
+    where
+      above-at : (m i : ℕ) → i ≡ (at + n) + m → get_or (put_mid at n w words) i 0 ≡ get_or w i 0
+      above-at m i e =
+          let f : i ≡ at + (n + m) = omega (arith, e) in
+          let g : n + m ≡ length words + m = omega (arith, long) in
+          ap (λ (k : ℕ). get_or (put_mid at n w words) k 0) f ∙ behind (n + m)
+          ∙ ap (λ (k : ℕ). get_or (words ++ post_of at n w) k 0) g ∙ get_or-append-add words (post_of at n w) m 0
+          ∙ get_or-drop n (drop at w) m 0 ∙ get_or-drop at w (n + m) 0 ∙ sym (ap (λ (k : ℕ). get_or w k 0) f)

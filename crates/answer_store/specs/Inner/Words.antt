@@ -11,12 +11,9 @@ use Rattle.scope_state.specs.declared.Scope.{Scope}
 abbrev pub place_word : List ℕ → List ℕ → ℕ → ℕ
 place_word order reached k = 2 * get_or order k 0 + get_or reached (get_or order k 0) 0
 
--- The first four words of a block, with these for placed and the use of input.
-abbrev pub head_from : ℕ → ℕ → ℕ → ℕ → List ℕ
-head_from count base m n = (1 + m) ∷ n ∷ count ∷ base ∷ []
-
+-- The first four words of a block.
 abbrev pub head_words : Bool → ℕ → ℕ → Bool → List ℕ
-head_words uses count base placed = head_from count base (mark placed) (mark uses)
+head_words uses count base placed = (1 + mark placed) ∷ mark uses ∷ count ∷ base ∷ []
 
 -- The list v is w, with the block of query q written: of each set what the width has room for.
 pub record BlockWritten (z : Width) (w : List ℕ) (q : ℕ) (k : Scope) (l : List ℕ) (count base : ℕ) (placed : Bool) (v : List ℕ) : Type 0 where

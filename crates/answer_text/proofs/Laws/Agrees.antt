@@ -3,7 +3,7 @@ use mathlib.Core.Path.{◌≡◌, refl, sym, ap, ap₂, ◌∙◌}
 use mathlib.Core.Bool.{Bool, cond}
 use mathlib.Core.List.{List, [], ◌∷◌, ◌++◌, map, append-nil}
 use mathlib.Core.Option.{Option, none, some}
-use Prim.Native.Nat.{ℕ, ◌-◌, ◌/◌, ◌%◌, ◌<◌}
+use Prim.Native.Nat.{ℕ, ◌+◌, ◌-◌, ◌/◌, ◌%◌, ◌<◌}
 use native.Mathlib.Omega.{arith}
 use lib.ListN.{get_or}
 use Rattle.base.specs.Limits as limits
@@ -16,6 +16,9 @@ use Rattle.scope.specs.Scopes.{NameSet, contains, elements, Span, span_in}
 use Rattle.definition.specs.States.{QuerySchedule}
 use Rattle.order.specs.Turns.{mark}
 use Rattle.names_width.specs.declared.Width.{Width}
+use Rattle.answer_blocks.specs.declared.state.QuerySet.{QuerySet}
+use Rattle.answer_blocks.specs.declared.state.QuerySet.TheVariants.{Unscoped, Inputs}
+use Rattle.answer_blocks.specs.Inner.States.{set_index}
 use Rattle.answer_blocks.specs.Inner.Layout.{word_at, set_at, span_at, place_at}
 use Rattle.base.proofs.Laws.ListLaws.{concat_map-append, concat_map-nested}
 use Rattle.answer_text.specs.Inner.Stored.{SpanIn, HoldsSchedule, StoredAt}
@@ -72,12 +75,12 @@ module _ (v : Width) (w : List ℕ) (q : ℕ) where
     unfolding texts
     locals-analysed = concat_map-nested row_line _ (range 0 name_bound) ∙ texts-same _ (local_line v w q) 0 limits.per_name (λ x l u. local_same x)
 
-    names-analysed : (set : ℕ) (names : NameSet) → ((x : ℕ) → contains names x ≡ member (set_at v w q (set - 1)) x)
-        → concat_map row_line (map (λ x. q ∷ set ∷ x ∷ 0 ∷ 0 ∷ []) (elements names)) ≡ texts (name_line v w q set) 0 limits.per_name
+    names-analysed : (set : QuerySet) (names : NameSet) → ((x : ℕ) → contains names x ≡ member (set_at v w q (set_index set)) x)
+        → concat_map row_line (map (λ x. q ∷ (set_index set + 1) ∷ x ∷ 0 ∷ 0 ∷ []) (elements names)) ≡ texts (name_line v w q set) 0 limits.per_name
     unfolding texts elements name_line
     names-analysed set names has =
         concat-map row_line _ (elements names) ∙ concat-filter _ (contains names) (range 0 name_bound)
-        ∙ texts-same _ (name_line v w q set) 0 limits.per_name (λ x l u. ap (λ (b : Bool). cond b (row_line (q ∷ set ∷ x ∷ 0 ∷ 0 ∷ [])) []) (has x))
+        ∙ texts-same _ (name_line v w q set) 0 limits.per_name (λ x l u. ap (λ (b : Bool). cond b (row_line (q ∷ (set_index set + 1) ∷ x ∷ 0 ∷ 0 ∷ [])) []) (has x))
 
     sets-analysed : concat_map row_line (set_rows q (some a)) ≡ sets_text v w q
     sets-analysed =
@@ -86,7 +89,7 @@ module _ (v : Width) (w : List ℕ) (q : ℕ) where
         let m = map (λ x. q ∷ 3 ∷ x ∷ 0 ∷ 0 ∷ []) (elements a.scope.inputs) in
         concat_map-append row_line k (l ++ m)
         ∙ ap₂ (λ (x y : List ℕ). x ++ y) locals-analysed (concat_map-append row_line l m ∙ ap₂ (λ (x y : List ℕ). x ++ y)
-        (names-analysed 2 a.scope.unscoped s.unscoped) (names-analysed 3 a.scope.inputs s.inputs))
+        (names-analysed Unscoped a.scope.unscoped s.unscoped) (names-analysed Inputs a.scope.inputs s.inputs))
         ∙ sym (sets-once v w q once)
 
   pub query-stored : (o : Option QuerySchedule) → StoredAt v w q o → concat_map row_line (query_rows q o) ≡ query_text v w q

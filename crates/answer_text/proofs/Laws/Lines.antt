@@ -1,37 +1,28 @@
--- Lines and runs of lines, as they are written.
+-- Runs of texts, as they are written.
 use mathlib.Core.Path.{◌≡◌, sym, subst}
-use mathlib.Core.List.{List, [], ◌∷◌, ◌++◌, append_assoc}
+use mathlib.Core.List.{List, [], ◌∷◌}
+use Rattle.sheet.specs.Text.{newline}
 use Prim.Native.Nat.{ℕ, ◌+◌, ◌≤◌, ◌<◌}
-use Rattle.sheet.specs.Text.{space}
-use Rattle.answer_write.specs.Inner.Writes.{Puts}
-use Rattle.answer_write.proofs.Laws.Writes.{put_none, puts_then}
-use Rattle.answer.specs.Text.{decimal, row_line}
-use Rattle.answer_text.specs.Inner.Ranges.{texts}
+use Rattle.answer_write.specs.declared.Text.{Text}
+use Rattle.answer_write.specs.Inner.Texts.{Extends}
+use Rattle.answer_write.proofs.Laws.Texts.{extends_none, extends_then, extends_as}
+use Rattle.answer_text.specs.Inner.Ranges.{texts, section_of}
 use Rattle.answer_text.proofs.Laws.Ranges.{texts-none, texts-last, texts_skip}
 
--- The same text in another form.
-pub puts_as : (b : List ℕ) (at : ℕ) (c : List ℕ) (r : ℕ) (k l : List ℕ) → k ≡ l → Puts b at k c r → Puts b at l c r
-puts_as b at c r k l e p = subst (λ (m : List ℕ). Puts b at m c r) e p
+module _ (f : ℕ → List ℕ) (t : Text) (a : ℕ) where
+  pub run_first : Extends t (texts f a a) t
+  run_first = extends_as t [] _ t (sym (texts-none f a)) (extends_none t)
 
--- A value in front of a line.
-pub line-more : (b : List ℕ) (at x y : ℕ) (row c : List ℕ) (r : ℕ) (d : List ℕ) (s : ℕ)
-    → Puts b at (decimal x ++ (space ∷ [])) c r → Puts c r (row_line (y ∷ row)) d s → Puts b at (row_line (x ∷ y ∷ row)) d s
-line-more b at x y row c r d s f g =
-    subst (λ (l : List ℕ). Puts b at l d s) (append_assoc (decimal x) (space ∷ []) (row_line (y ∷ row)))
-    (puts_then b at (decimal x ++ (space ∷ [])) c r (row_line (y ∷ row)) d s f g)
+  pub run_next : (e : ℕ) → a ≤ e → (u v : Text) → Extends t (texts f a e) u → Extends u (f e) v → Extends t (texts f a (e + 1)) v
+  run_next e h u v p n = extends_as t _ _ v (sym (texts-last f a e h)) (extends_then t (texts f a e) u (f e) v p n)
 
--- ---- a run of lines
+  -- Numbers at which nothing is given.
+  pub run_skip : (e g : ℕ) → a ≤ e → e ≤ g → ((n : ℕ) → e ≤ n → n < g → f n ≡ []) → (u : Text) → Extends t (texts f a e) u → Extends t (texts f a g) u
+  run_skip e g l h none u p = extends_as t _ _ u (sym (texts_skip f a e g l h none)) p
 
-module _ (f : ℕ → List ℕ) (b : List ℕ) (at a : ℕ) where
-  pub run-first : Puts b at (texts f a a) b at
-  run-first = puts_as b at b at [] (texts f a a) (sym (texts-none f a)) (put_none b at)
-
-  pub run-next : (e : ℕ) → a ≤ e → (c : List ℕ) (r : ℕ) (d : List ℕ) (s : ℕ)
-      → Puts b at (texts f a e) c r → Puts c r (f e) d s → Puts b at (texts f a (e + 1)) d s
-  run-next e h c r d s p n =
-      puts_as b at d s _ (texts f a (e + 1)) (sym (texts-last f a e h)) (puts_then b at (texts f a e) c r (f e) d s p n)
-
-  -- Numbers that have no line.
-  pub run_skip : (e g : ℕ) → a ≤ e → e ≤ g → ((n : ℕ) → e ≤ n → n < g → f n ≡ []) → (c : List ℕ) (r : ℕ)
-      → Puts b at (texts f a e) c r → Puts b at (texts f a g) c r
-  run_skip e g l u none c r p = puts_as b at c r (texts f a e) (texts f a g) (sym (texts_skip f a e g l u none)) p
+-- A section: its heading, the texts of the queries, and an empty line.
+pub section_adds : (f : ℕ → List ℕ) (heading : List ℕ) (n : ℕ) (t u : Text) → Extends t heading u → (k : ℕ) → k ≡ n + 1 → (v : Text) → Extends u (texts f 1 k) v
+    → (x : Text) → x ≡ v → (y : Text) → Extends x (newline ∷ []) y → Extends t (section_of heading f n) y
+section_adds f heading n t u first k is v lines x same y last =
+    extends_then t heading u _ y first
+    (extends_then u (texts f 1 (n + 1)) x _ y (subst (λ (z : Text). Extends u (texts f 1 (n + 1)) z) (sym same) (subst (λ (m : ℕ). Extends u (texts f 1 m) v) is lines)) last)

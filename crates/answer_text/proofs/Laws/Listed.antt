@@ -3,53 +3,39 @@ use mathlib.Core.Path.{◌≡◌, sym, ap, ◌∙◌}
 use mathlib.Core.Bool.{true, false}
 use mathlib.Core.List.{List, [], ◌∷◌}
 use mathlib.Core.Logic.{⊎_elim}
-use Prim.Native.Nat.{ℕ, ◌+◌, ◌-◌, ◌*◌, ◌/◌, ◌%◌, ◌≤◌, ◌<◌}
+use Prim.Native.Nat.{ℕ, ◌+◌, ◌*◌, ◌/◌, ◌%◌, ◌≤◌, ◌<◌}
 use native.Mathlib.Omega.{arith}
 use Rattle.base.specs.Limits as limits
 use Rattle.base.proofs.Laws.Truth.{lt_cases, not-both}
 use Rattle.base.specs.Sets.{member, words_at}
-use Rattle.names.specs.Inner.Sets.{Next}
+use Rattle.names.specs.Inner.Sets.{Gap}
+use Rattle.names.specs.Inner.Members.{Lowest}
 use Rattle.names.proofs.Laws.Laws.{member_out}
 use Rattle.names_width.specs.declared.Width.{Width}
 use Rattle.names_width.specs.Inner.Widths.{set_words, Same}
 use Rattle.names_width.proofs.Laws.Laws.{words-length}
+use Rattle.answer_blocks.specs.declared.state.QuerySet.{QuerySet}
+use Rattle.answer_blocks.specs.Inner.States.{set_index}
 use Rattle.answer_blocks.specs.Inner.Layout.{set_at, span_at}
-use Rattle.answer_write.specs.Inner.Writes.{Puts}
+use Rattle.answer_write.specs.declared.Text.{Text}
+use Rattle.answer_write.specs.Inner.Texts.{Extends}
+use Rattle.answer_write.proofs.Laws.Texts.{extends_as}
 use Rattle.answer.specs.Text.{row_line}
 use Rattle.answer_text.specs.Inner.Ranges.{texts}
-use Rattle.answer_text.proofs.Laws.Lines.{puts_as, run-first, run-next, run_skip}
+use Rattle.answer_text.proofs.Laws.Lines.{run_first, run_next, run_skip}
 use Rattle.answer_text.specs.Inner.Texts.{local_line, name_line}
 
--- ---- the loop
+-- ---- the loop: the lines of the names below n are written
 
--- The name x is the next of the set, or the end; and the lines of the names below it are written.
-pub record ListedLines (f : ℕ → List ℕ) (ws b : List ℕ) (at x : ℕ) (c : List ℕ) (r : ℕ) : Type 0 where
-  pub high : x ≤ limits.per_name
-  pub here : x < limits.per_name → member ws x ≡ true
-  pub wrote : Puts b at (texts f 0 x) c r
+module _ (f : ℕ → List ℕ) (ws : List ℕ) (none : (n : ℕ) → member ws n ≡ false → f n ≡ []) (t : Text) where
+  pub lines_listed_next : {end : ℕ} (n x : ℕ) → Lowest ws end n x → (u : Text) → Extends t (texts f 0 n) u → (v : Text) → Extends u (f x) v
+      → Extends t (texts f 0 (x + 1)) v
+  lines_listed_next n x next u wrote v put =
+      run_next f t 0 x (omega arith) u v (run_skip f t 0 n x (omega arith) next.low (λ k l b. none k (next.gap k l b)) u wrote) put
 
-module _ (f : ℕ → List ℕ) (ws : List ℕ) (none : (n : ℕ) → member ws n ≡ false → f n ≡ []) (b : List ℕ) (at : ℕ) where
-  pub lines_listed_first : (x : ℕ) → Next ws limits.per_name 0 x → ListedLines f ws b at x b at
-  lines_listed_first x n = record {
-    high = n.high;
-    here = n.found;
-    wrote = run_skip f b at 0 0 x (omega arith) (omega arith) (λ k l u. none k (n.gap k l u)) b at (run-first f b at 0);
-  }
-
-  pub lines_listed_next : (x : ℕ) (c : List ℕ) (r : ℕ) → ListedLines f ws b at x c r → x < limits.per_name → (d : List ℕ) (s : ℕ) → Puts c r (f x) d s
-      → (y : ℕ) → Next ws limits.per_name (x + 1) y → ListedLines f ws b at y d s
-  lines_listed_next x c r l low d s put y n = record {
-    high = n.high;
-    here = n.found;
-    wrote =
-        run_skip f b at 0 (x + 1) y (omega arith) (omega (arith, n.low)) (λ k m u. none k (n.gap k m u)) d s
-        (run-next f b at 0 x (omega arith) c r d s l.wrote put);
-  }
-
-pub lines_listed_all : (f : ℕ → List ℕ) (ws b : List ℕ) (at x : ℕ) (c : List ℕ) (r : ℕ) → ListedLines f ws b at x c r → limits.per_name ≤ x → Puts b at (texts f 0 limits.per_name) c r
-lines_listed_all f ws b at x c r l h =
-    let e : x ≡ limits.per_name = omega (arith, l.high) in
-    puts_as b at c r (texts f 0 x) (texts f 0 limits.per_name) (ap (texts f 0) e) l.wrote
+  -- Where none is left, all are written.
+  pub lines_listed_all : (n : ℕ) → Gap ws n limits.per_name → n ≤ limits.per_name → (u : Text) → Extends t (texts f 0 n) u → Extends t (texts f 0 limits.per_name) u
+  lines_listed_all n left low u wrote = run_skip f t 0 n limits.per_name (omega arith) low (λ k l b. none k (left k l b)) u wrote
 
 -- ---- the sets
 
@@ -76,8 +62,8 @@ module _ (v : Width) (w : List ℕ) (q : ℕ) where
     unfolding local_line
     local_none h = rw (is.has x ∙ h)
 
-  module _ (set : ℕ) (ws : List ℕ) (is : Same (set_at v w q (set - 1)) ws) (x : ℕ) where
-    pub name-here : member ws x ≡ true → row_line (q ∷ set ∷ x ∷ 0 ∷ 0 ∷ []) ≡ name_line v w q set x
+  module _ (set : QuerySet) (ws : List ℕ) (is : Same (set_at v w q (set_index set)) ws) (x : ℕ) where
+    pub name-here : member ws x ≡ true → row_line (q ∷ (set_index set + 1) ∷ x ∷ 0 ∷ 0 ∷ []) ≡ name_line v w q set x
     unfolding name_line
     name-here h = rw (is.has x ∙ h)
 

@@ -1,19 +1,13 @@
--- The sections and the whole answer, as they are written.
-use Rattle.std.specs.Prelude.{List, ℕ}
-use Rattle.std.proofs.Math.Option.{Option}
-use Prim.Native.String.{String}
+-- The whole answer, as it is written.
+use Rattle.std.specs.Prelude.{◌≡◌, List, ℕ}
+use Rattle.answer.specs.Text.{answer_text}
 use Rattle.answer_write.specs.Inner.Writes.{Puts}
+use Rattle.answer_write.specs.declared.Text.{Text}
 use Rattle.definition.specs.States.{QuerySchedule}
-use Rattle.answer.specs.Text.{all_rows, section, answer_text}
 use Rattle.names_width.specs.declared.Width.{Width}
 use Rattle.answer_text.specs.Inner.Stored.{Stored}
 
--- What a call that writes a section ensures.
-abbrev pub PutsSection : (ℕ → Option QuerySchedule → List (List ℕ)) → String → Width → List ℕ → ℕ → List ℕ → ℕ → List ℕ → ℕ → Type 0
-PutsSection rows heading v w n b at c r =
-    (schedules : List QuerySchedule) → Stored v w schedules → Puts b at (section heading (all_rows rows n schedules)) c r
-
--- ---- the answer
-
-abbrev pub PutsAnswer : Width → List ℕ → ℕ → List ℕ → ℕ → List ℕ → ℕ → Type 0
-PutsAnswer v w n b at c r = (schedules : List QuerySchedule) → Stored v w schedules → Puts b at (answer_text n schedules) c r
+-- The text has at its end the answer about n queries, whatever schedules the words store.
+pub record PutsAnswer (v : Width) (w : List ℕ) (n : ℕ) (before after : Text) : Type 0 where
+  pub same : after.bytes.ghost_name ≡ before.bytes.ghost_name
+  pub puts : (schedules : List QuerySchedule) → Stored v w schedules → Puts before.bytes.now before.end (answer_text n schedules) after.bytes.now after.end

@@ -1,9 +1,12 @@
 -- The lines of a query, read off the words.
-use Rattle.std.specs.Prelude.{cond, List, [], ◌∷◌, ◌++◌, ℕ, ◌-◌, ◌/◌, ◌%◌, eqb}
+use Rattle.std.specs.Prelude.{cond, List, [], ◌∷◌, ◌++◌, ℕ, ◌+◌, ◌-◌, ◌/◌, ◌%◌, eqb}
 use Rattle.base.specs.Limits as limits
 use Rattle.base.specs.Sets.{member}
 use Rattle.answer.specs.Text.{row_line}
 use Rattle.names_width.specs.declared.Width.{Width}
+use Rattle.answer_blocks.specs.declared.state.QuerySet.{QuerySet}
+use Rattle.answer_blocks.specs.declared.state.QuerySet.TheVariants.{Unscoped, Inputs}
+use Rattle.answer_blocks.specs.Inner.States.{set_index}
 use Rattle.answer_blocks.specs.Inner.Layout.{word_at, set_at, span_at, place_at}
 use Rattle.answer_text.specs.Inner.Ranges.{texts}
 
@@ -27,8 +30,8 @@ module _ (v : Width) (w : List ℕ) (q : ℕ) where
       cond (member (set_at v w q 0) x) (row_line (q ∷ 1 ∷ x ∷ (span_at v w q x / 65536) ∷ (span_at v w q x % 65536) ∷ [])) []
 
   -- Nothing at a name that is not in the set.
-  unfoldable pub name_line : ℕ → ℕ → List ℕ
-  name_line set x = cond (member (set_at v w q (set - 1)) x) (row_line (q ∷ set ∷ x ∷ 0 ∷ 0 ∷ [])) []
+  unfoldable pub name_line : QuerySet → ℕ → List ℕ
+  name_line set x = cond (member (set_at v w q (set_index set)) x) (row_line (q ∷ (set_index set + 1) ∷ x ∷ 0 ∷ 0 ∷ [])) []
 
   unfoldable pub sets_text : List ℕ
-  sets_text = analysed [] (texts local_line 0 limits.per_name ++ (texts (name_line 2) 0 limits.per_name ++ texts (name_line 3) 0 limits.per_name))
+  sets_text = analysed [] (texts local_line 0 limits.per_name ++ (texts (name_line Unscoped) 0 limits.per_name ++ texts (name_line Inputs) 0 limits.per_name))

@@ -1,51 +1,13 @@
 -- Laws of `Writes`.
 use mathlib.Core.Path.{◌≡◌, refl, sym, ap, ◌∙◌, subst}
-use mathlib.Core.List.{List, [], ◌∷◌, ◌++◌, append_assoc, append-nil}
+use mathlib.Core.List.{List, [], ◌++◌, append_assoc, append-nil}
 use mathlib.Core.Logic.{◌⊎◌, inl, inr, ⊎_elim}
-use Prim.Native.Nat.{ℕ, suc, ◌+◌, ◌-◌, ◌≤◌, ◌<◌}
+use Prim.Native.Nat.{ℕ, ◌+◌, ◌-◌, ◌≤◌, ◌<◌}
 use native.Mathlib.Omega.{arith}
-use lib.ListN.{length, get_or, take, set, replicate, length-set, length-append, get_or-append, get_or-replicate, length-replicate, get_or-eq_default}
-use lib.Seq.{get_or-append_seam, get_or-append-add, get_or-set_same, get_or-set_other, ext_get_or, take-suc, take-length}
-use Rattle.base.proofs.Laws.Truth.{lt_cases, eq_cases}
+use lib.ListN.{length, get_or, replicate, length-append, get_or-append, get_or-replicate, length-replicate, get_or-eq_default}
+use lib.Seq.{get_or-append-add, ext_get_or}
+use Rattle.base.proofs.Laws.Truth.{lt_cases}
 use Rattle.answer_write.specs.Inner.Writes.{Wrote, Puts}
-
--- ---- a byte
-
-module _ (b : List ℕ) (at x : ℕ) where
-  length_more : (text : List ℕ) → length (text ++ (x ∷ [])) ≡ length text + 1
-  length_more text = length-append text (x ∷ [])
-
-  module _ (text : List ℕ) (w : Wrote b text at) (e : at ≡ length text) where
-    put_holds : (i : ℕ) → i < length (text ++ (x ∷ [])) → (i ≡ at) ⊎ (i ≡ at → ⊥) → i < length b
-        → get_or (set b at x) i 0 ≡ get_or (text ++ (x ∷ [])) i 0
-    put_holds i low (inl z) inside =
-        ap (λ (k : ℕ). get_or (set b at x) k 0) z ∙ get_or-set_same b at x 0 (omega arith) ∙ sym (get_or-append_seam text x [] 0)
-        ∙ ap (λ (k : ℕ). get_or (text ++ (x ∷ [])) k 0) (sym e ∙ sym z)
-    put_holds i low (inr ne) inside =
-        let n : i < length text = omega (arith, length_more text) in
-        get_or-set_other b at i x 0 ne ∙ w.holds i inside n ∙ sym (get_or-append text (x ∷ []) 0 i n)
-
-    put_fits : at < length b → Wrote (set b at x) (text ++ (x ∷ [])) (at + 1)
-    put_fits low = record {
-      placed = inl (omega (arith, length_more text), omega (arith, length-set b at x));
-      holds = λ i inside n. put_holds i n (eq_cases i at) (omega (arith, length-set b at x));
-      zeros = λ i n. let m = length_more text in get_or-set_other b at i x 0 (λ z. omega arith) ∙ w.zeros i (omega arith);
-    }
-
-  -- There is room for it.
-  pub put_in : at < length b → Puts b at (x ∷ []) (set b at x) (at + 1)
-  put_in low = (length-set b at x, λ text w. ⊎_elim (λ p. put_fits text w p.0 low) (λ p. absurd (omega (arith, p.0))) w.placed)
-
-  -- There is none.
-  pub byte_put_over : length b ≤ at → Puts b at (x ∷ []) b (length b + 1)
-  byte_put_over high = (refl, λ text w. over text w (⊎_elim (λ p. omega (arith, p.0, p.1)) (λ p. omega (arith, p.1)) w.placed))
-    where
-      over : (text : List ℕ) → Wrote b text at → length b ≤ length text → Wrote b (text ++ (x ∷ [])) (length b + 1)
-      over text w long = record {
-        placed = inr (omega arith, omega (arith, length_more text));
-        holds = λ i inside n. w.holds i inside (omega arith) ∙ sym (get_or-append text (x ∷ []) 0 i (omega arith));
-        zeros = λ i n. w.zeros i (omega (arith, length_more text));
-      }
 
 -- ---- bytes, one after the other
 
@@ -56,17 +18,6 @@ pub puts_then : (b : List ℕ) (at : ℕ) (k : List ℕ) (c : List ℕ) (r : ℕ
     → Puts b at k c r → Puts c r l d q → Puts b at (k ++ l) d q
 puts_then b at k c r l d q f g =
     (g.0 ∙ f.0, λ text w. subst (λ (t : List ℕ). Wrote d t q) (append_assoc text k l) (g.1 (text ++ k) (f.1 text w)))
-
-pub puts_next : (b : List ℕ) (at : ℕ) (bytes : List ℕ) (i : ℕ) → i < length bytes → (c : List ℕ) (r : ℕ) (d : List ℕ) (q : ℕ)
-    → Puts b at (take i bytes) c r → Puts c r (get_or bytes i 0 ∷ []) d q → Puts b at (take (i + 1) bytes) d q
-puts_next b at bytes i low c r d q f g =
-    let e : suc i ≡ i + 1 = omega arith in
-    subst (λ (l : List ℕ). Puts b at l d q) (sym (take-suc bytes i 0 low) ∙ ap (λ (k : ℕ). take k bytes) e)
-    (puts_then b at (take i bytes) c r (get_or bytes i 0 ∷ []) d q f g)
-
-pub puts_all : (b : List ℕ) (at : ℕ) (bytes c : List ℕ) (r i : ℕ) → i ≡ length bytes → Puts b at (take i bytes) c r → Puts b at bytes c r
-puts_all b at bytes c r i e f =
-    subst (λ (l : List ℕ). Puts b at l c r) (ap (λ (k : ℕ). take k bytes) e ∙ take-length bytes) f
 
 -- ---- all of it
 

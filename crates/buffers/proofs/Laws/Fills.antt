@@ -1,28 +1,25 @@
 -- A buffer whose front holds zeros, or the numbers from 0 up: one more at a time.
 use mathlib.Core.Path.{◌≡◌, sym, ap, ◌∙◌}
-use mathlib.Core.List.{List, [], ◌∷◌, ◌++◌, append_assoc, append-nil}
+use mathlib.Core.List.{List, [], ◌∷◌, ◌++◌, append_assoc}
 use Prim.Native.Nat.{ℕ, suc, ◌+◌, ◌-◌, ◌<◌}
 use native.Mathlib.Numerals.{add-one}
 use native.Mathlib.Omega.{arith}
 use lib.ListN.{length, get_or, drop, replicate, set}
-use lib.Seq.{drop-cons, drop-length, set_at}
-use borrow.Author.Fill.{fill_more}
+use lib.Seq.{drop-cons}
+use Rattle.std.proofs.lemmas.List.{set_at, drop_more, replicate_more, length-replicate}
 use Rattle.base.specs.Lists.{counted, range}
 use Rattle.base.proofs.Laws.Ranges.{length-counted, counted-snoc}
 
 -- ---- zeros
 
--- A buffer that held d, and holds zeros below i.
-abbrev pub cleared_to : List ℕ → ℕ → List ℕ
-cleared_to d i = replicate i 0 ++ drop i d
-
-pub clear-more : (d b : List ℕ) (i : ℕ) → i < length d → b ≡ cleared_to d i → set b i 0 ≡ cleared_to d (i + 1)
-clear-more d b i h is = ap (λ (l : List ℕ). set l i 0) is ∙ fill_more i 0 d h
-
-pub clear-all : (d b : List ℕ) (i : ℕ) → i ≡ length d → b ≡ cleared_to d i → b ≡ replicate (length d) 0
-clear-all d b i e is =
-    is ∙ ap (cleared_to d) e ∙ ap (λ (l : List ℕ). replicate (length d) 0 ++ l) (drop-length d)
-    ∙ append-nil (replicate (length d) 0)
+-- A buffer that was d, and holds v below i.
+pub clear-more : {A : Type 0} (v : A) (d b : List A) (i : ℕ) → i < length d → b ≡ replicate i v ++ drop i d → set b i v ≡ replicate (i + 1) v ++ drop (i + 1) d
+clear-more v d b i h is =
+    ap (λ (l : List _). set l i v) is
+    ∙ ap (λ (t : List _). set (replicate i v ++ t) i v) (drop_more d i v h)
+    ∙ set_at (replicate i v) (get_or d i v) (drop (i + 1) d) v i (length-replicate i v)
+    ∙ sym (append_assoc (replicate i v) (v ∷ []) (drop (i + 1) d))
+    ∙ ap (λ (l : List _). l ++ drop (i + 1) d) (replicate_more i v)
 
 -- ---- numbers
 

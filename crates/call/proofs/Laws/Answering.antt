@@ -1,17 +1,19 @@
 -- Questions 7 and 8 as the code puts them: each way out, by what the analysis and the writer say.
 use mathlib.Core.Path.{◌≡◌, sym, ap, subst, ◌∙◌}
-use mathlib.Core.Bool.{true, false}
 use mathlib.Core.List.{List, [], ◌++◌}
 use Prim.Native.Nat.{ℕ, ◌-◌, ◌≤◌, ◌<◌}
 use native.Mathlib.Omega.{arith}
 use lib.ListN.{length, take, drop, replicate, length-drop}
 use lib.Seq.{take-length}
+use Rattle.std.specs.Prelude.{Option, None, Some}
 use Rattle.base.specs.Refusals as refusals
 use Rattle.names_width.specs.declared.Width.{Width}
 use Rattle.names_width.specs.declared.Width.TheVariants.{Two, Eight}
 use Rattle.names_width.specs.Inner.Widths.{work}
 use Rattle.answer_blocks.specs.Inner.Layout.{answers_size}
+use Rattle.answer_write.specs.declared.Text.{Text}
 use Rattle.answer_write.specs.Inner.Writes.{Wrote, Puts}
+use Rattle.answer_text.specs.Inner.Sections.{PutsAnswer}
 use Rattle.answer_write.proofs.Laws.Writes.{starts, fits_whole, fits_not}
 use Rattle.sheet.specs.Inner.Records.{first_at}
 use Rattle.scope_walk.proofs.Laws.RowTrees.{rows-length}
@@ -25,12 +27,10 @@ use Rattle.original.specs.Inner.AnalysedOnce.{analysed_once}
 use Rattle.answer_text.specs.Inner.Stored.{Stored}
 use Rattle.answer_text.specs.Inner.Sound.{SoundBlocks}
 use Rattle.answer_text.proofs.Laws.Sound.{stored-sound}
-use Rattle.answer_text.specs.Inner.Sections.{PutsAnswer}
 use Rattle.scope_walk.specs.Inner.Sheets.{sheet_at, query_count}
 use Rattle.definition_state.specs.declared.Fault.{Fault}
-use Rattle.definition_state.specs.Inner.Faults.{is_sound}
+use Rattle.definition_state.specs.Inner.Faults.{meaning}
 use Rattle.definition_state.specs.Inner.Table.{answers_of}
-use Rattle.definition_state.proofs.Laws.Steps.{sound-is}
 use Rattle.call.specs.declared.replies.Reply.{Reply}
 use Rattle.definition_cycle.specs.Inner.Analysed.{Analysed}
 use Rattle.call.specs.Inner.Replies.{fault_reply, Replies}
@@ -54,8 +54,15 @@ lent-answers v k is w =
 
 -- ---- question 8
 
+-- What is put into a text that is empty yet.
+pub put_from : (v : Width) (w : List ℕ) (n : ℕ) (b : List ℕ) (t u : Text) → t.bytes.now ≡ b → t.end ≡ 0 → PutsAnswer v w n t u
+    → (l : List QuerySchedule) → Stored v w l → Puts b 0 (answer_text n l) u.bytes.now u.end
+put_from v w n b t u is start put l stored =
+    subst (λ (x : List ℕ). Puts x 0 (answer_text n l) u.bytes.now u.end) is
+    (subst (λ (m : ℕ). Puts t.bytes.now m (answer_text n l) u.bytes.now u.end) start (put.puts l stored))
+
 module _ (v : Width) (k : ℕ) (is : k ≡ answers_size v) (w : List ℕ) (n : ℕ) (b : List ℕ) (zeros : b ≡ replicate (length b) 0) (c : List ℕ) (r : ℕ)
-    (put : PutsAnswer v (lent_answers k w) n b 0 c r) (schedules : List QuerySchedule) (stored : Stored v (answers_of v w) schedules) where
+    (put : (l : List QuerySchedule) → Stored v (lent_answers k w) l → Puts b 0 (answer_text n l) c r) (schedules : List QuerySchedule) (stored : Stored v (answers_of v w) schedules) where
   puts : Puts b 0 (answer_text n schedules) c r
   puts = put schedules (subst (λ (l : List ℕ). Stored v l schedules) (sym (lent-answers v k is w)) stored)
 
@@ -80,22 +87,22 @@ module _ (v : Width) (k : ℕ) (is : k ≡ answers_size v) (w : List ℕ) (n : �
 
 -- ---- question 7
 
-module _ (v : Width) (t w : List ℕ) (f : Fault) (a : Analysed v t w f) where
+module _ (v : Width) (t w : List ℕ) (end : Option Fault) (a : Analysed v t w end) where
   abbrev run : Run
   run = analyze_query_snippet_once (sheet_at t)
 
-  pub fault-answered : is_sound f ≡ false → (room : ℕ) (r : Reply) → r ≡ fault_reply f → (b : List ℕ) → b ≡ replicate room 0
+  pub fault-answered : (f : Fault) → end ≡ Some f → (room : ℕ) (r : Reply) → r ≡ fault_reply f → (b : List ℕ) → b ≡ replicate room 0
       → Replies room (analysed_once (sheet_at t) room) r b
   unfolding analysed_once
-  fault-answered h room r e b z =
+  fault-answered f is room r e b z =
       let n = length (sheet_at t).queries in
       subst (λ (x : Reply). Replies room (finished n room run run.fault) x b) (sym e)
       (subst (Replies room (finished n room run run.fault) (fault_reply f)) (sym z)
-      (subst (λ (x : spec.Fault). Replies room (finished n room run x) (fault_reply f) (replicate room 0)) a.fault (fault_replies n room run f h)))
+      (subst (λ (x : spec.Fault). Replies room (finished n room run x) (fault_reply f) (replicate room 0)) (ap meaning (sym is) ∙ a.fault) (fault_replies n room run f)))
 
-  module _ (h : is_sound f ≡ true) where
+  module _ (h : end ≡ None) where
     ends : run.fault ≡ sound
-    ends = sym a.fault ∙ sound-is f h
+    ends = sym a.fault ∙ ap meaning h
 
     pub answers-sound : SoundBlocks v (answers_of v w)
     answers-sound = stored-sound v (answers_of v w) run.schedules (a.stored ends)

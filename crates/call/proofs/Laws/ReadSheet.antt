@@ -21,8 +21,9 @@ use Rattle.sheet.specs.Inner.Records.{Within}
 use Rattle.sheet.specs.Inner.Rows.{in_tables}
 use Rattle.sheet.specs.Faults.{first_line}
 use Rattle.sheet_facts.proofs.Laws.Facts.{sheet-facts}
-use Rattle.sheet.specs.declared.Outcome.TheVariants.{Read, NoRoom}
-use Rattle.sheet.specs.Verdict.{empty_tables, head_of, read_counts, read_special, read_tables, verdict}
+use Rattle.std.specs.Prelude.{Ok, Err}
+use Rattle.sheet.specs.declared.Refusal.TheVariants.{NoRoom}
+use Rattle.sheet.specs.Verdict.{empty_tables, head_of, read_counts, read_special, read_tables, Outcome, verdict}
 use Rattle.sheet_read.proofs.Laws.Passed.{verdict_read}
 use Rattle.sheet.specs.Sheet.{sheet_in}
 use Rattle.sheet.specs.Inner.Sheet.{sheet_of}
@@ -49,7 +50,7 @@ module _ (s : List ℕ) where
   unfolding sheet_at
   at_head = rw headed
 
-  module _ (w : Width) (room long : ℕ) (h : verdict (limits w) s room long ≡ Read) where
+  module _ (w : Width) (room long : ℕ) (h : verdict (limits w) s room long ≡ Ok tt) where
     -- Question 1.
     pub enough : (limit.table_entries ≤ room) × (work w ≤ long)
     unfolding verdict
@@ -57,7 +58,7 @@ module _ (s : List ℕ) where
       where
         go : ((leb limit.table_entries room && leb (work w) long) ≡ true) ⊎ ((leb limit.table_entries room && leb (work w) long) ≡ false) → (limit.table_entries ≤ room) × (work w ≤ long)
         go (inl e) = (leb-true limit.table_entries room (and_left _ _ e), leb-true (work w) long (and_right (leb limit.table_entries room) _ e))
-        go (inr e) = let f : NoRoom ≡ Read = rw e at h in let z : ◌≡◌ {A = ℕ} 0 1 = cc in absurd (omega arith)
+        go (inr e) = let f : ◌≡◌ {A = Outcome} (Err NoRoom) (Ok tt) = rw e at h in absurd cc
 
     -- Question 5.
     pub read_few_names : get_or (read_tables s) 0 0 ≤ names w

@@ -1,18 +1,17 @@
 -- What is returned beside what is left in the lent buffers, by each way out.
 use Rattle.std.specs.Prelude.{◌≡◌, List, ℕ, replicate}
 use Rattle.base.specs.Refusals as refusals
-use Rattle.sheet.specs.declared.Outcome.{Outcome}
+use Rattle.sheet.specs.declared.Refusal.{Refusal}
 use Rattle.sheet.specs.Verdict as questions
 use Rattle.answer.specs.Call.{Result, Left, left_by}
 use Rattle.definition_state.specs.declared.Fault.{Fault}
-use Rattle.definition_state.specs.declared.Fault.TheVariants.{Sound, Undefined, UsedBefore, Lengths, IndexVariable}
+use Rattle.definition_state.specs.declared.Fault.TheVariants.{Undefined, UsedBefore, Lengths, IndexVariable}
 use Rattle.call.specs.declared.replies.Reply.{Reply}
 
-abbrev pub outcome_reply : Outcome → Reply
-outcome_reply r = record { number = questions.number r; line = questions.fault_line r; col = 0 }
+abbrev pub refusal_reply : Refusal → Reply
+refusal_reply r = record { number = questions.refusal_number r; line = questions.refusal_line r; col = 0 }
 
 abbrev pub fault_reply : Fault → Reply
-fault_reply Sound = record { number = 0; line = 0; col = 0 }
 fault_reply (Undefined l c) = record { number = refusals.undefined_variable; line = l; col = c }
 fault_reply (UsedBefore l c) = record { number = refusals.used_before_definition; line = l; col = c }
 fault_reply (Lengths l c) = record { number = refusals.lengths_differ; line = l; col = c }

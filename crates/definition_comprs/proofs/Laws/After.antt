@@ -5,36 +5,30 @@ use mathlib.Core.List.{List}
 use mathlib.Core.Logic.{◌⊎◌, inl, inr}
 use Prim.Native.Nat.{ℕ}
 use Rattle.base.proofs.Laws.Truth.{not-both}
+use Rattle.std.specs.Prelude.{Option}
 use Rattle.sheet.specs.declared.Row.{Row}
 use Rattle.sheet.specs.Sheet.{Sheet}
 use Rattle.sheet.specs.Kinds.{is_compr}
 use Rattle.scope.specs.Trees.{Tree}
-use Rattle.definition.specs.States.{State, if_sound, Way}
+use Rattle.definition.specs.States.{State, Way}
 use Rattle.definition.specs.Comprs.{propagate, use_compr}
 use Rattle.definition_once.specs.Inner.OnceWay.{once_way}
 use Rattle.definition_state.specs.declared.Fault.{Fault}
-use Rattle.definition_state.specs.declared.Fault.TheVariants.{Sound, Undefined, UsedBefore, Lengths, IndexVariable}
 use Rattle.definition_state.specs.declared.Progress.{Progress}
 use Rattle.definition_state.specs.Inner.Faults.{is_sound, meaning}
-use Rattle.definition_state.specs.Inner.Frames.{failed, Agree}
+use Rattle.definition_state.specs.Inner.Frames.{with_fault, Agree}
+use Rattle.definition_state.proofs.Laws.Steps.{guarded_when_faulty}
 use Rattle.definition_comprs.specs.Inner.Rising.{rising, Risen}
 use Rattle.definition_comprs.specs.Inner.After.{AfterCompr}
 
 -- ---- after a fault
 
-skips : (f : Fault) → is_sound f ≡ false → (s : State) → meaning f ≡ s.run.fault → (g : State → State) → if_sound s.run.fault g s ≡ s
-skips Sound h s e g = absurd (not-both refl h)
-skips (Undefined l c) h s e g = rw (sym e)
-skips (UsedBefore l c) h s e g = rw (sym e)
-skips (Lengths l c) h s e g = rw (sym e)
-skips IndexVariable h s e g = rw (sym e)
-
-faulty-rises : (sheet : Sheet) (way : Way) (f : Fault) → is_sound f ≡ false → (s : State) → meaning f ≡ s.run.fault → (e : Tree) → rising sheet way e s ≡ s
-faulty-rises sheet way f h s m e = rw (skips f h s m (λ t. propagate sheet way t.scope e t)) (skips f h s m (use_compr sheet way e))
+faulty-rises : (sheet : Sheet) (way : Way) (f : Option Fault) → is_sound f ≡ false → (s : State) → meaning f ≡ s.run.fault → (e : Tree) → rising sheet way e s ≡ s
+faulty-rises sheet way f h s m e = rw (guarded_when_faulty (λ t. propagate sheet way t.scope e t) s f m h) (guarded_when_faulty (use_compr sheet way e) s f m h)
 
 -- ---- the ways out
 
-module _ (w : Row) (work : List ℕ) (p : Progress) (fault : Fault) (ws : List ℕ) where
+module _ (w : Row) (work : List ℕ) (p : Progress) (fault : Option Fault) (ws : List ℕ) where
   -- Not asked.
   pub not-asked : (is_compr w ≡ false) ⊎ (is_sound p.fault ≡ false) → AfterCompr w work p fault ws p ws
   not-asked f = record {
@@ -54,7 +48,7 @@ module _ (w : Row) (work : List ℕ) (p : Progress) (fault : Fault) (ws : List �
     asked (inr f) = absurd (not-both s f)
 
     -- The analysis failed.
-    pub fails : is_sound fault ≡ false → (r : Progress) → r ≡ failed p fault → AfterCompr w work p fault ws r ws
+    pub fails : is_sound fault ≡ false → (r : Progress) → r ≡ with_fault p fault → AfterCompr w work p fault ws r ws
     fails bad r is = record {
       count = ap (λ (q : Progress). q.count) is;
       wide = ap (λ (q : Progress). q.width) is;
@@ -64,7 +58,7 @@ module _ (w : Row) (work : List ℕ) (p : Progress) (fault : Fault) (ws : List �
     }
 
     -- Or it did not.
-    pub rose : is_sound fault ≡ true → (q : Progress) → q ≡ failed p fault → (r : Progress) (rs : List ℕ) → Risen w work q ws r rs
+    pub rose : is_sound fault ≡ true → (q : Progress) → q ≡ with_fault p fault → (r : Progress) (rs : List ℕ) → Risen w work q ws r rs
         → AfterCompr w work p fault ws r rs
     rose good q is r rs h = record {
       count = h.count ∙ ap (λ (x : Progress). x.count) is;

@@ -8,6 +8,8 @@ use native.Mathlib.Omega.{arith}
 use lib.Dec.{eqb, ltb}
 use lib.ListN.{length}
 use borrow.Author.Tests.{lt-ltb, le-ltb, eq-eqb, ne_eqb}
+use Rattle.std.specs.Prelude.{Option}
+use Rattle.sheet.specs.declared.fields.Section.{Section}
 use Rattle.base.specs.Limits as limits
 use Rattle.base.proofs.Laws.Truth.{bool_cases, lt_cases, eq_cases}
 use Rattle.sheet.specs.declared.Row.{Row}
@@ -87,7 +89,7 @@ module _ (t : List ℕ) (ok : Accepted t) where
       let field = (query-field x.kind is).0 in
       let e : Entry = expr_entry (counts_at t) (in_tables t) r (kind_of x.kind).third x.third in
       let within : x.third ≤ limit_of (counts_at t) (kind_of x.kind).third.section = rw field o.in_sheet in
-      let to : target_of (counts_at t) e ≡ x.third = target_row (counts_at t) (expr_row r) e (omega (arith, o.nests.not_first)) within ∙ ap (λ (i : ℕ). row_in i x.third) field in
+      let to : target_of (counts_at t) e ≡ x.third = target_row (counts_at t) (expr_row r) e (omega (arith, o.nests.not_first)) within ∙ ap (λ (i : Option Section). row_in i x.third) field in
       let same : 1 + (x.third - 1) ≡ x.third = omega (arith, o.nests.not_first) in
       omega (
         arith,

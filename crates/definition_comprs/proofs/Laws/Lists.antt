@@ -1,12 +1,12 @@
 -- Laws of `Lists`: the comprehensions at a row are the row itself, if it is one, and those at the rows that a walk enters.
 use mathlib.Core.Path.{◌≡◌, refl, sym, ap, ◌∙◌, subst}
-use mathlib.Core.Bool.{Bool, true, false, cond, ◌&&◌}
+use mathlib.Core.Bool.{Bool, true, false, cond}
 use mathlib.Core.List.{List, [], ◌∷◌, ◌++◌}
 use mathlib.Core.Logic.{◌⊎◌, inl, inr}
 use Prim.Native.Nat.{ℕ, zero, suc, ◌+◌, ◌-◌, ◌≤◌, ◌<◌}
 use native.Mathlib.Omega.{arith}
-use lib.Dec.{leb}
-use lib.ListN.{length, get_or, set, length-append, length-set}
+use Rattle.std.proofs.lemmas.List.{get_or-take, length-take-le}
+use lib.ListN.{length, take, get_or, set, length-append, length-set}
 use lib.Seq.{get_or-set_same, get_or-set_other}
 use Rattle.base.specs.Limits as limits
 use Rattle.base.proofs.Laws.Truth.{bool_cases, lt_cases, not-both}
@@ -17,7 +17,10 @@ use Rattle.scope.specs.Trees.{Tree, row_of}
 use Rattle.scope_walk.specs.declared.Kids.{Kids}
 use Rattle.scope_walk.specs.Inner.Kids.{kids_of}
 use Rattle.scope_walk.specs.Inner.Walks.{alone}
-use Rattle.scope_walk.proofs.Laws.Arms.{KidsTurn}
+use Rattle.sheet.specs.declared.kinds.Kind.{Kind}
+use Rattle.sheet.specs.Inner.Kinds.{KindNumbered}
+use Rattle.scope_walk.proofs.Laws.Arms.{KidsTurn, Quiet, compr_number, quiet_but_comprs, no_compr_kind}
+use Rattle.scope_walk.proofs.Laws.Numbers.{number_of, by_number, OneOf, same_of, compr_kinds}
 use Rattle.scope_walk.proofs.Laws.Walks.{alone_at}
 use Rattle.scope_walk.specs.Inner.Sheets.{counts_at, special_at, sheet_at, Accepted, expr_count}
 use Rattle.scope_walk.specs.Inner.Exprs.{expr_by}
@@ -47,6 +50,17 @@ module _ (t : List ℕ) where
   listed-append a at (suc m) n k e =
       let y : suc m + n ≡ suc (m + n) = omega arith in
       rw y (ap (λ (l : List Tree). expr_by t false (get_or a at 0) ∷ l) (listed-append a (suc at) m n k (omega arith)))
+
+  -- The front of a list lists what stands there.
+  pub listed_front : (rows : List ℕ) (end : ℕ) → end ≤ length rows → listed_at t (take end rows) 0 (length (take end rows)) ≡ listed_at t rows 0 end
+  listed_front rows end room = rw (length-take-le end rows room) (listed_same (take end rows) rows 0 end (λ j l m. get_or-take end rows j 0 (omega arith)))
+
+  pub front_listed : (Home : ℕ → Type 0) (rows : List ℕ) (end : ℕ) → end ≤ length rows → ListedComprs t Home rows 0 end
+      → ListedComprs t Home (take end rows) 0 (length (take end rows))
+  front_listed Home rows end room h j low high =
+      let long : length (take end rows) ≡ end = length-take-le end rows room in
+      let under : j < end = omega arith in
+      subst (ComprRow t Home) (sym (get_or-take end rows j 0 under)) (h j low under)
 
   -- ---- one after the other, up to place `end`
 
@@ -237,18 +251,18 @@ module _ (t : List ℕ) (ok : Accepted t) (Home : ℕ → Type 0) (v : ℕ) (row
 
 -- ---- the arms of `list_comprs`, on how many are listed and the list
 
+abbrev ListDone : Row → ℕ → ℕ × List ℕ → ℕ × List ℕ → Type 0
+ListDone w row a b = ListsRow w row a.1 a.0 b.1 b.0
+
 abbrev pub ListTurn : Row → ℕ → ℕ × List ℕ → ℕ × List ℕ → Kids → Type 0
-ListTurn w row = KidsTurn (λ a b. ListsRow w row a.1 a.0 b.1 b.0) w
+ListTurn w row = KidsTurn (ListDone w row) w
 
-abbrev pub is_compr_kind : ℕ → Bool
-is_compr_kind kind = leb 10 kind && leb kind 12
-
-pub compr_kind_lem : (w : Row) (n : ℕ) → w.kind ≡ n → is_compr_kind n ≡ true → is_compr w ≡ true
-compr_kind_lem w n e is = ap is_compr_kind e ∙ is
+pub compr_among : {k : Kind} (w : Row) → KindNumbered w.kind k → OneOf k compr_kinds → is_compr w ≡ true
+compr_among {k} w e one = by_number compr_number w.kind k e (no_compr_kind w) ∙ same_of (λ j. compr_number (number_of j)) true k compr_kinds refl one
 
 module _ (w : Row) (row : ℕ) (a : ℕ × List ℕ) where
-  pub lists_still : is_compr_kind w.kind ≡ false → ListsRow w row a.1 a.0 a.1 a.0
-  lists_still n = record { other = λ _. (refl, refl); compr = λ y. absurd (not-both y n) }
+  pub lists_still : (kind : Kind) → KindNumbered w.kind kind → Quiet (ListDone w row) w compr_number kind a
+  lists_still kind is = quiet_but_comprs is (λ n. record { other = λ _. (refl, refl); compr = λ y. absurd (not-both y n) })
 
   pub lists_compr : is_compr w ≡ true → (b : ℕ × List ℕ) → (b.1 ≡ set a.1 a.0 row) × (b.0 ≡ a.0 + 1) → ListsRow w row a.1 a.0 b.1 b.0
   lists_compr y b h = record { other = λ n. absurd (not-both y n); compr = λ _. h }

@@ -12,7 +12,7 @@ use Rattle.base.proofs.Laws.Lists.{elem-filter}
 use Rattle.base.proofs.Laws.Ranges.{elem-range}
 use Rattle.base.specs.Sets.{member}
 use Rattle.names.specs.Inner.Sets.{Difference}
-use Rattle.names.specs.declared.Names.{Names}
+use Rattle.names.specs.Inner.Names.{Names}
 use Rattle.scope.specs.Scopes.{NameSet, contains, elements, owns}
 use Rattle.scope_state.specs.declared.Scope.{Scope}
 use Rattle.definition_comprs.specs.Inner.OwnInputs.{OwnInputs}

@@ -8,7 +8,7 @@ use Rattle.base.specs.Lists.{filter, range}
 use Rattle.base.proofs.Laws.Lists.{elem-filter}
 use Rattle.base.specs.Sets.{member}
 use Rattle.names.specs.Inner.Sets.{Difference}
-use Rattle.names.specs.declared.Names.{Names}
+use Rattle.names.specs.Inner.Names.{Names}
 use Rattle.sheet.specs.declared.Row.{Row}
 use Rattle.sheet.specs.Sheet.{Sheet}
 use Rattle.scope.specs.Trees.{Tree, row_of}

@@ -12,7 +12,7 @@ use Rattle.base.specs.Limits as limits
 use Rattle.base.proofs.Laws.Truth.{not-both}
 use Rattle.names.specs.Inner.Sets.{Empty}
 use Rattle.names.proofs.Laws.Laws.{member_below}
-use Rattle.names.specs.declared.Names.{Names}
+use Rattle.names.specs.Inner.Names.{Names}
 use Rattle.names_width.specs.declared.Width.{Width}
 use Rattle.names_width.specs.Inner.Widths.{set_words, Same}
 use Rattle.base.specs.Sets.{words_at}

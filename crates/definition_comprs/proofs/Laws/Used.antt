@@ -1,13 +1,13 @@
 -- Laws of `Used`.
-use mathlib.Core.Path.{◌≡◌, refl, sym, ap, ◌∙◌}
+use mathlib.Core.Path.{◌≡◌, refl, sym, ap, ◌∙◌, subst}
 use mathlib.Core.Bool.{Bool, true, false, ◌&&◌, ◌||◌}
 use mathlib.Core.List.{List, [], ◌∷◌}
-use Prim.Native.Nat.{ℕ}
+use Prim.Native.Nat.{ℕ, ◌+◌, ◌-◌, ◌<◌}
 use Rattle.base.specs.Lists.{elem}
 use Rattle.base.proofs.Laws.Lists.{elem-filter}
 use Rattle.base.specs.Sets.{member}
 use Rattle.names.specs.Inner.Sets.{Union}
-use Rattle.names.specs.declared.Names.{Names}
+use Rattle.names.specs.Inner.Names.{Names}
 use Rattle.names_width.specs.declared.Width.{Width}
 use Rattle.sheet.specs.declared.Row.{Row}
 use Rattle.scope.specs.Trees.{Tree, row_of}
@@ -22,6 +22,11 @@ use Rattle.definition_comprs.specs.Inner.Takes.{TakenBy}
 use Rattle.definition_comprs.specs.Inner.OwnInputs.{OwnInputs}
 use Rattle.definition_comprs.proofs.Laws.OwnInputs.{elem-elements}
 use Rattle.definition_comprs.specs.Inner.Used.{ComprStep, row_use, ComprsUsed}
+use Rattle.definition_comprs.specs.Inner.Lists.{listed_at}
+use Rattle.definition_comprs.proofs.Laws.Lists.{listed-end, listed-step}
+use Rattle.scope_walk.specs.Inner.Exprs.{expr_by}
+use native.Mathlib.Omega.{arith}
+use lib.ListN.{length, get_or}
 
 module _ (v : Width) (k : Scope) (work : List ℕ) where
   pub step-compr : (w : Row) (a : Names) (tk : Taken) → TakenBy v work w.third tk → (own : Names) → OwnInputs k tk.inputs own
@@ -59,3 +64,24 @@ module _ (v : Width) (k : Scope) (work : List ℕ) where
   unfolding comprs_use
   used-one e cs w is a s₀ b one others sheet nested parents s h stored =
       adds_then a s₀ b (row_use s (row_of e)) (comprs_use sheet (once_way sheet nested parents) cs s) (rw is (one s h stored)) (others sheet nested parents s h stored)
+
+-- The loop over listed rows: what is used, once those from place `at` on are.
+abbrev pub UsedOnwards : List ℕ → Width → Scope → List ℕ → List ℕ → Names → Names → ℕ → Type 0
+UsedOnwards t v k work rows names used at =
+    (b : Names) → ComprsUsed v k work (listed_at t rows at (length rows - at)) used b → ComprsUsed v k work (listed_at t rows 0 (length rows)) names b
+
+module _ (t : List ℕ) (v : Width) (k : Scope) (work rows : List ℕ) (names : Names) where
+  pub onwards_first : UsedOnwards t v k work rows names names 0
+  onwards_first b h = let e : length rows - 0 ≡ length rows = omega arith in subst (λ (n : ℕ). ComprsUsed v k work (listed_at t rows 0 n) names b) e h
+
+  pub onwards_next : (used : Names) (at : ℕ) → at < length rows → UsedOnwards t v k work rows names used at
+      → (w : Row) → row_of (expr_by t false (get_or rows at 0)) ≡ w → (after : Names) → ComprStep v k work w used after
+      → UsedOnwards t v k work rows names after (at + 1)
+  onwards_next used at low onwards w is after step b h =
+      onwards b (subst (λ (cs : List Tree). ComprsUsed v k work cs used b) (sym (listed-step t rows at (length rows) (omega arith) (λ e. omega arith)))
+      (used-one v k work (expr_by t false (get_or rows at 0)) (listed_at t rows (at + 1) (length rows - (at + 1))) w is used after b step h))
+
+  pub onwards_last : (used : Names) (at : ℕ) → at ≡ length rows → UsedOnwards t v k work rows names used at
+      → ComprsUsed v k work (listed_at t rows 0 (length rows)) names used
+  onwards_last used at end onwards =
+      onwards used (subst (λ (cs : List Tree). ComprsUsed v k work cs used used) (sym (listed-end t rows at (length rows) end)) (used-none v k work used))

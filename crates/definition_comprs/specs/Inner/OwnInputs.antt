@@ -1,7 +1,7 @@
 -- The own names of a scope among the inputs of another, as words and as a list.
 use Rattle.std.specs.Prelude.{◌≡◌, ◌&&◌, ℕ}
 use Rattle.base.specs.Sets.{member}
-use Rattle.names.specs.declared.Names.{Names}
+use Rattle.names.specs.Inner.Names.{Names}
 use Rattle.scope.specs.Scopes as spec
 use Rattle.scope.specs.Scopes.{owns}
 use Rattle.scope_state.specs.declared.Scope.{Scope}

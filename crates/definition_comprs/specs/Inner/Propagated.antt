@@ -1,7 +1,7 @@
 -- Names that come to the inputs of a scope.
 use Rattle.std.specs.Prelude.{Bool, ℕ}
 use mathlib.Core.List.{List, foldl}
-use Rattle.names.specs.declared.Names.{Names}
+use Rattle.names.specs.Inner.Names.{Names}
 use Rattle.scope.specs.Scopes as spec
 use Rattle.scope.specs.Scopes.{add_input, use_input}
 use Rattle.scope_state.specs.declared.Scope.{Scope}

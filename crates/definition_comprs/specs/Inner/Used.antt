@@ -1,7 +1,7 @@
 -- What comprehensions use of the query around them.
 use Rattle.std.specs.Prelude.{List, ℕ, ◌≤◌, length}
 use Rattle.base.specs.Lists.{filter}
-use Rattle.names.specs.declared.Names.{Names}
+use Rattle.names.specs.Inner.Names.{Names}
 use Rattle.names_width.specs.declared.Width.{Width}
 use Rattle.answer_blocks.specs.Inner.Layout.{answers_size}
 use Rattle.sheet.specs.declared.Row.{Row}
@@ -36,9 +36,7 @@ module _ (v : Width) (k : Scope) (work : List ℕ) where
       → Adds a (comprs_use sheet (once_way sheet nested parents) cs s) b
 
 -- Comprehensions in a list, wherever they lie.
-pub record AsksListed (t : List ℕ) (v : Width) (rows : List ℕ) (at end : ℕ) (work : List ℕ) : Type 0 where
+pub record AsksListed (t : List ℕ) (v : Width) (rows : List ℕ) (work : List ℕ) : Type 0 where
   pub accepted : Accepted t
-  pub up : at ≤ end
-  pub in_list : end ≤ length rows
-  pub comprehensions : ListedComprs t (λ q. ⊥) rows at end
+  pub comprehensions : ListedComprs t (λ q. ⊥) rows 0 (length rows)
   pub answers-room : answers_size v ≤ length work

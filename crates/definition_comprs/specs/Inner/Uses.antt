@@ -4,7 +4,7 @@ use Rattle.std.specs.Prelude.{ℕ}
 use Rattle.base.specs.Limits as limits
 use Rattle.base.specs.Lists.{filter, range}
 use Rattle.base.specs.Sets.{member}
-use Rattle.names.specs.declared.Names.{Names}
+use Rattle.names.specs.Inner.Names.{Names}
 use Rattle.sheet.specs.declared.Row.{Row}
 use Rattle.scope.specs.Scopes.{Span}
 use Rattle.definition.specs.Uses.{add_first_use}

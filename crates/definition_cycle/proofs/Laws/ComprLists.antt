@@ -5,7 +5,8 @@ use mathlib.Core.List.{List, [], ◌∷◌, ◌++◌, foldl-append}
 use mathlib.Core.Logic.{◌⊎◌, inl, inr}
 use Prim.Native.Nat.{ℕ, ◌+◌, ◌-◌, ◌*◌, ◌≤◌}
 use native.Mathlib.Omega.{arith}
-use lib.ListN.{length, get_or}
+use lib.ListN.{length, get_or, take}
+use Rattle.std.specs.Prelude.{Option}
 use Rattle.base.specs.Limits as limits
 use Rattle.base.proofs.Laws.Truth.{bool_cases, eq_cases}
 use Rattle.names_width.specs.declared.Width.{Width}
@@ -34,7 +35,7 @@ use Rattle.definition_state.proofs.Laws.Frames.{runs_none}
 use Rattle.definition_comprs.specs.Inner.Queries.{QueryIn}
 use Rattle.definition_comprs.proofs.Laws.Queries.{row-query}
 use Rattle.definition_comprs.specs.Inner.Lists.{most_listed, ComprRow, listed_at, both_at, AtRows, ListsBoth}
-use Rattle.definition_comprs.proofs.Laws.Lists.{listed_in, listed-step, listed_next}
+use Rattle.definition_comprs.proofs.Laws.Lists.{listed_in, listed-step, listed_next, listed_front, front_listed}
 use Rattle.definition_comprs.specs.Inner.Used.{AsksListed}
 use Rattle.definition_comprs.specs.Inner.Pending.{pending_at}
 use Rattle.definition_comprs.proofs.Laws.Pending.{pending}
@@ -86,15 +87,18 @@ module _ (t : List ℕ) (rest : Bool) (one two : ℕ) (rows : List ℕ) (end : �
   pub both_is : listed_at t rows 0 (end - 0) ≡ both_at t rest one two
   both_is = let e : end - 0 ≡ end = omega arith in rw e l.expressions
 
-  -- What is asked where their uses are gathered.
-  pub both_used : (v : Width) → Accepted t → most_listed ≤ length rows → (work : List ℕ) → answers_size v ≤ length work → AsksListed t v rows 0 end work
-  both_used v ok rows-room work answers-room = record {
-    accepted = ok;
-    up = omega arith;
-    in_list = omega (arith, l.fits);
-    comprehensions = listed_in t rows 0 end (AtRows t one two) (λ q. ⊥) (λ q o. absurd o) l.comprehensions;
-    answers-room = answers-room;
-  }
+  module _ (rows-room : most_listed ≤ length rows) where
+    -- They stand in the front.
+    pub both_front : listed_at t (take end rows) 0 (length (take end rows)) ≡ both_at t rest one two
+    both_front = listed_front t rows end (omega (arith, l.fits)) ∙ l.expressions
+
+    -- What is asked where their uses are gathered.
+    pub both_used : (v : Width) → Accepted t → (work : List ℕ) → answers_size v ≤ length work → AsksListed t v (take end rows) work
+    both_used v ok work answers-room = record {
+      accepted = ok;
+      comprehensions = front_listed t (λ q. ⊥) rows end (omega (arith, l.fits)) (listed_in t rows 0 end (AtRows t one two) (λ q. ⊥) (λ q o. absurd o) l.comprehensions);
+      answers-room = answers-room;
+    }
 
   module _ (inner : List ℕ) where
     -- And where they are processed.
@@ -202,7 +206,7 @@ module _ (t inner rows : List ℕ) (place end : ℕ) (p : Progress) (firsts work
         go (inl z) = inl z
         go (inr ne) = inr (begun ne)
 
-    pub own_does : (levels : ℕ) (fault : Fault) (part : List ℕ) (long : length part ≡ length (lent a a-is))
+    pub own_does : (levels : ℕ) (fault : Option Fault) (part : List ℕ) (long : length part ≡ length (lent a a-is))
         → DoesQuery t p.width inner query w.first w.second levels (lent a a-is) fault part → (r : Progress) (firsts' : List ℕ)
         → AfterCompr w (tail-whole p.width work a (room_at a a-is) part long) p fault firsts r firsts'
         → DoesComprs t inner (expr_by t false row ∷ []) levels p firsts work r firsts' (tail-whole p.width work a (room_at a a-is) part long)

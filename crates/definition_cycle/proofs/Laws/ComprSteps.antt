@@ -8,6 +8,7 @@ use Prim.Native.Nat.{ℕ, ◌+◌, ◌-◌, ◌*◌, ◌≤◌, ◌<◌}
 use native.Mathlib.Omega.{arith}
 use lib.ListN.{length, get_or, take}
 use borrow.Rule.Slice.PartMut.{post_of, put_same}
+use Rattle.std.specs.Prelude.{Option, None}
 use Rattle.base.specs.Limits as limits
 use Rattle.base.proofs.Laws.Truth.{bool_cases, eq_cases}
 use Rattle.names_width.specs.Inner.Widths as Widths
@@ -25,13 +26,12 @@ use Rattle.scope_walk.specs.Inner.Exprs.{expr_by}
 use Rattle.scope_walk.proofs.Laws.Exprs.{tree_is, row_is}
 use Rattle.scope_state.specs.Inner.Chains.{chain_at}
 use Rattle.definition_state.specs.declared.Fault.{Fault}
-use Rattle.definition_state.specs.declared.Fault.TheVariants.{Sound}
 use Rattle.definition_state.specs.declared.Progress.{Progress}
 use Rattle.definition_state.specs.Inner.Faults.{is_sound}
 use Rattle.definition_state.proofs.Laws.Steps.{sound-is, not_sound}
 use Rattle.definition_state.proofs.Laws.Held.{held_same}
 use Rattle.definition_state.proofs.Laws.Tails.{tail, tail-length, tail-answers, tail-whole, whole_length, whole-answers, whole-front, table_of}
-use Rattle.definition_state.specs.Inner.Frames.{failed, WholeState, Agree}
+use Rattle.definition_state.specs.Inner.Frames.{with_fault, WholeState, Agree}
 use Rattle.definition_steps.proofs.Laws.Guards.{guarded-sound, compr-stays}
 use Rattle.definition_comprs.specs.Inner.Pending.{unscheduled_at, pending_at}
 use Rattle.definition_comprs.proofs.Laws.Pending.{pending_scheduled, pending}
@@ -43,7 +43,7 @@ use Rattle.definition_cycle.specs.Inner.Queries.{DoesQuery}
 module _ (t : List ℕ) (ok : Accepted t) (inner : List ℕ) (levels row : ℕ) (there : row ≡ 0 → ⊥) (high : row ≤ expr_count t) (w : Row)
     (is : w ≡ row_at t row) (third : is_compr w ≡ true → (1 ≤ w.third) × (w.third ≤ limits.most_queries)) (p : Progress) (firsts work : List ℕ)
     (a : ℕ) (a-is : a ≡ Widths.row_words p.width * p.count) (low : a + answers_size p.width ≤ length work)
-    (query : ℕ) (asks : query ≡ pending_at p w work) (fault : Fault) (part : List ℕ)
+    (query : ℕ) (asks : query ≡ pending_at p w work) (fault : Option Fault) (part : List ℕ)
     (long : length part ≡ length (tail p.width work a low))
     (does : DoesQuery t p.width inner query w.first w.second levels (tail p.width work a low) fault part)
     (r : Progress) (firsts' : List ℕ) (after : AfterCompr w (tail-whole p.width work a low part long) p fault firsts r firsts') where
@@ -96,16 +96,16 @@ module _ (t : List ℕ) (ok : Accepted t) (inner : List ℕ) (levels row : ℕ) 
       analysed = analyze_compr (nested_by t levels) (s.scope ∷ parents) expr s
 
       -- Its query has a schedule already.
-      old : query ≡ 0 → Agree t spans (failed p fault) firsts now_work analysed
+      old : query ≡ 0 → Agree t spans (with_fault p fault) firsts now_work analysed
       unfolding analysed analyze_compr
       old z =
           let had = pending_scheduled p w work s.run.schedules held.table.stored (third c).0 (third c).1 c b (sym asks ∙ z) in
           let same : analysed ≡ s = rw (row_of_lem, had.1) in
-          let f : fault ≡ Sound = (does.none z).0 in
+          let f : fault ≡ None = (does.none z).0 in
           rw (same, f, same-work z) (record { fault = sym clear; count = h.count; whole = λ e. record { scope = held.scope; used-first = held.used-first; rows = held.rows; table = held.table } })
 
       -- It is analysed now.
-      new : (query ≡ 0 → ⊥) → Agree t spans (failed p fault) firsts now_work analysed
+      new : (query ≡ 0 → ⊥) → Agree t spans (with_fault p fault) firsts now_work analysed
       unfolding analysed analyze_compr set_run
       new ne =
           let due = pending p w work s.run.schedules held.table.stored (third c).0 (third c).1 c b (λ z. ne (asks ∙ z)) in
@@ -129,12 +129,12 @@ module _ (t : List ℕ) (ok : Accepted t) (inner : List ℕ) (levels row : ℕ) 
       rises : Agree t spans r firsts' now_work (process_compr (sheet_at t) (way_by t levels parents) s expr)
       unfolding process_compr analysed
       rises =
-          let one : Agree t spans (failed p fault) firsts now_work analysed = go (eq_cases query 0) in
+          let one : Agree t spans (with_fault p fault) firsts now_work analysed = go (eq_cases query 0) in
           subst (λ (u : State). Agree t spans r firsts' now_work (rising (sheet_at t) (way_by t levels parents) expr u))
           (sym (guarded-sound (analyze_compr (nested_by t levels) (s.scope ∷ parents) expr) s clear))
           (after.rises c b (sheet_at t) (nested_by t levels) parents t spans analysed expr row_of_lem one)
         where
-          go : (query ≡ 0) ⊎ (query ≡ 0 → ⊥) → Agree t spans (failed p fault) firsts now_work analysed
+          go : (query ≡ 0) ⊎ (query ≡ 0 → ⊥) → Agree t spans (with_fault p fault) firsts now_work analysed
           go (inl z) = old z
           go (inr ne) = new ne
 

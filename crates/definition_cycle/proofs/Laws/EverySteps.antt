@@ -7,10 +7,11 @@ use Prim.Native.Nat.{ℕ, suc, ◌+◌, ◌-◌, ◌*◌, ◌≤◌, ◌<◌}
 use native.Mathlib.Omega.{arith}
 use lib.ListN.{length, get_or, take}
 use borrow.Rule.Slice.PartMut.{post_of, put_same}
+use Rattle.std.specs.Prelude.{Option}
 use Rattle.base.proofs.Laws.Truth.{bool_cases}
 use Rattle.base.specs.Sets.{members}
 use Rattle.names.specs.Inner.Sets.{Empty}
-use Rattle.names.specs.declared.Names.{Names}
+use Rattle.names.specs.Inner.Names.{Names}
 use Rattle.names_width.specs.Inner.Widths as Widths
 use Rattle.answer_blocks.specs.Inner.Layout.{answers_size}
 use Rattle.sheet.specs.declared.Statement.{Statement}
@@ -58,7 +59,7 @@ use Rattle.definition_state.specs.Inner.Faults.{is_sound}
 use Rattle.definition_state.proofs.Laws.Held.{held_same}
 use Rattle.definition_state.specs.Inner.Table.{Table}
 use Rattle.definition_state.proofs.Laws.Tails.{tail, tail-length, tail-answers, tail-whole, whole_length, whole-answers, whole-front, table_of}
-use Rattle.definition_state.specs.Inner.Frames.{failed, guarded, Agree, Grown}
+use Rattle.definition_state.specs.Inner.Frames.{with_fault, guarded, Agree, Grown}
 use Rattle.definition_state.proofs.Laws.Frames.{grown_then}
 use Rattle.definition_state.proofs.Laws.Steps.{agree_sound, not_sound}
 use Rattle.definition_steps.proofs.Laws.Guards.{guarded-sound, guarded-stays, fault_cases, was_sound}
@@ -267,9 +268,9 @@ module _ (t : List ℕ) (ok : Accepted t) (outer spans : List ℕ) (st : Stateme
               go (inl b) = inr (begun b)
               go (inr b) = inl (which ∙ rw b)
 
-          module _ (fault : Fault) (part : List ℕ) (long : length part ≡ length (lent n n-is))
+          module _ (fault : Option Fault) (part : List ℕ) (long : length part ≡ length (lent n n-is))
               (does : DoesQuery t s.width body query 0 0 x.levels (lent n n-is) fault part)
-              (r : Progress) (ends : r ≡ cond (is_sound s.fault) (failed s fault) s) where
+              (r : Progress) (ends : r ≡ cond (is_sound s.fault) (with_fault s fault) s) where
             abbrev now_work : List ℕ
             now_work = tail-whole s.width work'' n (room_at n n-is) part long
 
@@ -282,14 +283,14 @@ module _ (t : List ℕ) (ok : Accepted t) (outer spans : List ℕ) (st : Stateme
             same_count : r.count ≡ s.count
             same_count = ap (λ (z : Progress). z.count) ends ∙ go (is_sound s.fault)
               where
-                go : (b : Bool) → (cond b (failed s fault) s).count ≡ s.count
+                go : (b : Bool) → (cond b (with_fault s fault) s).count ≡ s.count
                 go true = refl
                 go false = refl
 
             same_width : r.width ≡ s.width
             same_width = ap (λ (z : Progress). z.width) ends ∙ go (is_sound s.fault)
               where
-                go : (b : Bool) → (cond b (failed s fault) s).width ≡ s.width
+                go : (b : Bool) → (cond b (with_fault s fault) s).width ≡ s.width
                 go true = refl
                 go false = refl
 
@@ -302,7 +303,7 @@ module _ (t : List ℕ) (ok : Accepted t) (outer spans : List ℕ) (st : Stateme
 
             module _ (parents : List Scope) (z : State) (a : Agree t spans s firsts' work'' z)
                 (o : z.run.fault ≡ sound → Outer inner (z.scope ∷ parents)) where
-              sound-turn : is_sound s.fault ≡ true → Agree t spans (failed s fault) firsts' now_work (analysed parents z)
+              sound-turn : is_sound s.fault ≡ true → Agree t spans (with_fault s fault) firsts' now_work (analysed parents z)
               unfolding set_run
               sound-turn b =
                   let fine = agree_sound t spans s firsts' work'' z a b in
@@ -329,7 +330,7 @@ module _ (t : List ℕ) (ok : Accepted t) (outer spans : List ℕ) (st : Stateme
                 where
                   go : (is_sound s.fault ≡ true) ⊎ (is_sound s.fault ≡ false) → Agree t spans r firsts' now_work (guarded (analysed parents) z)
                   go (inl b) =
-                      let is : r ≡ failed s fault = ends ∙ rw b in
+                      let is : r ≡ with_fault s fault = ends ∙ rw b in
                       rw (is, guarded-sound (analysed parents) z (agree_sound t spans s firsts' work'' z a b)) (sound-turn b)
                   go (inr b) =
                       let is : r ≡ s = ends ∙ rw b in

@@ -11,7 +11,7 @@ use lib.ListN.{length}
 use borrow.Author.Tests.{eq-eqb, ne_eqb, eqb-true}
 use Rattle.base.proofs.Laws.Truth.{bool_cases, eq_cases, not-both}
 use Rattle.base.specs.Sets.{members}
-use Rattle.names.specs.declared.Names.{Names}
+use Rattle.names.specs.Inner.Names.{Names}
 use Rattle.sheet.specs.declared.Row.{Row}
 use Rattle.names_width.specs.declared.Width.{Width}
 use Rattle.sheet.specs.Inner.Sheet.{row_at}

@@ -6,9 +6,12 @@ use mathlib.Core.Logic.{◌⊎◌, inl, inr}
 use Prim.Native.Nat.{ℕ, suc, ◌≤◌, ◌<◌}
 use native.Mathlib.Omega.{arith}
 use lib.Dec.{eqb}
-use borrow.Author.Tests.{eq-eqb}
+use borrow.Author.Tests.{eq-eqb, ne_eqb}
 use Rattle.base.proofs.Laws.Truth.{lt_cases}
 use Rattle.sheet.specs.declared.Statement.{Statement}
+use Rattle.sheet.specs.declared.kinds.Form.{Form}
+use Rattle.sheet.specs.declared.kinds.Form.TheVariants as shape
+use Rattle.sheet.specs.Inner.Kinds.{FormNumbered, NoArm}
 use Rattle.sheet.specs.Inner.Records.{statement_row_at}
 use Rattle.sheet.specs.Fields.{forms, form_of}
 use Rattle.sheet.specs.declared.Row.{Row}
@@ -96,6 +99,16 @@ from_three form low one two = omega arith
 
 to_four : (form : ℕ) → form ≤ 5 → (form ≡ 5 → ⊥) → form ≤ 4
 to_four form high five = omega arith
+
+-- The forms that a match leaves beside the others.
+pub plain_form : {k : Form} (form : ℕ) → FormNumbered form k → (k ≡ shape.NotExpr) ⊎ (k ≡ shape.Unknown)
+    → (form ≡ 1 → ⊥) × (form ≡ 2 → ⊥) × (form ≡ 5 → ⊥) × (eqb form 3 ≡ false)
+plain_form form is (inl e) =
+    let four : form ≡ 4 = subst (FormNumbered form) e is in
+    ((λ z. omega arith), (λ z. omega arith), (λ z. omega arith), ne_eqb form 3 (λ z. omega arith))
+plain_form form is (inr e) =
+    let no : NoArm 5 form = subst (FormNumbered form) e is in
+    (no.0.0.0.0.1, no.0.0.0.1, no.1, ne_eqb form 3 no.0.0.1)
 
 -- The first field of an expression's form is set.
 expr-set : (form : ℕ) → (form ≡ 3) ⊎ (form ≡ 4) → (form_of form).first.set ≡ true

@@ -11,7 +11,7 @@ use borrow.Author.Tests.{lt-ltb, le-ltb}
 use Rattle.base.specs.Limits as limits
 use Rattle.base.proofs.Laws.Truth.{bool_cases}
 use Rattle.names.specs.Inner.Sets.{Empty}
-use Rattle.names.specs.declared.Names.{Names}
+use Rattle.names.specs.Inner.Names.{Names}
 use Rattle.order.specs.Definitions.{Definition}
 use Rattle.scope.specs.Trees.{Tree}
 use Rattle.scope.specs.Traverse.{comprs}
@@ -116,7 +116,7 @@ module _ (t : List ℕ) where
           → Agree t spans (cond (true && ltb p.count v.count) (failed v IndexVariable) v) fs ws (fail_if_some defs used)
       by_count fine [] n = rw (le-ltb p.count v.count (omega arith)) used-agrees
       by_count fine (d ∷ defs) n =
-          rw (lt-ltb p.count v.count (omega arith)) (failed-agrees t spans v fs ws used used-agrees IndexVariable refl)
+          rw (lt-ltb p.count v.count (omega arith)) (failed-agrees t spans v fs ws used used-agrees IndexVariable)
 
       fails_agree : Agree t spans (after v) fs ws (guarded (fail_some i e) used)
       fails_agree = go (bool_cases (is_sound v.fault))

@@ -7,6 +7,7 @@ use Prim.Native.Nat.{ℕ, suc, ◌+◌, ◌-◌, ◌*◌, ◌≤◌, ◌<◌}
 use native.Mathlib.Omega.{arith}
 use lib.Dec.{ltb}
 use lib.ListN.{length, get_or}
+use Rattle.std.specs.Prelude.{Option, None}
 use Rattle.base.specs.Limits as limits
 use Rattle.names_width.specs.declared.Width.{Width}
 use Rattle.names_width.specs.declared.Width.TheVariants.{Two, Eight}
@@ -44,7 +45,6 @@ use Rattle.scope_state.specs.Inner.Enclosing.{Encloses}
 use Rattle.scope_state.proofs.Laws.Enclosing.{scopes_enclosed}
 use Rattle.definition_walk.specs.Inner.Firsts.{Firsts}
 use Rattle.definition_state.specs.declared.Fault.{Fault}
-use Rattle.definition_state.specs.declared.Fault.TheVariants.{Sound}
 use Rattle.definition_state.specs.declared.Progress.{Progress}
 use Rattle.definition_state.specs.Inner.Faults.{is_sound, meaning}
 use Rattle.definition_state.specs.Inner.Held.{Held}
@@ -103,10 +103,10 @@ some-names Eight = refl
 
 -- ---- no query, or no level left
 
-pub does_none : (t : List ℕ) (z : Width) (outer : List ℕ) (query key value levels : ℕ) (work : List ℕ) → query ≡ 0 → DoesQuery t z outer query key value levels work Sound work
+pub does_none : (t : List ℕ) (z : Width) (outer : List ℕ) (query key value levels : ℕ) (work : List ℕ) → query ≡ 0 → DoesQuery t z outer query key value levels work None work
 does_none t z outer query key value levels work e₀ = record { none = λ e. (refl, refl); one = λ ne. absurd (ne e₀) }
 
-pub does_nothing : (t : List ℕ) (z : Width) (outer : List ℕ) (query key value levels : ℕ) (work : List ℕ) → levels ≡ 0 → DoesQuery t z outer query key value levels work Sound work
+pub does_nothing : (t : List ℕ) (z : Width) (outer : List ℕ) (query key value levels : ℕ) (work : List ℕ) → levels ≡ 0 → DoesQuery t z outer query key value levels work None work
 unfolding analyze_once
 does_nothing t z outer query key value levels work e₀ =
     rw e₀ (record { none = λ e. (refl, refl); one = λ ne parents run o fine table. (sym fine, λ e. table) })
@@ -373,7 +373,7 @@ module _ (t : List ℕ) (z : Width) (outer work : List ℕ) (query key value : �
 
       -- ---- the end
 
-      module _ (r : Fault) (w₃ : List ℕ) (done : Finished t w₂ query s.scope v spans r w₃) where
+      module _ (r : Option Fault) (w₃ : List ℕ) (done : Finished t w₂ query s.scope v spans r w₃) where
         abbrev Ends : Run → Type 0
         Ends e = (meaning r ≡ e.fault) × (e.fault ≡ sound → Table z t w₃ e.schedules)
 
@@ -400,7 +400,7 @@ module _ (t : List ℕ) (z : Width) (outer work : List ℕ) (query key value : �
         ∙ sym (last-agrees b.parents run b.beneath refl b.table).fault ∙ sound-is v.fault fine in
         schedulable v.width t w₂ query _ spans v.count _ (omega (arith, room-last)) (ending b.parents run b.beneath refl b.table well)
 
-    pub does_query : (levels : ℕ) → levels ≡ suc n → (r : Fault) (w₃ : List ℕ) → Finished t w₂ query s.scope v spans r w₃
+    pub does_query : (levels : ℕ) → levels ≡ suc n → (r : Option Fault) (w₃ : List ℕ) → Finished t w₂ query s.scope v spans r w₃
         → DoesQuery t z outer query key value levels work r w₃
     does_query levels e r w₃ done = rw e (record {
       none = λ e₀. absurd (omega (arith, b.from, e₀));

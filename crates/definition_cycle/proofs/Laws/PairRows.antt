@@ -3,7 +3,6 @@
 use mathlib.Core.Path.{◌≡◌, refl, sym, ap, ◌∙◌, subst}
 use mathlib.Core.Bool.{Bool, true, false, cond, ◌&&◌}
 use mathlib.Core.List.{List, [], ◌∷◌, ◌++◌, foldl, foldl-append}
-use mathlib.Core.Logic.{inl}
 use Prim.Native.Nat.{ℕ, ◌+◌, ◌≤◌}
 use native.Mathlib.Omega.{arith}
 use lib.Dec.{eqb}
@@ -19,23 +18,23 @@ use Rattle.definition.specs.Exprs.{Pairing, pair, mismatch, assign_pairing}
 use Rattle.definition_room.specs.Inner.Sizes.{total}
 use Rattle.definition_room.proofs.Laws.Lists.{total-append}
 use Rattle.definition_room.specs.Inner.Exprs.{pair_cost}
-use Rattle.scope_walk.specs.Inner.Kids.{kids_of}
 use Rattle.definition_room.proofs.Laws.Lying.{lies-there}
 use Rattle.definition_room.proofs.Laws.Homes.{pattern_no_compr, next-lies, fields_lie}
 use Rattle.scope_walk.specs.Inner.Sheets.{counts_at, sheet_at, Accepted, expr_count}
 use Rattle.scope_walk.specs.Inner.Exprs.{expr_by}
 use Rattle.scope_state.specs.Inner.Chains.{chain_at}
 use Rattle.scope_walk.specs.Inner.Walking.{remains}
-use Rattle.scope_walk.proofs.Laws.Walking.{Falls, calls, chain_call, first_call, first-low}
+use Rattle.scope_walk.proofs.Laws.Walking.{Falls, chain_call, first_call, first-low}
 use Rattle.definition_literal.specs.declared.context.Context.{Context}
 use Rattle.definition_literal.specs.declared.pairs.Pair.{Pair}
+use Rattle.definition_literal.specs.declared.pairs.Pair.TheVariants.{Sides, Chains, Differ}
 use Rattle.definition_literal.specs.Inner.Pairs.{pair_by}
 use Rattle.definition_state.specs.declared.Fault.TheVariants.{Lengths}
 use Rattle.definition_state.specs.declared.Progress.{Progress}
 use Rattle.definition_state.specs.Inner.Faults.{is_sound}
 use Rattle.definition_state.proofs.Laws.Steps.{agree_sound, failed-agrees, guarded_when_sound, runs-stays}
 use Rattle.definition_state.specs.Inner.Frames.{failed, Agree}
-use Rattle.definition_steps.proofs.Laws.Pairs.{pairings-left, pairings-row}
+use Rattle.definition_steps.proofs.Laws.Pairs.{pairings-row}
 use Rattle.definition_cycle.specs.Inner.Sites.{way_by, LiesIn, RunsIn}
 use Rattle.definition_cycle.proofs.Laws.Moves.{inside-next, runs_in, runs_in_then, runs_in_as}
 use Rattle.definition_cycle.proofs.Laws.Steadies.{steady_pairs}
@@ -73,10 +72,6 @@ module _ (t inner : List ℕ) (check : Bool) (x : Context) (p : Progress) (fs w 
 
 -- ---- the fault of lengths that differ
 
--- The pairing of a mismatch at b, if d.
-abbrev pub unequal : Row → Bool → List Pairing
-unequal b d = cond d (mismatch b ∷ []) []
-
 module _ (t inner : List ℕ) (check : Bool) (x : Context) (b : Row) (p : Progress) (fs w : List ℕ) where
   mismatched : (m : Mods) (e : Bool) → is_sound p.fault ≡ e
       → RunsIn t inner (λ parents s. assign_pairing (sheet_at t) (way_by t x.levels parents) x.statement m check s (mismatch b))
@@ -87,32 +82,42 @@ module _ (t inner : List ℕ) (check : Bool) (x : Context) (b : Row) (p : Progre
     agrees = λ parents spans s o a.
         subst (Agree t spans (failed p (Lengths b.line b.col)) fs w)
         (sym (guarded_when_sound (fail (lengths b.line b.col)) s (agree_sound t spans p fs w s a e)))
-        (failed-agrees t spans p fs w s a (Lengths b.line b.col) refl);
+        (failed-agrees t spans p fs w s a (Lengths b.line b.col));
   }
   mismatched m false e = runs_in t inner _ p p fs fs w w (runs-stays t (fail (lengths b.line b.col)) p fs w e)
 
-  pub differs : (d : Bool) (r : Progress) → r ≡ cond (d && is_sound p.fault) (failed p (Lengths b.line b.col)) p
-      → DoesPairs t inner (unequal b d) check x p fs w r fs w
-  differs false r is m st = rw is (no_pairs t inner check x p fs w [] refl m st)
-  differs true r is m st = rw is (mismatched m (is_sound p.fault) refl)
+  pub differs : (r : Progress) → r ≡ cond (is_sound p.fault) (failed p (Lengths b.line b.col)) p
+      → DoesPairs t inner (mismatch b ∷ []) check x p fs w r fs w
+  differs r is m st = rw is (mismatched m (is_sound p.fault) refl)
 
 -- ---- what the rows come to
 
+-- The pairings of a pair, with b on the right.
+abbrev pub pairings_of : List ℕ → Row → Pair → List Pairing
+pairings_of t b (Sides l r) = pair_at t l r
+pairings_of t b (Chains l r) = pairs_at t l r
+pairings_of t b Differ = mismatch b ∷ []
+
+-- Two rows that lie in the queries in which l and r lie.
+pub record RowsWithin (t : List ℕ) (l r left right : ℕ) : Type 0 where
+  pub left-low : left ≤ expr_count t
+  pub right_low : right ≤ expr_count t
+  pub left-lies : (q : ℕ) → LiesIn t q l → LiesIn t q left
+  pub right_lies : (q : ℕ) → LiesIn t q r → LiesIn t q right
+
+-- The rows of a pair do; chains are entered further on.
+abbrev pub Entered : List ℕ → ℕ → ℕ → Pair → Type 0
+Entered t l r (Sides left right) = RowsWithin t l r left right
+Entered t l r (Chains left right) = RowsWithin t l r left right × Falls t (remains t l) left
+Entered t l r Differ = Unit
+
 module _ (t : List ℕ) (l r : ℕ) (a b : Row) (pr : Pair) where
-  -- The parts of their turn are their pairings, and lie on rows of the query that both lie in.
+  -- The pairings of the pair, then those of the rest of both chains.
   pub record Split : Type 0 where
-    pub is : pairs_at t l r
-        ≡ ((unequal b pr.differs ++ pair_at t pr.left pr.right) ++ pairs_at t pr.lefts pr.rights) ++ pairs_at t a.next b.next
-    pub left-low : pr.left ≤ expr_count t
-    pub right_low : pr.right ≤ expr_count t
-    pub lefts_fall : Falls t (remains t l) pr.lefts
-    pub rights_low : pr.rights ≤ expr_count t
+    pub is : pairs_at t l r ≡ pairings_of t b pr ++ pairs_at t a.next b.next
+    pub entered : Entered t l r pr
     pub next_falls : Falls t (remains t l) a.next
     pub next_low : b.next ≤ expr_count t
-    pub left-lies : (q : ℕ) → LiesIn t q l → LiesIn t q pr.left
-    pub right_lies : (q : ℕ) → LiesIn t q r → LiesIn t q pr.right
-    pub lefts_lie : (q : ℕ) → LiesIn t q l → LiesIn t q pr.lefts
-    pub rights_lie : (q : ℕ) → LiesIn t q r → LiesIn t q pr.rights
     pub next-lies : (q : ℕ) → LiesIn t q l → LiesIn t q a.next
     pub others_lie : (q : ℕ) → LiesIn t q r → LiesIn t q b.next
 
@@ -128,19 +133,12 @@ module _ (t : List ℕ) (ok : Accepted t) where
         (fields_lie (counts_at t) t ok.within ok.fine q row (omega arith) high (lies-there (counts_at t) t q row (omega arith) h)
         (pattern_no_compr (row_at t row) (or_left _ _ array))).first
 
-    -- A call on no row.
-    none_falls : Falls t (remains t row) 0
-    none_falls = (calls t ok row there high (remains t row) refl false (row_at t row) refl (kids_of (row_at t row)) refl).next
-
   module _ (l : ℕ) (some : l ≡ 0 → ⊥) (high : l ≤ expr_count t) (r : ℕ) (there : r ≡ 0 → ⊥) (upto : r ≤ expr_count t) where
     abbrev left-row : Row
     left-row = row_at t l
 
     abbrev right_row : Row
     right_row = row_at t r
-
-    no_parts : pairs_at t 0 0 ≡ []
-    no_parts = pairings-left t ok 0 0 refl
 
     next : Falls t (remains t l) left-row.next
     next = chain_call t ok l some high (remains t l) refl left-row.next refl
@@ -152,52 +150,30 @@ module _ (t : List ℕ) (ok : Accepted t) where
         → pairs_at t l r
         ≡ (cond x (cond y (pairs_at t left-row.first right_row.first) (mismatch right_row ∷ [])) (pair (expr_by t false l) (expr_by t false r) ∷ [])
         ++ pairs_at t left-row.next right_row.next)
-        → Split t l r left-row right_row
-        (cond x (cond y (record { left = 0; right = 0; lefts = left-row.first; rights = right_row.first; differs = false })
-        (record { left = 0; right = 0; lefts = 0; rights = 0; differs = true }))
-        (record { left = l; right = r; lefts = 0; rights = 0; differs = false }))
+        → Split t l r left-row right_row (cond x (cond y (Chains left-row.first right_row.first) Differ) (Sides l r))
     split_by true true la ra is = record {
       is = is;
-      left-low = omega arith;
-      right_low = omega arith;
-      lefts_fall = first_call t ok l some high (remains t l) refl left-row refl;
-      rights_low = first-low t ok r there upto right_row refl;
+      entered = (
+        record {
+          left-low = (first_call t ok l some high (remains t l) refl left-row refl).1;
+          right_low = first-low t ok r there upto right_row refl;
+          left-lies = items_lie l some high (la refl);
+          right_lies = items_lie r there upto (ra refl);
+        },
+        first_call t ok l some high (remains t l) refl left-row refl,
+      );
       next_falls = next;
       next_low = other.1;
-      left-lies = λ q h. inl refl;
-      right_lies = λ q h. inl refl;
-      lefts_lie = items_lie l some high (la refl);
-      rights_lie = items_lie r there upto (ra refl);
       next-lies = after-lies l some high;
       others_lie = after-lies r there upto;
     }
-    split_by true false la ra is = record {
-      is = is ∙ ap (λ (k : List Pairing). (mismatch right_row ∷ k) ++ pairs_at t left-row.next right_row.next) (sym no_parts);
-      left-low = omega arith;
-      right_low = omega arith;
-      lefts_fall = none_falls l some high;
-      rights_low = omega arith;
-      next_falls = next;
-      next_low = other.1;
-      left-lies = λ q h. inl refl;
-      right_lies = λ q h. inl refl;
-      lefts_lie = λ q h. inl refl;
-      rights_lie = λ q h. inl refl;
-      next-lies = after-lies l some high;
-      others_lie = after-lies r there upto;
-    }
+    split_by true false la ra is =
+        record { is = is; entered = tt; next_falls = next; next_low = other.1; next-lies = after-lies l some high; others_lie = after-lies r there upto }
     split_by false y la ra is = record {
-      is = is ∙ rw (no_parts, pair-at t l r some);
-      left-low = high;
-      right_low = upto;
-      lefts_fall = none_falls l some high;
-      rights_low = omega arith;
+      is = is ∙ rw (pair-at t l r some);
+      entered = record { left-low = high; right_low = upto; left-lies = λ q h. h; right_lies = λ q h. h };
       next_falls = next;
       next_low = other.1;
-      left-lies = λ q h. h;
-      right_lies = λ q h. h;
-      lefts_lie = λ q h. inl refl;
-      rights_lie = λ q h. inl refl;
       next-lies = after-lies l some high;
       others_lie = after-lies r there upto;
     }
@@ -212,52 +188,36 @@ module _ (t : List ℕ) (ok : Accepted t) where
 -- ---- the turn
 
 module _ (t inner : List ℕ) (l r : ℕ) (check : Bool) (x : Context) (p : Progress) (fs w : List ℕ)
-    (asks : AsksExpr t inner l r x p fs w (total pair_cost (pairs_at t l r))) (a b : Row) (pr : Pair) (parts : Split t l r a b pr)
-    (s₀ : Progress) (does₀ : s₀ ≡ cond (pr.differs && is_sound p.fault) (failed p (Lengths b.line b.col)) p) where
-  abbrev bad : List Pairing
-  bad = unequal b pr.differs
+    (asks : AsksExpr t inner l r x p fs w (total pair_cost (pairs_at t l r))) (a b : Row) where
+  module _ (pr : Pair) (parts : Split t l r a b pr) where
+    abbrev here : List Pairing
+    here = pairings_of t b pr
 
-  abbrev one : List Pairing
-  one = pair_at t pr.left pr.right
+    abbrev behind : List Pairing
+    behind = pairs_at t a.next b.next
 
-  abbrev below : List Pairing
-  below = pairs_at t pr.lefts pr.rights
+    costs : total pair_cost (pairs_at t l r) ≡ total pair_cost here + total pair_cost behind
+    costs = ap (total pair_cost) parts.is ∙ total-append pair_cost here behind
 
-  abbrev behind : List Pairing
-  behind = pairs_at t a.next b.next
+    asks_within : (left right : ℕ) → RowsWithin t l r left right → AsksExpr t inner left right x p fs w (total pair_cost here)
+    asks_within left right n =
+        pairs_asks t inner check x p fs w [] p fs w (no_pairs t inner check x p fs w [] refl) l r _ asks (total pair_cost here)
+        (omega (arith, costs)) left right (n.left-lies _ asks.first-lies) (n.right_lies _ asks.second-lies)
 
-  costs : total pair_cost (pairs_at t l r) ≡ ((total pair_cost bad + total pair_cost one) + total pair_cost below) + total pair_cost behind
-  costs =
-      ap (total pair_cost) parts.is
-      ∙ omega (arith, total-append pair_cost ((bad ++ one) ++ below) behind, total-append pair_cost (bad ++ one) below, total-append pair_cost bad one)
-
-  pub asks-pair : AsksExpr t inner pr.left pr.right x s₀ fs w (total pair_cost one)
-  asks-pair =
-      pairs_asks t inner check x p fs w bad s₀ fs w (differs t inner check x b p fs w pr.differs s₀ does₀) l r _ asks (total pair_cost one)
-      (omega (arith, costs)) pr.left pr.right (parts.left-lies _ asks.first-lies) (parts.right_lies _ asks.second-lies)
-
-  module _ (s₁ : Progress) (gs v : List ℕ) (does₁ : DoesPairs t inner one check x s₀ fs w s₁ gs v) where
-    through-pair : DoesPairs t inner (bad ++ one) check x p fs w s₁ gs v
-    through-pair = pairs_then t inner check x p fs w bad s₀ fs w (differs t inner check x b p fs w pr.differs s₀ does₀) one s₁ gs v does₁
-
-    pub asks-parts : AsksExpr t inner pr.lefts pr.rights x s₁ gs v (total pair_cost below)
-    asks-parts =
-        pairs_asks t inner check x p fs w (bad ++ one) s₁ gs v through-pair l r _ asks (total pair_cost below)
-        (omega (arith, costs, total-append pair_cost bad one)) pr.lefts pr.rights
-        (parts.lefts_lie _ asks.first-lies) (parts.rights_lie _ asks.second-lies)
-
-    module _ (s₂ : Progress) (hs u : List ℕ) (does₂ : DoesPairs t inner below check x s₁ gs v s₂ hs u) where
-      through-parts : DoesPairs t inner ((bad ++ one) ++ below) check x p fs w s₂ hs u
-      through-parts = pairs_then t inner check x p fs w (bad ++ one) s₁ gs v through-pair below s₂ hs u does₂
-
-      pub asks_rest : AsksExpr t inner a.next b.next x s₂ hs u (total pair_cost behind)
+    module _ (s : Progress) (gs v : List ℕ) (does : DoesPairs t inner here check x p fs w s gs v) where
+      pub asks_rest : AsksExpr t inner a.next b.next x s gs v (total pair_cost behind)
       asks_rest =
-          pairs_asks t inner check x p fs w ((bad ++ one) ++ below) s₂ hs u through-parts l r _ asks (total pair_cost behind)
-          (omega (arith, costs, total-append pair_cost (bad ++ one) below, total-append pair_cost bad one)) a.next b.next
+          pairs_asks t inner check x p fs w here s gs v does l r _ asks (total pair_cost behind) (omega (arith, costs)) a.next b.next
           (parts.next-lies _ asks.first-lies) (parts.others_lie _ asks.second-lies)
 
-      pub pairs_does : (s₃ : Progress) (ks z : List ℕ) → DoesPairs t inner behind check x s₂ hs u s₃ ks z
-          → DoesPairs t inner (pairs_at t l r) check x p fs w s₃ ks z
-      pairs_does s₃ ks z does₃ =
-          subst (λ (k : List Pairing). DoesPairs t inner k check x p fs w s₃ ks z) (sym parts.is)
-          (pairs_then t inner check x p fs w ((bad ++ one) ++ below) s₂ hs u through-parts behind s₃ ks z does₃)
+      pub pairs_does : (s₁ : Progress) (hs u : List ℕ) → DoesPairs t inner behind check x s gs v s₁ hs u
+          → DoesPairs t inner (pairs_at t l r) check x p fs w s₁ hs u
+      pairs_does s₁ hs u then =
+          subst (λ (k : List Pairing). DoesPairs t inner k check x p fs w s₁ hs u) (sym parts.is)
+          (pairs_then t inner check x p fs w here s gs v does behind s₁ hs u then)
+
+  pub asks_sides : (left right : ℕ) → Split t l r a b (Sides left right) → AsksExpr t inner left right x p fs w (total pair_cost (pair_at t left right))
+  asks_sides left right parts = asks_within (Sides left right) parts left right parts.entered
+
+  pub asks_chains : (left right : ℕ) → Split t l r a b (Chains left right) → AsksExpr t inner left right x p fs w (total pair_cost (pairs_at t left right))
+  asks_chains left right parts = asks_within (Chains left right) parts left right parts.entered.0

@@ -7,6 +7,7 @@ use native.Mathlib.Omega.{arith}
 use lib.Dec.{leb}
 use lib.ListN.{length, replicate, get_or-replicate}
 use borrow.Author.Tests.{lt-leb}
+use Rattle.std.specs.Prelude.{Option}
 use Rattle.base.specs.Limits as limits
 use Rattle.names_width.specs.declared.Width.{Width}
 use Rattle.names_width.specs.Inner.Widths as limit
@@ -61,7 +62,7 @@ module _ (v : Width) (t : List ℕ) (ok : Accepted t) (outer : List ℕ) (none :
   unfolding analyze_query_snippet_once
   snippet_is = ap (λ (es : List Tree). analyze_once 8 (sheet_at t) [] 1 es fresh) outputs
 
-  pub snippet_analysed : (r : Fault) (w : List ℕ) → DoesQuery t v outer 1 0 0 8 work r w → Analysed v t w r
+  pub snippet_analysed : (r : Option Fault) (w : List ℕ) → DoesQuery t v outer 1 0 0 8 work r w → Analysed v t w r
   snippet_analysed r w does =
       let end = does.one (λ z. omega (arith, z)) [] fresh none refl table in
       record {

@@ -9,7 +9,7 @@ use lib.ListN.{length, length-map}
 use Rattle.base.proofs.Laws.Lists.{filter-append}
 use Rattle.base.specs.Sets.{members}
 use Rattle.names.specs.Inner.Sets.{Empty}
-use Rattle.names.specs.declared.Names.{Names}
+use Rattle.names.specs.Inner.Names.{Names}
 use Rattle.sheet.specs.declared.Statement.{Statement}
 use Rattle.order.specs.Definitions.{Definition}
 use Rattle.sheet.specs.declared.Row.{Row}

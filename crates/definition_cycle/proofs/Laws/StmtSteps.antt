@@ -13,7 +13,7 @@ use Rattle.base.proofs.Laws.Members.{all_mem}
 use Rattle.base.specs.Sets.{members}
 use Rattle.names.specs.Inner.Sets.{Empty}
 use Rattle.names.proofs.Laws.Laws.{elem-members}
-use Rattle.names.specs.declared.Names.{Names}
+use Rattle.names.specs.Inner.Names.{Names}
 use Rattle.names_width.specs.declared.Width.{Width}
 use Rattle.names_width.specs.declared.Width.TheVariants.{Two, Eight}
 use Rattle.names_width.specs.Inner.Widths as Widths

@@ -5,10 +5,10 @@ use mathlib.Core.List.{List, [], ◌++◌}
 use mathlib.Core.Logic.{◌⊎◌, inl, inr}
 use Prim.Native.Nat.{ℕ, ◌-◌, ◌≤◌}
 use native.Mathlib.Omega.{arith}
-use lib.ListN.{length}
+use lib.ListN.{length, take}
 use Rattle.base.specs.Limits as limits
 use Rattle.base.proofs.Laws.Truth.{bool_cases}
-use Rattle.names.specs.declared.Names.{Names}
+use Rattle.names.specs.Inner.Names.{Names}
 use Rattle.answer_blocks.specs.Inner.Layout.{answers_size}
 use Rattle.scope.specs.Trees.{Tree}
 use Rattle.scope.specs.Traverse.{comprs}
@@ -25,7 +25,7 @@ use Rattle.definition_expr.specs.declared.Using.{Using}
 use Rattle.definition_expr.specs.Inner.Defined.{ListedExtras}
 use Rattle.definition_expr.specs.Inner.UsesVars.{UsesVars}
 use Rattle.definition_comprs.specs.Inner.Lists.{most_listed, listed_at, both_at, ListsBoth}
-use Rattle.definition_comprs.proofs.Laws.Lists.{no_comprs}
+use Rattle.definition_comprs.proofs.Laws.Lists.{no_comprs, listed_front}
 use Rattle.definition_comprs.proofs.Laws.Used.{used-none}
 use Rattle.definition_literal.specs.declared.context.Context.{Context}
 use Rattle.definition_literal.specs.Inner.Contexts.{Stands}
@@ -152,14 +152,15 @@ module _ (t inner : List ℕ) (extras : Names) (row : ℕ) (rest : Bool) (x : Co
 
   -- The list that was made.
   pub does_listed : (u : Using) (f₁ w₁ : List ℕ) → UsesVars t extras x.statement row rest p firsts work u f₁ w₁ → (rows : List ℕ) (end : ℕ)
-      → ListsBoth t rest u.comprs x.mods rows end → (s₃ : Progress) (f₃ w₃ : List ℕ)
+      → ListsBoth t rest u.comprs x.mods rows end → end ≤ length rows → (s₃ : Progress) (f₃ w₃ : List ℕ)
       → DoesComprs t inner (listed_at t rows 0 (end - 0)) x.levels u.progress f₁ w₁ s₃ f₃ w₃
-      → (names : Names) → AllUsed t s₃.width s₃.scope u.names (listed_at t rows 0 end) x w₃ names
+      → (names : Names) → AllUsed t s₃.width s₃.scope u.names (listed_at t (take end rows) 0 (length (take end rows))) x w₃ names
       → DoesUse t inner extras expr x p firsts work (record { progress = s₃; names = names; comprs = u.comprs }) f₃ w₃
-  does_listed u f₁ w₁ uses rows end l s₃ f₃ w₃ did names all =
+  does_listed u f₁ w₁ uses rows end l room s₃ f₃ w₃ did names all =
       let e : end - 0 ≡ end = omega arith in
       does_use u f₁ w₁ uses (listed_at t rows 0 end) l.expressions s₃ f₃ w₃
-      (subst (λ (n : ℕ). DoesComprs t inner (listed_at t rows 0 n) x.levels u.progress f₁ w₁ s₃ f₃ w₃) e did) names all
+      (subst (λ (n : ℕ). DoesComprs t inner (listed_at t rows 0 n) x.levels u.progress f₁ w₁ s₃ f₃ w₃) e did) names
+      (subst (λ (cs : List Tree). AllUsed t s₃.width s₃.scope u.names cs x w₃ names) (listed_front t rows end room) all)
 
   -- There are no comprehensions.
   module _ (ok : Accepted t) (u : Using) (f₁ w₁ : List ℕ) (uses : UsesVars t extras x.statement row rest p firsts work u f₁ w₁)

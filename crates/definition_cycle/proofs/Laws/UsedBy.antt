@@ -6,7 +6,7 @@ use Prim.Native.Nat.{ℕ}
 use Rattle.base.specs.Lists.{elem}
 use Rattle.base.proofs.Laws.Members.{elem-append}
 use Rattle.names.specs.Inner.Sets.{Union}
-use Rattle.names.specs.declared.Names.{Names}
+use Rattle.names.specs.Inner.Names.{Names}
 use Rattle.names_width.specs.declared.Width.{Width}
 use Rattle.scope.specs.Trees.{Tree}
 use Rattle.definition.specs.Uses.{used_vars}

@@ -6,11 +6,12 @@ use mathlib.Core.Logic.{◌⊎◌, inl, inr}
 use mathlib.Core.Option.{some}
 use Prim.Native.Nat.{ℕ}
 use lib.Dec.{eqb}
+use Rattle.std.specs.Prelude.{Option}
 use Rattle.base.specs.Lists.{elem, is_some}
 use Rattle.base.proofs.Laws.Truth.{bool_cases, eqb_sym}
 use Rattle.base.specs.Sets.{member, members}
 use Rattle.names.proofs.Laws.Laws.{elem-members}
-use Rattle.names.specs.declared.Names.{Names}
+use Rattle.names.specs.Inner.Names.{Names}
 use Rattle.scope.specs.Trees.{tree_at}
 use Rattle.scope.specs.Traverse.{comprs}
 use Rattle.scope.specs.Scopes.{contains, Span, Scope, span_in}
@@ -71,7 +72,7 @@ sets_of k = record {
 
 -- ---- faults
 
-pub is-sound : (x : Fault) → meaning x ≡ sound → is_sound x ≡ true
+pub is-sound : (x : Option Fault) → meaning x ≡ sound → is_sound x ≡ true
 is-sound x e = go (bool_cases (is_sound x))
   where
     go : (is_sound x ≡ true) ⊎ (is_sound x ≡ false) → is_sound x ≡ true

@@ -1,7 +1,7 @@
 -- All names that an expression uses, as a set.
 use Rattle.std.specs.Prelude.{◌≡◌, List, [], ◌++◌, ℕ}
 use Rattle.names.specs.Inner.Sets.{Union}
-use Rattle.names.specs.declared.Names.{Names}
+use Rattle.names.specs.Inner.Names.{Names}
 use Rattle.names_width.specs.declared.Width.{Width}
 use Rattle.base.specs.Lists.{concat_map}
 use Rattle.sheet.specs.declared.Row.{Row}

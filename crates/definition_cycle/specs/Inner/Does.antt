@@ -1,7 +1,7 @@
 -- What each function of the cycle does.
 use Rattle.std.specs.Prelude.{◌≡◌, Bool, true, cond, ℕ}
 use mathlib.Core.List.{List, ◌++◌, foldl}
-use Rattle.names.specs.declared.Names.{Names}
+use Rattle.names.specs.Inner.Names.{Names}
 use Rattle.sheet.specs.declared.Statement.{Statement}
 use Rattle.scope.specs.Trees.{Tree}
 use Rattle.scope.specs.Paths.{get_extra_arg}

@@ -7,7 +7,7 @@ use native.Mathlib.Nat.{mul-le-mul_left, div-mul-le_self}
 use native.Mathlib.Omega.{arith}
 use lib.ListN.{length, take, drop}
 use lib.Seq.{length-take-le}
-use Rattle.names.specs.declared.Names.{Names}
+use Rattle.names.specs.Inner.Names.{Names}
 use Rattle.names_width.specs.declared.Width.{Width}
 use Rattle.names_width.specs.Inner.Widths as Widths
 use Rattle.answer_blocks.specs.Inner.Layout.{answers_size}

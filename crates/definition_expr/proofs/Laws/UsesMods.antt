@@ -5,7 +5,7 @@ use mathlib.Core.List.{List, [], ◌∷◌}
 use Prim.Native.Nat.{ℕ, suc, ◌≤◌}
 use native.Mathlib.Omega.{arith}
 use Rattle.names.specs.Inner.Sets.{Empty, Union}
-use Rattle.names.specs.declared.Names.{Names}
+use Rattle.names.specs.Inner.Names.{Names}
 use Rattle.base.specs.Lists.{concat_map}
 use Rattle.sheet.specs.Inner.Sheet.{row_at}
 use Rattle.scope.specs.Trees.{Tree}

@@ -3,12 +3,13 @@ use mathlib.Core.Path.{◌≡◌, refl, sym, ◌∙◌, ap, subst}
 use mathlib.Core.Bool.{Bool, true, false}
 use mathlib.Core.List.{List}
 use mathlib.Core.Option.{some}
-use Prim.Native.Nat.{ℕ, zero, suc, ◌≤◌}
+use Prim.Native.Nat.{ℕ, ◌≤◌}
+use Rattle.std.specs.Prelude.{None, Some}
 use native.Mathlib.Omega.{arith}
 use lib.ListN.{length-append}
 use Rattle.base.specs.Limits as limits
 use Rattle.base.proofs.Laws.Truth.{not-both}
-use Rattle.names.specs.declared.Names.{Names}
+use Rattle.names.specs.Inner.Names.{Names}
 use Rattle.sheet.specs.Inner.Sheet.{row_at}
 use Rattle.definition.specs.Uses.{undefined_var, index_definitions}
 use Rattle.definition.specs.States.{State, set_scope, add_first_uses, add_definitions}
@@ -16,7 +17,7 @@ use Rattle.definition.specs.Using.{gather_used_vars}
 use Rattle.scope_walk.specs.Inner.Sheets.{sheet_at, Accepted}
 use Rattle.scope_walk.specs.Inner.Exprs.{expr_by}
 use Rattle.definition_walk.specs.Inner.Own.{Holds}
-use Rattle.definition_walk.specs.Inner.Undefined.{variable_at, FoundVariable, Undefined}
+use Rattle.definition_walk.specs.Inner.Undefined.{Undefined}
 use Rattle.definition_state.specs.declared.Fault.TheVariants.{Undefined as UndefinedAt}
 use Rattle.definition_state.specs.declared.Progress.{Progress}
 use Rattle.definition_state.specs.Inner.Faults.{is_sound, meaning}
@@ -48,22 +49,16 @@ module _ (t : List ℕ) (extras : Names) (statement row : ℕ) (rest : Bool) (p 
     done : (f : State → State) (spans : List ℕ) (s : State) → Agree t spans p firsts work s → guarded f s ≡ f s
     done f spans s a = guarded_when_sound f s (agree_sound t spans p firsts work s a fine)
 
-    -- The row that is found stands in the tables.
-    pub undefined-low : (more : ℕ) → Ready t p firsts work more → Accepted t → (at : ℕ) → Undefined t p.scope row rest at → at ≤ limits.most_expressions
-    undefined-low more h ok at found =
-        omega (arith, ok.within.few-exprs, (found h.state.scope (whole h.spans h.state h.agrees).scope.sets).high)
-
     -- ---- a variable is undefined
 
-    module _ (at : ℕ) (found : Undefined t p.scope row rest at) (some_at : at ≡ 0 → ⊥) where
+    module _ (at : ℕ) (found : Undefined t p.scope row rest (Some at)) where
+      -- The row that is found stands in the tables.
+      pub undefined-low : (more : ℕ) → Ready t p firsts work more → Accepted t → at ≤ limits.most_expressions
+      undefined-low more h ok = omega (arith, ok.within.few-exprs, (found h.state.scope (whole h.spans h.state h.agrees).scope.sets).high)
+
       variable : (spans : List ℕ) (s : State) → Agree t spans p firsts work s
           → undefined_var (sheet_at t) s.scope (expr_by t rest row) ≡ some (row_at t at)
-      variable spans s a = go at some_at (found s.scope (whole spans s a).scope.sets)
-        where
-          go : (n : ℕ) → (n ≡ 0 → ⊥) → FoundVariable t n (undefined_var (sheet_at t) s.scope (expr_by t rest row))
-              → undefined_var (sheet_at t) s.scope (expr_by t rest row) ≡ some (row_at t n)
-          go zero ne f = absurd (ne refl)
-          go (suc n) ne f = f.is
+      variable spans s a = (found s.scope (whole spans s a).scope.sets).is
 
       -- What the walk left is not asked after, but for the rows that were there.
       module _ (firsts' work' : List ℕ) (grown : (r : Progress) → p.count ≤ r.count → r.width ≡ p.width → Grown t p work r work') where
@@ -75,7 +70,7 @@ module _ (t : List ℕ) (extras : Names) (statement row : ℕ) (rest : Bool) (p 
                 subst (Agree t spans (failed p (UndefinedAt (row_at t at).line (row_at t at).col)) firsts' work')
                 (sym (done (gather_used_vars (sheet_at t) statement l (expr_by t rest row)) spans s a
                 ∙ gather-undefined (sheet_at t) statement l (expr_by t rest row) s (row_at t at) (variable spans s a)))
-                (failed-leaves t spans p firsts work firsts' work' s a (UndefinedAt (row_at t at).line (row_at t at).col) refl);
+                (failed-leaves t spans p firsts work firsts' work' s a (UndefinedAt (row_at t at).line (row_at t at).col));
           };
           names = λ l h spans s a b. absurd (not-both b refl);
           recorded = λ l h spans s a b. absurd (not-both b refl);
@@ -89,7 +84,7 @@ module _ (t : List ℕ) (extras : Names) (statement row : ℕ) (rest : Bool) (p 
 
     -- ---- all are defined
 
-    module _ (at : ℕ) (found : Undefined t p.scope row rest at) (none-at : at ≡ 0) (r : Using) (firsts' work' : List ℕ)
+    module _ (found : Undefined t p.scope row rest None) (r : Using) (firsts' work' : List ℕ)
         (d : UsesDefined t extras statement row rest p firsts work r firsts' work') (c : ComprsAt t rest row r.comprs) where
       defined-agrees : (l : List ℕ) → Holds extras l → (spans : List ℕ) (s : State) → Agree t spans p firsts work s
           → Agree t spans r.progress firsts' work' (use_all (sheet_at t) statement l (expr_by t rest row) s)
@@ -116,7 +111,7 @@ module _ (t : List ℕ) (extras : Names) (statement row : ℕ) (rest : Bool) (p 
               subst (Agree t spans r.progress firsts' work')
               (sym (done (gather_used_vars (sheet_at t) statement l (expr_by t rest row)) spans s a
               ∙ gather-defined (sheet_at t) statement l (expr_by t rest row) s (agree_sound t spans p firsts work s a fine)
-              ((found s.scope (whole spans s a).scope.sets).is ∙ ap (variable_at t) none-at)))
+              (found s.scope (whole spans s a).scope.sets).is))
               (defined-agrees l h spans s a);
         };
         names = λ l h spans s a b. d.names l h spans s (whole spans s a);

@@ -1,6 +1,6 @@
 -- The uses of an expression where there is no fault, once it is walked.
 use Rattle.std.specs.Prelude.{◌≡◌, cond, List, ℕ}
-use Rattle.names.specs.declared.Names.{Names}
+use Rattle.names.specs.Inner.Names.{Names}
 use Rattle.scope_state.specs.Inner.Agrees.{WithFlag}
 use Rattle.definition_walk.specs.declared.found.Used.{Used}
 use Rattle.definition_walk.specs.Inner.Own.{Holds}

@@ -1,6 +1,6 @@
 -- The uses of the modifiers of a statement, as the code does them.
 use Rattle.std.specs.Prelude.{◌≡◌, true, List, [], ℕ}
-use Rattle.names.specs.declared.Names.{Names}
+use Rattle.names.specs.Inner.Names.{Names}
 use Rattle.base.specs.Lists.{concat_map}
 use Rattle.scope.specs.Trees.{Tree}
 use Rattle.definition.specs.Uses.{used_vars}

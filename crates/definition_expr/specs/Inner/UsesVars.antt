@@ -1,6 +1,6 @@
 -- The uses of one expression, as the code does them.
 use Rattle.std.specs.Prelude.{◌≡◌, Bool, true, List, ℕ, ◌+◌, length}
-use Rattle.names.specs.declared.Names.{Names}
+use Rattle.names.specs.Inner.Names.{Names}
 use Rattle.definition.specs.Uses.{used_vars, index_definitions}
 use Rattle.definition.specs.States.{State}
 use Rattle.definition.specs.Using.{gather_used_vars}

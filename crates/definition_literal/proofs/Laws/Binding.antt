@@ -8,7 +8,7 @@ use Rattle.base.proofs.Laws.Truth.{not-both, or_left_comm}
 use Rattle.base.specs.Lists.{elem, is_some}
 use Rattle.base.specs.Sets.{member}
 use Rattle.names.specs.Inner.Sets.{Union}
-use Rattle.names.specs.declared.Names.{Names}
+use Rattle.names.specs.Inner.Names.{Names}
 use Rattle.scope.specs.Scopes.{NameSet, contains, insert, Span, span_in, add_unscoped}
 use Rattle.scope.specs.Scopes as spec
 use Rattle.scope_state.specs.declared.Scope.{Scope}

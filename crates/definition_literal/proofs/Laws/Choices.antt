@@ -18,8 +18,3 @@ module _ {A : Type 0} (x y : A) where
 
     pub passed_over_second : b ≡ false → y ≡ cond (a && b) x y
     passed_over_second q = sym (rw (first, q))
-
-  -- The first does not pass.
-  module _ (a b : Bool) where
-    pub passed_over_first : a ≡ false → y ≡ cond (a && b) x y
-    passed_over_first p = sym (rw p)

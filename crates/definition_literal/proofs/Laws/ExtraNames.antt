@@ -13,7 +13,7 @@ use Rattle.base.specs.Lists.{elem, range, is_some}
 use Rattle.base.proofs.Laws.Lists.{elem-filter}
 use Rattle.base.proofs.Laws.Ranges.{elem-range}
 use Rattle.names.specs.Inner.Sets.{Empty}
-use Rattle.names.specs.declared.Names.{Names}
+use Rattle.names.specs.Inner.Names.{Names}
 use Rattle.sheet.specs.Sheet.{name_bound}
 use Rattle.scope.specs.Trees.{Tree, nil, node, tree_at}
 use Rattle.scope.proofs.Laws.TreeRows as rows

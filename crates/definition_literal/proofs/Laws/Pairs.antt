@@ -1,6 +1,6 @@
 -- Laws of `Pairs`.
 use mathlib.Core.Path.{◌≡◌, sym}
-use mathlib.Core.Bool.{true, false}
+use Rattle.definition_literal.specs.declared.pairs.Pair.TheVariants.{Chains, Differ}
 use mathlib.Core.List.{List}
 use Prim.Native.Nat.{ℕ}
 use borrow.Author.Tests.{eq-eqb, ne_eqb}
@@ -11,8 +11,8 @@ use Rattle.definition_literal.specs.Inner.Pairs.{chains_by}
 module _ (t : List ℕ) where
   -- By the ends of the two chains, as the code has them.
   module _ (lefts rights : ℕ) (a : End) (h : EndAt t lefts a) (b : End) (g : EndAt t rights b) where
-    pub same-lengths : a.count ≡ b.count → record { left = 0; right = 0; lefts = lefts; rights = rights; differs = false } ≡ chains_by t lefts rights
+    pub same-lengths : a.count ≡ b.count → Chains lefts rights ≡ chains_by t lefts rights
     same-lengths e = sym (rw (h.count, g.count, eq-eqb a.count b.count e))
 
-    pub other-lengths : (a.count ≡ b.count → ⊥) → record { left = 0; right = 0; lefts = 0; rights = 0; differs = true } ≡ chains_by t lefts rights
+    pub other-lengths : (a.count ≡ b.count → ⊥) → Differ ≡ chains_by t lefts rights
     other-lengths n = sym (rw (h.count, g.count, ne_eqb a.count b.count n))

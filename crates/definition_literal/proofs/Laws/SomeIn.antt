@@ -1,5 +1,5 @@
 -- Laws of `SomeIn`.
-use mathlib.Core.Path.{◌≡◌, sym, ap, ◌∙◌}
+use mathlib.Core.Path.{◌≡◌, refl, sym, ap, ◌∙◌}
 use mathlib.Core.Bool.{Bool, true, false, ◌||◌}
 use mathlib.Core.List.{List}
 use Prim.Native.Nat.{ℕ}
@@ -12,8 +12,11 @@ use Rattle.sheet.specs.Sheet.{is_input}
 use Rattle.sheet.specs.Kinds.{is_var, is_pattern}
 use Rattle.scope_state.specs.declared.Scope.{Scope}
 use Rattle.scope_walk.specs.Inner.Sheets.{sheet_at}
-use Rattle.scope_walk.proofs.Laws.Arms.{NoKind, no_such_kind, no_such_kinds}
-use Rattle.scope_walk.proofs.Laws.Patterns.{pattern_kind}
+use Rattle.sheet.specs.declared.kinds.Kind.{Kind}
+use Rattle.sheet.specs.declared.kinds.Kind.TheVariants as kind
+use Rattle.sheet.specs.Inner.Kinds.{KindNumbered}
+use Rattle.scope_walk.proofs.Laws.Arms.{no_such_kinds}
+use Rattle.scope_walk.proofs.Laws.Numbers.{number_of, by_number}
 use Rattle.definition_literal.specs.Inner.SomeIn.{IsName, NonVar}
 
 module _ (t : List ℕ) (k : Scope) where
@@ -34,19 +37,25 @@ module _ (t : List ℕ) (k : Scope) where
       in_pattern p s h = sym (rw p)
 
       module _ (v : w.kind ≡ 6) (n : Bool) (name : IsName t k w n) where
+        no_pattern : is_pattern w ≡ false
+        no_pattern = ap (λ (j : ℕ). eqb j 7 || eqb j 9) v
+
         pub is-var : n ≡ true → NonVar t k row w 0
-        is-var p s h = sym (rw (pattern_kind w 6 v, sym (name s h), p))
+        is-var p s h = sym (rw (no_pattern, sym (name s h), p))
 
         pub is_no_var : n ≡ false → NonVar t k row w row
-        is_no_var p s h = sym (rw (pattern_kind w 6 v, sym (name s h), p))
+        is_no_var p s h = sym (rw (no_pattern, sym (name s h), p))
 
-      -- Neither made of parts nor a variable: of kind n, and past the last kind.
-      is-other : is_pattern w ≡ false → is_var w ≡ false → NonVar t k row w row
+      -- Neither made of parts nor a variable.
+      pub is-other : is_pattern w ≡ false → is_var w ≡ false → NonVar t k row w row
       is-other p v s h = sym (rw (p, v))
 
-      pub of_kind : (n : ℕ) → w.kind ≡ n → (eqb n 7 || eqb n 9) ≡ false → eqb n 6 ≡ false → NonVar t k row w row
-      of_kind n e p v = is-other (pattern_kind w n e ∙ p) (ap (λ (j : ℕ). eqb j 6) e ∙ v)
-
-      pub of_no_kind : NoKind w → NonVar t k row w row
-      of_no_kind none =
-          is-other (no_such_kinds w 7 9 (omega arith) (omega arith) (omega arith) (omega arith) none) (no_such_kind w 6 (omega arith) (omega arith) none)
+-- The kinds that a match leaves beside an Array and an Object.
+pub other_than_pattern : {k : Kind} (w : Row) → KindNumbered w.kind k → (k ≡ kind.Array → ⊥) → (k ≡ kind.Object → ⊥) → is_pattern w ≡ false
+other_than_pattern {k} w e a o =
+    by_number (λ n. eqb n 7 || eqb n 9) w.kind k e (no_such_kinds w 7 9 (omega arith) (omega arith) (omega arith) (omega arith)) ∙ go k a o
+  where
+    go : (j : Kind) → (j ≡ kind.Array → ⊥) → (j ≡ kind.Object → ⊥) → (eqb (number_of j) 7 || eqb (number_of j) 9) ≡ false
+    go kind.Array a o = absurd (a refl)
+    go kind.Object a o = absurd (o refl)
+    go _ a o = refl

@@ -1,14 +1,18 @@
 -- Laws of `Used`.
 use mathlib.Core.Path.{◌≡◌, sym, ap, subst}
-use mathlib.Core.Bool.{Bool, true, false, cond, ◌||◌}
+use mathlib.Core.Bool.{Bool, true, cond, ◌||◌}
 use mathlib.Core.List.{List}
 use Prim.Native.Nat.{ℕ, ◌≤◌}
+use native.Mathlib.Omega.{arith}
 use lib.Dec.{eqb}
 use borrow.Author.Tests.{eq-eqb}
 use Rattle.base.proofs.Laws.Truth.{not-both, neither_left, neither_right}
-use Rattle.names.specs.declared.Names.{Names}
+use Rattle.names.specs.Inner.Names.{Names}
 use Rattle.sheet.specs.declared.Row.{Row}
 use Rattle.sheet.specs.Inner.Sheet.{row_at}
+use Rattle.sheet.specs.declared.kinds.Kind.{Kind}
+use Rattle.sheet.specs.Inner.Kinds.{KindNumbered}
+use Rattle.scope_walk.proofs.Laws.Arms.{Quiet, no_such_kinds}
 use Rattle.scope_walk.specs.declared.Kids.{Kids}
 use Rattle.scope_walk.specs.Inner.Kids.{kids_of}
 use Rattle.scope_state.specs.declared.Scope.{Scope}
@@ -36,14 +40,18 @@ module _ (t : List ℕ) (k : Scope) (extras : Names) where
 
 -- ---- the arms of `used_names`: at a Var and at a RefBrack something is used
 
-abbrev pub is_used : ℕ → Bool
-is_used kind = eqb kind 6 || eqb kind 16
+abbrev pub used_number : ℕ → Bool
+used_number n = eqb n 6 || eqb n 16
 
 module _ (t : List ℕ) (k : Scope) (extras : Names) (w : Row) (a : Names) where
-  pub used_still : is_used w.kind ≡ false → UsedStep t k extras w a a
-  used_still h =
-      used_step_other t k extras w a (λ e. not-both (eq-eqb w.kind 6 e) (neither_left (eqb w.kind 6) _ h))
-      (λ e. not-both (eq-eqb w.kind 16 e) (neither_right (eqb w.kind 6) _ h))
+  pub used_still : (kind : Kind) → KindNumbered w.kind kind → Quiet (UsedStep t k extras w) w used_number kind a
+  used_still kind is = record {
+    numbered = is;
+    past = no_such_kinds w 6 16 (omega arith) (omega arith) (omega arith) (omega arith);
+    still = λ h.
+        used_step_other t k extras w a (λ e. not-both (eq-eqb w.kind 6 e) (neither_left (eqb w.kind 6) _ h))
+        (λ e. not-both (eq-eqb w.kind 16 e) (neither_right (eqb w.kind 6) _ h));
+  }
 
   pub used_at-var : w.kind ≡ 6 → (b : Names) → UsedVar t k extras w a b → UsedStep t k extras w a b
   used_at-var = used_step_var t k extras w a

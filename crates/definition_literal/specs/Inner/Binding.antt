@@ -1,7 +1,7 @@
 -- How the names of an extra argument are bound.
 use Rattle.std.specs.Prelude.{◌≡◌, true, false, ℕ}
 use mathlib.Core.List.{List, foldl}
-use Rattle.names.specs.declared.Names.{Names}
+use Rattle.names.specs.Inner.Names.{Names}
 use Rattle.scope.specs.Scopes as spec
 use Rattle.scope.specs.Scopes.{add_unscoped}
 use Rattle.scope_state.specs.declared.Scope.{Scope}

@@ -1,6 +1,6 @@
 -- The names that an extra argument binds.
 use Rattle.std.specs.Prelude.{◌≡◌, false, List, [], ℕ}
-use Rattle.names.specs.declared.Names.{Names}
+use Rattle.names.specs.Inner.Names.{Names}
 use Rattle.scope.specs.Scopes as spec
 use Rattle.definition_once.specs.Inner.OnceWay.{Nested, once_way}
 use Rattle.scope_walk.specs.Inner.Sheets.{sheet_at}

@@ -1,21 +1,21 @@
 -- What two rows side by side come to.
-use Rattle.std.specs.Prelude.{true, false, cond, ◌&&◌, List, ℕ, eqb, length}
+use Rattle.std.specs.Prelude.{cond, ◌&&◌, List, ℕ, eqb, length}
 use Rattle.sheet.specs.declared.Row.{Row}
 use Rattle.sheet.specs.Kinds.{is_array}
 use Rattle.scope.specs.Trees.{tree_at, chain}
 use Rattle.scope_walk.specs.Inner.Sheets.{sheet_at}
 use Rattle.definition_literal.specs.declared.pairs.Pair.{Pair}
+use Rattle.definition_literal.specs.declared.pairs.Pair.TheVariants.{Sides, Chains, Differ}
 
 module _ (t : List ℕ) where
   -- Two arrays, by the chains of their parts.
   abbrev pub chains_by : ℕ → ℕ → Pair
   chains_by lefts rights =
       cond (eqb (length (chain (tree_at (sheet_at t) lefts))) (length (chain (tree_at (sheet_at t) rights))))
-      (record { left = 0; right = 0; lefts = lefts; rights = rights; differs = false })
-      (record { left = 0; right = 0; lefts = 0; rights = 0; differs = true })
+      (Chains lefts rights) Differ
 
   -- The rows a and b at two places.
   abbrev pub pair_by : ℕ → ℕ → Row → Row → Pair
   pair_by left right a b =
       cond (is_array a && is_array b) (chains_by a.first b.first)
-      (record { left = left; right = right; lefts = 0; rights = 0; differs = false })
+      (Sides left right)

@@ -1,6 +1,6 @@
 -- The walk that gathers the names used and nothing else.
 use Rattle.std.specs.Prelude.{Bool, List, ℕ}
-use Rattle.names.specs.declared.Names.{Names}
+use Rattle.names.specs.Inner.Names.{Names}
 use Rattle.scope.specs.Scopes as spec
 use Rattle.definition.specs.Uses.{used_vars}
 use Rattle.scope_state.specs.declared.Scope.{Scope}

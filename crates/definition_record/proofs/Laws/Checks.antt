@@ -5,7 +5,7 @@ use mathlib.Core.List.{List, [], ◌∷◌, ◌++◌, foldl}
 use mathlib.Core.Logic.{◌⊎◌, inl, inr}
 use mathlib.Core.Option.{Option, none, some}
 use Prim.Native.Nat.{ℕ, ◌≤◌}
-use borrow.Author.Tests.{eq-eqb, ne_eqb}
+use borrow.Author.Tests.{eq-eqb}
 use Rattle.base.proofs.Laws.Truth.{bool_cases}
 use Rattle.base.specs.Lists.{filter}
 use Rattle.base.specs.Sets.{member}
@@ -38,8 +38,8 @@ module _ (w : Row) (p : Progress) (fs : List ℕ) where
   pub var_checked : w.kind ≡ 6 → (r : Progress) → UseChecked w p fs r → VarChecked w p fs r
   var_checked e r h t work = rw (eq-eqb w.kind 6 e) (h t work)
 
-  pub var-other : (w.kind ≡ 6 → ⊥) → VarChecked w p fs p
-  var-other ne t work = runs_none t _ (λ s. rw (ne_eqb w.kind 6 ne)) p fs work
+  pub var-other : is_var w ≡ false → VarChecked w p fs p
+  var-other e t work = runs_none t _ (λ s. rw e) p fs work
 
 module _ (t : List ℕ) where
   module _ (ok : Accepted t) (row : ℕ) where

@@ -9,7 +9,7 @@ use Rattle.base.specs.Lists.{filter, elem, range}
 use Rattle.base.proofs.Laws.Lists.{ascending, filter_same}
 use Rattle.base.proofs.Laws.Ranges.{range-ascending}
 use Rattle.base.specs.Sets.{member, members}
-use Rattle.names.specs.declared.Names.{Names}
+use Rattle.names.specs.Inner.Names.{Names}
 use Rattle.scope.specs.Scopes.{insert}
 use Rattle.definition_room.proofs.Laws.Extras.{filter-insert}
 use Rattle.definition_walk.specs.Inner.Own.{Holds}

@@ -1,9 +1,9 @@
 -- Laws of `Each`.
-use mathlib.Core.Path.{◌≡◌, sym, ap, ◌∙◌, subst}
+use mathlib.Core.Path.{◌≡◌, refl, sym, ap, ◌∙◌, subst}
 use mathlib.Core.Bool.{Bool, true, false, not, ◌&&◌}
 use mathlib.Core.List.Memᴰ
 use mathlib.Core.List.{List, [], ◌∷◌, ◌++◌, map, append_assoc, Memᴰ}
-use Prim.Native.Nat.{ℕ, ◌+◌, ◌*◌, ◌≤◌, ◌<◌}
+use Prim.Native.Nat.{ℕ, ◌+◌, ◌*◌, ◌≤◌}
 use native.Mathlib.Nat.{div-le_self}
 use native.Mathlib.Omega.{arith}
 use lib.Dec.{eqb}
@@ -13,10 +13,11 @@ use Rattle.base.specs.Lists.{elem}
 use Rattle.base.proofs.Laws.Lists.{elem-filter}
 use Rattle.base.proofs.Laws.Members.{elem_mem, mem_elem}
 use Rattle.base.specs.Sets.{member, members}
-use Rattle.names.specs.Inner.Sets.{Removed, Next}
+use Rattle.names.specs.Inner.Sets.{Removed, Gap}
+use Rattle.names.specs.Inner.Members.{Lowest}
 use Rattle.names.proofs.Laws.Laws.{elem-members}
-use Rattle.names.proofs.Laws.Listing.{members_from, Listing, listing_first, listing_here, listing_next, listing_end}
-use Rattle.names.specs.declared.Names.{Names}
+use Rattle.definition_walk.proofs.Laws.Visited.{left_from, left_at, left_none}
+use Rattle.names.specs.Inner.Names.{Names}
 use Rattle.names_width.specs.declared.Width.{Width}
 use Rattle.names_width.specs.Inner.Widths.{row_words}
 use Rattle.names_width.proofs.Laws.Laws.{room_whole}
@@ -59,51 +60,50 @@ map-within f k l h d m =
 -- ---- the loop
 
 module _ (v : Width) (i : ℕ) (names used : Names) (without : Bool) (ws : List ℕ) (count : ℕ) where
-  -- The number x is the next name to define, and the names below it, which are `done`, are defined.
-  pub record Defining (rs : List ℕ) (n x : ℕ) : Type 0 where
+  -- The names below `from`, which are `done`, are defined.
+  pub record Defining (rs : List ℕ) (n from : ℕ) : Type 0 where
     pub done : List ℕ
-    pub listing : Listing names.words limits.per_name (members names.words) (λ rest. done ++ rest) x
+    pub listed : left_from names.words limits.per_name 0 ≡ done ++ left_from names.words limits.per_name from
     pub counts : n ≡ count + length done
     pub rows : (us : List ℕ) → Holds used us → Appended v ws rs count n (define_each i without us done)
 
-  pub defining-first : (x : ℕ) → Next names.words limits.per_name 0 x → Defining ws count x
-  defining-first x n = record {
+  pub defining-first : Defining ws count 0
+  defining-first = record {
     done = [];
-    listing = listing_first (λ rest. [] ++ rest) n;
+    listed = refl;
     counts = omega arith;
     rows = λ us h. appended-none v ws count;
   }
 
-  module _ (rs : List ℕ) (n x : ℕ) (d : Defining rs n x) where
-    -- A name is left, so there is room for it.
-    pub defining-room : x < limits.per_name → (size : ℕ) → EachFits v names count size → row_words v * n + row_words v ≤ size
-    defining-room low size f =
-        let left = members_from names.words (x + 1) in
-        let e : length d.done + length (x ∷ left) ≡ length (members names.words) =
-        sym (append-length d.done (x ∷ left)) ∙ ap length (listing_here d.listing low) in
-        room_whole (row_words v) n size (omega (arith, e, d.counts, held-few names f.list f.holds, f.low))
+  module _ (whole : 64 * length names.words ≡ limits.per_name) (rs : List ℕ) (n from : ℕ) (d : Defining rs n from) where
+    members_is : members names.words ≡ left_from names.words limits.per_name 0
+    unfolding members
+    members_is = ap (λ (end : ℕ). left_from names.words end 0) whole
 
-    -- And the count stays small.
-    pub defining-few : x < limits.per_name → (size : ℕ) → EachFits v names count size → n + 1 ≤ size
-    defining-few low size f =
-        let left = members_from names.words (x + 1) in
-        let e : length d.done + length (x ∷ left) ≡ length (members names.words) =
-        sym (append-length d.done (x ∷ left)) ∙ ap length (listing_here d.listing low) in
-        omega (arith, e, d.counts, held-few names f.list f.holds, f.low, div-le_self size (row_words v))
+    module _ {x : ℕ} (low : Lowest names.words limits.per_name from x) where
+      -- A name is left, so there is room for it.
+      left : length (members names.words) ≡ length d.done + length (x ∷ left_from names.words limits.per_name (x + 1))
+      left = ap length (members_is ∙ d.listed ∙ ap (λ (l : List ℕ). d.done ++ l) (left_at low)) ∙ append-length d.done _
 
-    pub defining-next : x < limits.per_name → (from : Names) → Less used x without from → (us : List ℕ) → Pushed v i x from n rs us
-        → (y : ℕ) → Next names.words limits.per_name (x + 1) y → Defining us (n + 1) y
-    defining-next low from less us put y next = record {
-      done = d.done ++ (x ∷ []);
-      listing = listing_next d.listing low (λ rest. (d.done ++ (x ∷ [])) ++ rest) (λ rest. sym (append_assoc d.done (x ∷ []) rest)) next;
-      counts = omega (arith, d.counts, append-length d.done (x ∷ []));
-      rows = λ l h.
-          subst (Appended v ws us count (n + 1)) (sym (map-append (λ x. define i x (less_of without l x)) d.done (x ∷ [])))
-          (appended_then v ws rs us count n (n + 1) _ _ (d.rows l h) (put _ (less l h)));
-    }
+      pub defining-room : (size : ℕ) → EachFits v names count size → row_words v * n + row_words v ≤ size
+      defining-room size f = room_whole (row_words v) n size (omega (arith, left, d.counts, held-few names f.list f.holds, f.low))
 
-    pub defining-all : limits.per_name ≤ x → EachDefined v i names used without ws rs count n
-    defining-all high = record {
+      -- And the count stays small.
+      pub defining-few : (size : ℕ) → EachFits v names count size → n + 1 ≤ size
+      defining-few size f = omega (arith, left, d.counts, held-few names f.list f.holds, f.low, div-le_self size (row_words v))
+
+      pub defining-next : (less : Names) → Less used x without less → (us : List ℕ) → Pushed v i x less n rs us → Defining us (n + 1) (x + 1)
+      defining-next r less us put = record {
+        done = d.done ++ (x ∷ []);
+        listed = d.listed ∙ ap (λ (l : List ℕ). d.done ++ l) (left_at low) ∙ sym (append_assoc d.done (x ∷ []) (left_from names.words limits.per_name (x + 1)));
+        counts = omega (arith, d.counts, append-length d.done (x ∷ []));
+        rows = λ l h.
+            subst (Appended v ws us count (n + 1)) (sym (map-append (λ x. define i x (less_of without l x)) d.done (x ∷ [])))
+            (appended_then v ws rs us count n (n + 1) _ _ (d.rows l h) (put _ (less l h)));
+      }
+
+    pub defining-all : Gap names.words from limits.per_name → EachDefined v i names used without ws rs count n
+    defining-all none = record {
       rows = λ xs us h k.
           let f : ℕ → Definition = λ y. define i y (less_of without us y) in
           appended-same v ws rs count n (map f d.done) (map f xs)
@@ -113,7 +113,7 @@ module _ (v : Width) (i : ℕ) (names used : Names) (without : Bool) (ws : List 
     }
       where
         all_done : d.done ≡ members names.words
-        all_done = sym (append-nil d.done) ∙ listing_end d.listing high
+        all_done = sym (members_is ∙ d.listed ∙ ap (λ (l : List ℕ). d.done ++ l) (left_none names.words limits.per_name from none) ∙ append-nil d.done)
 
         same : (y : ℕ) → elem y d.done ≡ member names.words y
         same y = ap (elem y) all_done ∙ elem-members names.words y

@@ -22,8 +22,8 @@ use Rattle.definition_state.specs.declared.Fault.TheVariants.{UsedBefore}
 use Rattle.definition_state.specs.declared.Progress.{Progress}
 use Rattle.definition_state.specs.Inner.Faults.{is_sound}
 use Rattle.definition_state.specs.Inner.Frames.{failed, guarded, WholeState, Agree}
-use Rattle.definition_state.proofs.Laws.Steps.{sound-is}
-use Rattle.definition_record.proofs.Laws.Guards.{if_same, runs_as, runs-fault, runs-sound}
+use Rattle.definition_state.proofs.Laws.Steps.{sound-is, runs-stays}
+use Rattle.definition_record.proofs.Laws.Guards.{if_same, runs_as, runs-sound}
 use Rattle.definition_record.specs.Inner.FirstUse.{UseChecked}
 
 -- ---- positions as numbers
@@ -85,7 +85,7 @@ module _ (w : Row) (s : State) (n : ℕ) where
 module _ (w : Row) (p : Progress) (fs : List ℕ) where
   pub check_fault : is_sound p.fault ≡ false → UseChecked w p fs p
   check_fault bad t work =
-      runs_as t (guarded (asked w)) (λ s. check_first_use s w) p fs work p fs work (asked_is w) (runs-fault t (asked w) p bad fs work)
+      runs_as t (guarded (asked w)) (λ s. check_first_use s w) p fs work p fs work (asked_is w) (runs-stays t (asked w) p fs work bad)
 
   module _ (fine : is_sound p.fault ≡ true) (low : w.name < limits.per_name) where
     abbrev word : ℕ

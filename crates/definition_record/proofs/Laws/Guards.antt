@@ -1,27 +1,16 @@
 -- Steps that are done unless there is a fault.
 use mathlib.Core.Path.{◌≡◌, refl, sym, ◌∙◌, subst}
-use mathlib.Core.Bool.{true, false, true≢false}
+use mathlib.Core.Bool.{true}
 use mathlib.Core.List.{List}
 use mathlib.Core.Logic.{◌⊎◌, inl, inr}
 use Prim.Native.Nat.{ℕ, ◌≤◌}
-use native.Mathlib.Omega.{arith}
 use lib.ListN.{length}
 use Rattle.definition.specs.States as spec
 use Rattle.definition.specs.States.{State, sound, if_sound}
-use Rattle.definition_state.specs.declared.Fault.{Fault}
-use Rattle.definition_state.specs.declared.Fault.TheVariants.{Sound, Undefined, UsedBefore, Lengths, IndexVariable}
 use Rattle.definition_state.specs.declared.Progress.{Progress}
-use Rattle.definition_state.specs.Inner.Faults.{is_sound, meaning}
+use Rattle.definition_state.specs.Inner.Faults.{is_sound}
 use Rattle.definition_state.specs.Inner.Frames.{guarded, WholeState, Agree, Grown, Runs}
 use Rattle.definition_state.proofs.Laws.Steps.{sound-is}
-
--- After a fault nothing is done.
-skips : {A : Type 0} (f : A → A) (q : Fault) → is_sound q ≡ false → (a : A) → if_sound (meaning q) f a ≡ a
-skips f Sound p a = absurd (true≢false p)
-skips f (Undefined l c) p a = refl
-skips f (UsedBefore l c) p a = refl
-skips f (Lengths l c) p a = refl
-skips f IndexVariable p a = refl
 
 -- There is no fault, or nothing is done.
 pub guard_cases : (q : spec.Fault) → (q ≡ sound) ⊎ ((f : State → State) (s : State) → if_sound q f s ≡ s)
@@ -47,18 +36,6 @@ module _ (t : List ℕ) where
     grown = h.grown;
     agrees = λ spans s a. subst (Agree t spans r fs' w') (same s) (h.agrees spans s a);
   }
-
-  -- A step that does nothing after a fault, whatever it is.
-  pub runs_stay : (f : State → State) (p : Progress) (fs w : List ℕ) → ((s : State) → meaning p.fault ≡ s.run.fault → f s ≡ s)
-      → Runs t f p fs w p fs w
-  runs_stay f p fs w same = record {
-    grown = record { long = refl; up = omega arith; wide = refl; before = λ j l. refl };
-    agrees = λ spans s h. subst (Agree t spans p fs w) (sym (same s h.fault)) h;
-  }
-
-  pub runs-fault : (f : State → State) (p : Progress) → is_sound p.fault ≡ false → (fs w : List ℕ) → Runs t (guarded f) p fs w p fs w
-  runs-fault f p bad fs w =
-      runs_stay (guarded f) p fs w (λ s e. subst (λ (q : spec.Fault). if_sound q f s ≡ s) e (skips f p.fault bad s))
 
   -- Where there is none, a step is done on a state that the code's is as a whole.
   pub runs-sound : (f : State → State) (p : Progress) → is_sound p.fault ≡ true → (fs w : List ℕ) (r : Progress) (fs' w' : List ℕ) → Grown t p w r w'

@@ -13,7 +13,7 @@ use Rattle.base.proofs.Laws.Truth.{lt_cases, not-both}
 use Rattle.base.specs.Lists.{filter}
 use Rattle.base.proofs.Laws.Members.{mem_filter}
 use Rattle.names.specs.Inner.Sets.{Empty}
-use Rattle.names.specs.declared.Names.{Names}
+use Rattle.names.specs.Inner.Names.{Names}
 use Rattle.names_width.specs.declared.Width.{Width}
 use Rattle.names_width.specs.Inner.Widths.{row_words}
 use Rattle.order_rows.specs.Inner.Rows.{held_row}

@@ -2,18 +2,17 @@
 use mathlib.Core.Path.{◌≡◌, refl, sym, ◌∙◌}
 use mathlib.Core.Bool.{Bool, true, false}
 use mathlib.Core.List.{List, [], ◌∷◌, ◌++◌}
-use mathlib.Core.Logic.{◌⊎◌, inl, inr}
-use Prim.Native.Nat.{ℕ, ◌+◌, ◌-◌, ◌*◌, ◌/◌, ◌≤◌, ◌<◌, max}
+use Prim.Native.Nat.{ℕ, ◌+◌, ◌-◌, ◌*◌, ◌/◌, ◌≤◌, max}
 use native.Mathlib.Nat.{div-le_self}
 use native.Mathlib.Omega.{arith}
 use lib.ListN.{length, take, drop, length-map}
 use borrow.Author.Tests.{eq-eqb}
-use Rattle.base.specs.Limits as limits
-use Rattle.base.proofs.Laws.Truth.{lt_cases, not-both, or_left}
-use Rattle.base.specs.Sets.{member}
-use Rattle.names.specs.Inner.Sets.{Next}
-use Rattle.names.proofs.Laws.Laws.{member_out}
-use Rattle.names.specs.declared.Names.{Names}
+use Rattle.base.proofs.Laws.Truth.{not-both, or_left}
+use Rattle.base.specs.Sets.{members}
+use Rattle.base.specs.Lists.{elem}
+use Rattle.names.specs.Inner.Sets.{is_nil, is_empty}
+use Rattle.names.proofs.Laws.Laws.{elem-members}
+use Rattle.names.specs.Inner.Names.{Names}
 use Rattle.names_width.specs.declared.Width.{Width}
 use Rattle.names_width.specs.declared.Width.TheVariants.{Two, Eight}
 use Rattle.names_width.specs.Inner.Widths.{row_words}
@@ -26,9 +25,9 @@ use Rattle.definition_walk.specs.Inner.Own.{Holds}
 use Rattle.definition_walk.specs.Inner.Appended.{Pushed}
 use Rattle.definition_state.specs.declared.Progress.{Progress}
 use Rattle.definition_state.specs.Inner.Faults.{is_sound}
+use Rattle.definition_state.proofs.Laws.Steps.{runs-stays}
 use Rattle.definition_state.specs.Inner.Frames.{with_count, Ready}
 use Rattle.definition_record.specs.Inner.Each.{less_of, Less, define_each, EachFits, EachDefined}
-use Rattle.definition_record.proofs.Laws.Guards.{runs-fault}
 use Rattle.definition_record.specs.Inner.Front.{FitsFront}
 use Rattle.definition_record.proofs.Laws.Front.{ready-fits, end, back_after, front_length, runs_append}
 use Rattle.definition_record.specs.Inner.Records.{NamesFit, OneRecorded, NamesRecorded, EachRecorded}
@@ -75,7 +74,7 @@ module _ (p : Progress) (w : List ℕ) where
 
 module _ (i : ℕ) (used : Names) (p : Progress) (w : List ℕ) where
   pub one-fault : is_sound p.fault ≡ false → OneRecorded i used p w p w
-  one-fault bad t us fs h = runs-fault t (record_one i 0 us) p bad fs w
+  one-fault bad t us fs h = runs-stays t (record_one i 0 us) p fs w bad
 
   one_recorded_at : is_sound p.fault ≡ true → FitsFront p w 1 → (v : List ℕ) → length v ≡ length (take (end p.width w) w)
       → Pushed p.width i 0 used p.count (take (end p.width w) w) v
@@ -94,7 +93,7 @@ module _ (i : ℕ) (used : Names) (p : Progress) (w : List ℕ) where
 
 module _ (i : ℕ) (names used : Names) (without : Bool) (p : Progress) (w : List ℕ) where
   pub names-fault : is_sound p.fault ≡ false → NamesRecorded i names used without p w p w
-  names-fault bad t xs us fs h k = runs-fault t (add_definitions (define_each i without us xs)) p bad fs w
+  names-fault bad t xs us fs h k = runs-stays t (add_definitions (define_each i without us xs)) p fs w bad
 
   names_recorded_at : is_sound p.fault ≡ true → NamesFit 0 names p w → (v : List ℕ) → length v ≡ length (take (end p.width w) w)
       → (n : ℕ) → EachDefined p.width i names used without (take (end p.width w) w) v p.count n
@@ -110,18 +109,22 @@ module _ (i : ℕ) (names used : Names) (without : Bool) (p : Progress) (w : Lis
       → (r : Progress) → r ≡ with_count p n → NamesRecorded i names used without p w r (v ++ drop (length w - k) w)
   names-recorded k is = rw is names_recorded_at
 
-  module _ (x : ℕ) (next : Next names.words limits.per_name 0 x) where
+  module _ (none : Bool) (is : none ≡ is_empty names.words) where
     -- No name: the empty one.
-    pub each-empty : x ≡ limits.per_name → (from : Names) → Less used 0 without from → (r : Progress) (w' : List ℕ) → OneRecorded i from p w r w' → EachRecorded i names used without p w r w'
-    unfolding record_each
+    pub each-empty : none ≡ true → (from : Names) → Less used 0 without from → (r : Progress) (w' : List ℕ) → OneRecorded i from p w r w' → EachRecorded i names used without p w r w'
+    unfolding record_each is_empty
     each-empty e from less r w' one t [] us fs h k = one t (less_of without us 0) fs (less us k)
-    each-empty e from less r w' one t (y ∷ xs) us fs h k = absurd (not-both (sym (h.has y) ∙ or_left _ _ (eq-eqb y y refl)) (none (lt_cases y limits.per_name)))
+    each-empty e from less r w' one t (y ∷ xs) us fs h k = absurd (nothing (members names.words) (sym is ∙ e) (elem-members names.words y ∙ sym (h.has y) ∙ or_left _ _ (eq-eqb y y refl)))
       where
-        none : (y < limits.per_name) ⊎ (limits.per_name ≤ y) → member names.words y ≡ false
-        none (inl l) = next.gap y (omega arith) (omega arith)
-        none (inr l) = member_out names.words y (omega (arith, next.whole))
+        nothing : (l : List ℕ) → is_nil l ≡ true → elem y l ≡ true → ⊥
+        nothing [] e m = not-both m refl
+        nothing (z ∷ l) e m = not-both e refl
 
-    pub each-some : (x ≡ limits.per_name → ⊥) → (r : Progress) (w' : List ℕ) → NamesRecorded i names used without p w r w' → EachRecorded i names used without p w r w'
-    unfolding record_each
-    each-some ne r w' all t [] us fs h k = absurd (not-both (next.found (omega (arith, next.high))) (sym (h.has x)))
+    pub each-some : none ≡ false → (r : Progress) (w' : List ℕ) → NamesRecorded i names used without p w r w' → EachRecorded i names used without p w r w'
+    unfolding record_each is_empty
+    each-some ne r w' all t [] us fs h k = absurd (something (members names.words) (sym is ∙ ne) (λ x. elem-members names.words x ∙ sym (h.has x)))
+      where
+        something : (l : List ℕ) → is_nil l ≡ false → ((x : ℕ) → elem x l ≡ false) → ⊥
+        something [] e m = not-both refl e
+        something (z ∷ l) e m = not-both (or_left _ _ (eq-eqb z z refl)) (m z)
     each-some ne r w' all t (y ∷ xs) us fs h k = all t (y ∷ xs) us fs h k

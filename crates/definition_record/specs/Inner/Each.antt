@@ -1,7 +1,7 @@
 -- A definition of each name in a set: the loop goes over the members, and a list that the set holds has the same names.
 use Rattle.std.specs.Prelude.{Bool, cond, not, List, map, ℕ, ◌+◌, ◌/◌, ◌≤◌, eqb, length}
 use Rattle.base.specs.Lists.{filter}
-use Rattle.names.specs.declared.Names.{Names}
+use Rattle.names.specs.Inner.Names.{Names}
 use Rattle.names_width.specs.declared.Width.{Width}
 use Rattle.names_width.specs.Inner.Widths.{row_words}
 use Rattle.order.specs.Definitions.{Definition}

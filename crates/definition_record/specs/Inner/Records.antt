@@ -1,6 +1,6 @@
 -- The recording of definitions, as steps.
 use Rattle.std.specs.Prelude.{Bool, List, map, ℕ, max, length}
-use Rattle.names.specs.declared.Names.{Names}
+use Rattle.names.specs.Inner.Names.{Names}
 use Rattle.definition.specs.Uses.{define}
 use Rattle.definition.specs.States.{add_definitions}
 use Rattle.definition.specs.Using.{record_one, record_each}

@@ -2,7 +2,7 @@
 use Rattle.std.specs.Prelude.{◌≡◌, Bool, cond, not, ◌&&◌, ℕ, ◌≤◌, ◌<◌, length}
 use mathlib.Core.List.{List, [], ◌∷◌, foldl, map}
 use Rattle.base.specs.Limits as limits
-use Rattle.names.specs.declared.Names.{Names}
+use Rattle.names.specs.Inner.Names.{Names}
 use Rattle.sheet.specs.declared.Row.{Row}
 use Rattle.sheet.specs.Sheet.{is_input}
 use Rattle.sheet.specs.Kinds.{is_var}

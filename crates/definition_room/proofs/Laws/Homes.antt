@@ -7,11 +7,15 @@ use Prim.Native.Nat.{ℕ, ◌+◌, ◌≤◌}
 use native.Mathlib.Omega.{arith}
 use lib.Dec.{eqb}
 use borrow.Author.Tests.{eqb-true}
+use Rattle.sheet.specs.declared.fields.Section.{Section}
+use Rattle.std.specs.Prelude.{Option}
+use Rattle.std.specs.Prelude.{None}
 use Rattle.base.proofs.Laws.Truth.{bool_cases, or_cases}
 use Rattle.sheet.specs.declared.Counts.{Counts}
 use Rattle.sheet.specs.Inner.Records.{Within, expr_at}
-use Rattle.sheet.specs.declared.Field.{Field}
-use Rattle.sheet.specs.Fields.{limit_of, a_query, KindFields, kind_of}
+use Rattle.sheet.specs.declared.fields.Field.{Field}
+use Rattle.sheet.specs.declared.fields.KindFields.{KindFields}
+use Rattle.sheet.specs.Fields.{limit_of, a_query, kind_of}
 use Rattle.sheet_fields.proofs.Laws.Tables.{HoldsQuery}
 use Rattle.sheet.specs.Naming.{expr_row, target, place_of, next_field, expr_entry, expr_entries}
 use Rattle.sheet.specs.Faults.{is_member, first_line}
@@ -149,10 +153,10 @@ module _ (c : Counts) (t : List ℕ) (few : Within c) (fine : first_line c (in_t
   third-set : HoldsQuery fs.third → (1 ≤ (expr_at t r).third) × ((expr_at t r).third ≤ c.queries)
   third-set e =
       let f = row.fields among_third in
-      (f.is_set e.1, subst (λ (s : ℕ). (expr_at t r).third ≤ limit_of c s) e.0 f.in_range)
+      (f.is_set e.1, subst (λ (s : Option Section). (expr_at t r).third ≤ limit_of c s) e.0 f.in_range)
 
   -- A term lies in the comprehension's query.
-  term_lies : HoldsQuery fs.third → (f : Field) (v : ℕ) → Among f v → HoldsField f → (f.term ≡ true) ⊎ (f.section ≡ 0)
+  term_lies : HoldsQuery fs.third → (f : Field) (v : ℕ) → Among f v → HoldsField f → (f.term ≡ true) ⊎ (f.section ≡ None)
       → Lies c t (expr_at t r).third v
   unfolding place_of
   term_lies is f v m h (inl p) =
@@ -163,7 +167,7 @@ module _ (c : Counts) (t : List ℕ) (few : Within c) (fine : first_line c (in_t
       subst (λ (i : ℕ). Lies c t i v) (ap (enclosing_query c (in_tables t)) at ∙ enclosing-query c (in_tables t) v3 (omega (arith, s.1, few.few-queries)))
       (in_expr c t few (fine-rows c (in_tables t) fine) r low high m h)
   term_lies is f v m h (inr z) =
-      let none : v ≤ limit_of c 0 = subst (λ (i : ℕ). v ≤ limit_of c i) z (row.fields m).in_range in
+      let none : v ≤ limit_of c None = subst (λ (i : Option Section). v ≤ limit_of c i) z (row.fields m).in_range in
       inl (omega arith)
 
   -- Its query is one level deeper than the query where it stands.

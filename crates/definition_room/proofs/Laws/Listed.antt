@@ -4,26 +4,27 @@ use mathlib.Core.Bool.{Bool, true, ◌&&◌, ◌||◌}
 use mathlib.Core.Logic.{◌⊎◌, inl, inr, ⊎_elim}
 use Prim.Native.Nat.{ℕ, ◌≤◌}
 use native.Mathlib.Omega.{arith}
-use lib.Dec.{eqb, leb}
-use borrow.Author.Tests.{eqb-true}
+use lib.Dec.{leb}
+use Rattle.sheet.proofs.Laws.FieldSections.{is_section, section-is}
+use Rattle.std.specs.Prelude.{None}
 use Rattle.base.proofs.Laws.Truth.{and_left, and_right, or_cases}
 use Rattle.base.specs.Lists.{all, range}
 use Rattle.base.proofs.Laws.Lists.{all-elem}
 use Rattle.base.proofs.Laws.Ranges.{elem-range}
-use Rattle.sheet.specs.declared.Field.{Field}
+use Rattle.sheet.specs.declared.fields.Field.{Field}
 use Rattle.sheet.specs.Fields.{expr_section, kinds, kind_of, forms, form_of}
 
 -- An expression, or nothing.
 abbrev pub HoldsField : Field → Type 0
-HoldsField f = (f.section ≡ expr_section) ⊎ (f.section ≡ 0)
+HoldsField f = (f.section ≡ expr_section) ⊎ (f.section ≡ None)
 
 abbrev holds : Field → Bool
-holds f = eqb f.section expr_section || eqb f.section 0
+holds f = is_section f.section expr_section || is_section f.section None
 
 holds-true : (f : Field) → holds f ≡ true → HoldsField f
 holds-true f h =
-    ⊎_elim (λ (p : eqb f.section expr_section ≡ true). inl (eqb-true _ expr_section p))
-    (λ (p : eqb f.section 0 ≡ true). inr (eqb-true _ 0 p)) (or_cases _ _ h)
+    ⊎_elim (λ (p : is_section f.section expr_section ≡ true). inl (section-is _ expr_section p))
+    (λ (p : is_section f.section None ≡ true). inr (section-is _ None p)) (or_cases _ _ h)
 
 -- Is it the kind of a comprehension?
 abbrev pub compr_kind : ℕ → Bool
@@ -35,7 +36,7 @@ kind_test kind =
     holds fs.first && (holds fs.second && (compr_kind kind || holds fs.third))
 
 kinds-pass : all kind_test (range 0 23) ≡ true
-unfolding kind_test range kind_of kinds
+unfolding kind_test range is_section kind_of kinds
 kinds-pass = refl
 
 -- The third field of a comprehension is a query.
@@ -64,7 +65,7 @@ form_test form =
     holds fs.first && (holds fs.second && holds fs.third)
 
 forms-pass : all form_test (range 0 6) ≡ true
-unfolding form_test range form_of forms
+unfolding form_test range is_section form_of forms
 forms-pass = refl
 
 pub record FormHolds (form : ℕ) : Type 0 where

@@ -7,6 +7,8 @@ use Prim.Native.Nat.{ℕ, zero, suc, ◌≤◌, ◌<◌}
 use native.Mathlib.Omega.{arith}
 use lib.Dec.{eqb}
 use borrow.Author.Tests.{eq-eqb}
+use Rattle.sheet.specs.declared.fields.Section.{Section}
+use Rattle.std.specs.Prelude.{Option}
 use Rattle.base.specs.Limits as limits
 use Rattle.base.proofs.Laws.Truth.{lt_cases}
 use Rattle.base.proofs.Laws.Members.{mem_filter}
@@ -67,17 +69,17 @@ module _ (c : Counts) (t : List ℕ) where
           go : HoldsField e.field → (0 < e.value) ⊎ (e.value ≤ 0)
               → Lies c t (enclosing_query c (in_tables t) e.place) e.value
           go h (inr l) = inl (omega arith)
-          go (inr h) (inl l) = let z : e.value ≤ 0 = subst (λ (i : ℕ). e.value ≤ limit_of c i) h within in absurd (omega arith)
+          go (inr h) (inl l) = let z : e.value ≤ 0 = subst (λ (i : Option Section). e.value ≤ limit_of c i) h within in absurd (omega arith)
           go (inl h) (inl l) =
-              let high : e.value ≤ c.exprs = subst (λ (i : ℕ). e.value ≤ limit_of c i) h within in
-              let to : target_of c e ≡ expr_row e.value = target_row c k e l within ∙ ap (λ (i : ℕ). row_in i e.value) h in
+              let high : e.value ≤ c.exprs = subst (λ (i : Option Section). e.value ≤ limit_of c i) h within in
+              let to : target_of c e ≡ expr_row e.value = target_row c k e l within ∙ ap (λ (i : Option Section). row_in i e.value) h in
               inr (at_place (naming_of c k e) (expr_row e.value) to (omega arith) (omega arith) (among (λ z. omega arith))
               (fine-expr_row c (in_tables t) e.value (ok.fine-expr e.value l high)).named)
 
       query-at : e.field.section ≡ query_section → 1 < e.value → parent c (in_tables t) e.value ≡ enclosing_query c (in_tables t) e.place
       query-at h low =
-          let high : e.value ≤ c.queries = subst (λ (i : ℕ). e.value ≤ limit_of c i) h within in
-          let to : target_of c e ≡ e.value = target_row c k e (omega arith) within ∙ ap (λ (i : ℕ). row_in i e.value) h in
+          let high : e.value ≤ c.queries = subst (λ (i : Option Section). e.value ≤ limit_of c i) h within in
+          let to : target_of c e ≡ e.value = target_row c k e (omega arith) within ∙ ap (λ (i : Option Section). row_in i e.value) h in
           parent-at (naming_of c k e) e.value to (among (λ z. omega arith))
           ((fine-query_row c (in_tables t) e.value (ok.fine-query e.value (omega arith) high)).named (λ z. omega arith))
 
@@ -87,8 +89,8 @@ module _ (c : Counts) (t : List ℕ) where
           go : (0 < e.value) ⊎ (e.value ≤ 0) → StatementLies c t (enclosing_query c (in_tables t) e.place) e.value
           go (inr l) = inl (omega arith)
           go (inl l) =
-              let high : e.value ≤ c.statements = subst (λ (i : ℕ). e.value ≤ limit_of c i) h within in
-              let to : target_of c e ≡ statement_row e.value = target_row c k e l within ∙ ap (λ (i : ℕ). row_in i e.value) h in
+              let high : e.value ≤ c.statements = subst (λ (i : Option Section). e.value ≤ limit_of c i) h within in
+              let to : target_of c e ≡ statement_row e.value = target_row c k e l within ∙ ap (λ (i : Option Section). row_in i e.value) h in
               inr (at_place (naming_of c k e) (statement_row e.value) to (omega arith) (omega (arith, few.few-statements))
               (among (λ z. omega arith)) (fine-statement_row c (in_tables t) e.value (ok.fine-statement e.value l high)).named)
 

@@ -6,10 +6,12 @@ use mathlib.Core.Logic.{◌⊎◌, inl, inr}
 use Prim.Native.Nat.{ℕ, ◌≤◌, ◌<◌}
 use native.Mathlib.Omega.{arith}
 use borrow.Author.Tests.{le-leb, lt-ltb}
+use Rattle.sheet.specs.declared.fields.Section.{Section}
+use Rattle.std.specs.Prelude.{Option, None}
 use Rattle.base.proofs.Laws.Truth.{not-both, lt_cases}
 use Rattle.sheet.specs.declared.Counts.{Counts}
 use Rattle.sheet.specs.Inner.Records.{expr_at, statement_row_at, first_at}
-use Rattle.sheet.specs.declared.Field.{Field}
+use Rattle.sheet.specs.declared.fields.Field.{Field}
 use Rattle.sheet.specs.Fields.{expr_section, statement_section, limit_of, a_chain, a_statement, or0, kind_of, form_of}
 use Rattle.sheet.specs.Naming.{Entry, query_row, statement_row, expr_row, row_in, target, next_field, expr_entry, statement_entry, expr_entries, statement_entries, query_entries, entry_naming}
 use Rattle.sheet.specs.Faults.{is_member}
@@ -30,17 +32,17 @@ module _ (c : Counts) (k : ℕ) where
 
   module _ (g : ℕ → ℕ) (none : g 0 ≡ 0) (e : Entry) (within : e.value ≤ limit_of c e.field.section) where
     -- A field that holds an expression, or nothing.
-    expr-field : (e.field.section ≡ expr_section) ⊎ (e.field.section ≡ 0)
+    expr-field : (e.field.section ≡ expr_section) ⊎ (e.field.section ≡ None)
         → g e.value ≤ worth (valued 160 g c.exprs) (entry_naming c k e)
     expr-field s = go s (lt_cases 0 e.value)
       where
-        go : (e.field.section ≡ expr_section) ⊎ (e.field.section ≡ 0) → (0 < e.value) ⊎ (e.value ≤ 0)
+        go : (e.field.section ≡ expr_section) ⊎ (e.field.section ≡ None) → (0 < e.value) ⊎ (e.value ≤ 0)
             → g e.value ≤ worth (valued 160 g c.exprs) (entry_naming c k e)
         go h (inr l) = let z : e.value ≡ 0 = omega arith in omega (arith, none, ap g z)
-        go (inr h) (inl l) = let z : e.value ≤ 0 = subst (λ (i : ℕ). e.value ≤ limit_of c i) h within in absurd (omega arith)
+        go (inr h) (inl l) = let z : e.value ≤ 0 = subst (λ (i : Option Section). e.value ≤ limit_of c i) h within in absurd (omega arith)
         go (inl h) (inl l) =
-            let high : e.value ≤ c.exprs = subst (λ (i : ℕ). e.value ≤ limit_of c i) h within in
-            let to : target_of c e ≡ expr_row e.value = target_row e l within ∙ ap (λ (i : ℕ). row_in i e.value) h in
+            let high : e.value ≤ c.exprs = subst (λ (i : Option Section). e.value ≤ limit_of c i) h within in
+            let to : target_of c e ≡ expr_row e.value = target_row e l within ∙ ap (λ (i : Option Section). row_in i e.value) h in
             omega (
               arith,
               entry_worth c (valued 160 g c.exprs) k e (expr_row e.value) to (omega arith),
@@ -54,15 +56,15 @@ module _ (c : Counts) (k : ℕ) where
         go : (0 < e.value) ⊎ (e.value ≤ 0) → g e.value ≤ worth (valued 32 g c.statements) (entry_naming c k e)
         go (inr l) = let z : e.value ≡ 0 = omega arith in omega (arith, none, ap g z)
         go (inl l) =
-            let high : e.value ≤ c.statements = subst (λ (i : ℕ). e.value ≤ limit_of c i) h within in
-            let to : target_of c e ≡ statement_row e.value = target_row e l within ∙ ap (λ (i : ℕ). row_in i e.value) h in
+            let high : e.value ≤ c.statements = subst (λ (i : Option Section). e.value ≤ limit_of c i) h within in
+            let to : target_of c e ≡ statement_row e.value = target_row e l within ∙ ap (λ (i : Option Section). row_in i e.value) h in
             omega (
               arith,
               entry_worth c (valued 32 g c.statements) k e (statement_row e.value) to (omega arith),
               valued-at 32 g c.statements e.value l high,
             )
 
-pub next-holds : (b : Bool) → ((next_field b).section ≡ expr_section) ⊎ ((next_field b).section ≡ 0)
+pub next-holds : (b : Bool) → ((next_field b).section ≡ expr_section) ⊎ ((next_field b).section ≡ None)
 next-holds true = inl refl
 next-holds false = inr refl
 
@@ -80,7 +82,7 @@ module _ (c : Counts) (g : ℕ → ℕ) where
 
     module _ (r : ℕ) (low : 1 ≤ r) (high : r ≤ c.exprs) where
       expr-part : (f : Field) (v : ℕ) → Memᴰ (expr_entry c (in_tables t) r f v) (expr_entries c (in_tables t) (is_member c (in_tables t) r) r)
-          → (f.section ≡ expr_section) ⊎ (f.section ≡ 0)
+          → (f.section ≡ expr_section) ⊎ (f.section ≡ None)
           → g v ≤ worth expr_value (entry_naming c (expr_row r) (expr_entry c (in_tables t) r f v))
       unfolding expr_value
       expr-part f v m h =
@@ -89,7 +91,7 @@ module _ (c : Counts) (g : ℕ → ℕ) where
 
       -- The third is an expression where the row is no comprehension.
       third-part : (f : Field) (v : ℕ) → Memᴰ (expr_entry c (in_tables t) r f v) (expr_entries c (in_tables t) (is_member c (in_tables t) r) r) → (compr : Bool)
-          → (compr ≡ true) ⊎ ((f.section ≡ expr_section) ⊎ (f.section ≡ 0))
+          → (compr ≡ true) ⊎ ((f.section ≡ expr_section) ⊎ (f.section ≡ None))
           → g (cond compr 0 v) ≤ worth expr_value (entry_naming c (expr_row r) (expr_entry c (in_tables t) r f v))
       third-part f v m true h = omega (arith, none)
       third-part f v m false (inl p) = absurd (not-both p refl)
@@ -116,7 +118,7 @@ module _ (c : Counts) (g : ℕ → ℕ) where
 
     module _ (s : ℕ) (low : 1 ≤ s) (high : s ≤ c.statements) where
       whole_part : (f : Field) (v : ℕ) → Memᴰ (statement_entry c (in_tables t) s f v) (statement_entries c (in_tables t) s)
-          → (f.section ≡ expr_section) ⊎ (f.section ≡ 0)
+          → (f.section ≡ expr_section) ⊎ (f.section ≡ None)
           → g v ≤ worth expr_value (entry_naming c (statement_row s) (statement_entry c (in_tables t) s f v))
       unfolding expr_value
       whole_part f v m h =

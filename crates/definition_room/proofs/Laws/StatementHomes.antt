@@ -5,10 +5,12 @@ use mathlib.Core.Bool.{true}
 use mathlib.Core.List.{List, Memᴰ}
 use mathlib.Core.Logic.{inl}
 use Prim.Native.Nat.{ℕ, ◌+◌, ◌≤◌}
+use Rattle.sheet.specs.declared.fields.Section.{Section}
+use Rattle.std.specs.Prelude.{Option}
 use Rattle.sheet.specs.declared.Counts.{Counts}
 use Rattle.sheet.specs.declared.Statement.{Statement}
 use Rattle.sheet.specs.Inner.Records.{Within, statement_row_at, first_at}
-use Rattle.sheet.specs.declared.Field.{Field}
+use Rattle.sheet.specs.declared.fields.Field.{Field}
 use Rattle.sheet.specs.Fields.{query_section, limit_of, a_chain, a_statement, or0, forms, form_of}
 use Rattle.sheet.specs.Naming.{statement_row, statement_entry, statement_entries}
 use Rattle.sheet.specs.Faults.{first_line}
@@ -73,7 +75,7 @@ module _ (c : Counts) (t : List ℕ) (few : Within c) (fine : first_line c (in_t
         let f = row.fields {e = statement_entry c (in_tables t) s (form_of (statement_row_at t s).form).query v} (mathlib.Core.List.Memᴰ.head refl) in
         let is = every-query (statement_row_at t s).form five in (
           subst (λ (i : ℕ). Nests c (in_tables t) i v) here (f.nests (f.is_set is.1) is.0),
-          subst (λ (i : ℕ). v ≤ limit_of c i) is.0 f.in_range,
+          subst (λ (i : Option Section). v ≤ limit_of c i) is.0 f.in_range,
         )
 
     -- And one level deeper.

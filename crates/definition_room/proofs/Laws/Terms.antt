@@ -1,17 +1,17 @@
 -- What the table of kinds says of the terms that lie in another query than their whole: comprehensions have them, and no other kind.
-use mathlib.Core.Path.{◌≡◌, refl}
+use mathlib.Core.Path.{◌≡◌, refl, ap}
 use mathlib.Core.Bool.{Bool, true, false, not, ◌&&◌, ◌||◌}
 use mathlib.Core.Logic.{◌⊎◌, inl, inr, ⊎_elim}
 use Prim.Native.Nat.{ℕ, ◌≤◌}
 use native.Mathlib.Omega.{arith}
-use lib.Dec.{eqb}
-use borrow.Author.Tests.{eqb-true}
+use Rattle.sheet.proofs.Laws.FieldSections.{is_section, section-is}
+use Rattle.std.specs.Prelude.{None}
 use Rattle.base.proofs.Laws.Truth.{bool_cases, not-both, and_left, and_right, or_cases}
 use Rattle.base.specs.Lists.{all, range}
 use Rattle.base.proofs.Laws.Lists.{all-elem}
 use Rattle.base.proofs.Laws.Ranges.{elem-range}
-use Rattle.sheet.specs.declared.Field.{Field}
-use Rattle.sheet.specs.Fields.{query_section, kinds, kind_of}
+use Rattle.sheet.specs.declared.fields.Field.{Field}
+use Rattle.sheet.specs.Fields.{query_section, for_queries, kinds, kind_of}
 use Rattle.sheet_fields.proofs.Laws.Tables.{HoldsQuery, holds_query, holds-query}
 use Rattle.sheet_facts.proofs.Laws.Kinds.{Termed, termed_first, termed_second, termed_third}
 use Rattle.definition_room.proofs.Laws.Listed.{compr_kind, HoldsField, kind_holds}
@@ -28,8 +28,8 @@ module _ (kind : ℕ) (low : kind ≤ 22) (other : compr_kind kind ≡ false) wh
 
       go : (compr_kind kind ≡ true) ⊎ HoldsField (kind_of kind).third → ⊥
       go (inl p) = not-both p other
-      go (inr (inl p)) = omega (arith, at)
-      go (inr (inr p)) = omega (arith, at)
+      go (inr (inl p)) = absurd (not-both (ap for_queries at) (ap for_queries p))
+      go (inr (inr p)) = absurd (not-both (ap for_queries at) (ap for_queries p))
 
   no_term : (f : Field) → Termed kind f → f.term ≡ false
   no_term f h =
@@ -53,14 +53,14 @@ module _ (kind : ℕ) (low : kind ≤ 22) (other : compr_kind kind ≡ false) wh
 
 -- A term, or nothing: an ArrayCompr and a SetCompr have no second.
 abbrev pub TermOrNone : Field → Type 0
-TermOrNone f = (f.term ≡ true) ⊎ (f.section ≡ 0)
+TermOrNone f = (f.term ≡ true) ⊎ (f.section ≡ None)
 
 abbrev term_or_none : Field → Bool
-term_or_none f = f.term || eqb f.section 0
+term_or_none f = f.term || is_section f.section None
 
 term_or_none_lem : (f : Field) → term_or_none f ≡ true → TermOrNone f
 term_or_none_lem f h =
-    ⊎_elim (λ (p : f.term ≡ true). inl p) (λ (p : eqb f.section 0 ≡ true). inr (eqb-true _ 0 p)) (or_cases _ _ h)
+    ⊎_elim (λ (p : f.term ≡ true). inl p) (λ (p : is_section f.section None ≡ true). inr (section-is _ None p)) (or_cases _ _ h)
 
 compr_test : ℕ → Bool
 compr_test kind =
@@ -68,7 +68,7 @@ compr_test kind =
     not (compr_kind kind) || (holds_query fs.third && (term_or_none fs.first && term_or_none fs.second))
 
 comprs-pass : all compr_test (range 0 23) ≡ true
-unfolding compr_test range kind_of kinds
+unfolding compr_test range is_section kind_of kinds
 comprs-pass = refl
 
 pub record ComprTerms (kind : ℕ) : Type 0 where

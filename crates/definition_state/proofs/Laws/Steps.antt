@@ -5,24 +5,22 @@ use mathlib.Core.List.{List}
 use Prim.Native.Nat.{ℕ, ◌+◌, ◌≤◌}
 use native.Mathlib.Omega.{arith}
 use Rattle.base.proofs.Laws.Truth.{not-both}
+use Rattle.std.specs.Prelude.{Option, None, Some}
 use Rattle.definition.specs.States as spec
 use Rattle.definition.specs.States.{State, set_run, fail}
 use Rattle.definition_room.proofs.Laws.Adds.{Step, adds_length}
 use Rattle.scope_walk.specs.Inner.Sheets.{sheet_at}
 use Rattle.definition_state.specs.declared.Fault.{Fault}
-use Rattle.definition_state.specs.declared.Fault.TheVariants.{Sound, Undefined, UsedBefore, Lengths, IndexVariable}
+use Rattle.definition_state.specs.declared.Fault.TheVariants.{Undefined, UsedBefore, Lengths, IndexVariable}
 use Rattle.definition_state.specs.declared.Progress.{Progress}
-use Rattle.definition_state.specs.Inner.Faults.{is_sound, meaning}
+use Rattle.definition_state.specs.Inner.Faults.{is_sound, meant, meaning}
 use Rattle.definition_state.specs.Inner.Frames.{failed, guarded, WholeState, Agree, Runs, Ready}
 
 -- ---- a fault, or none
 
-pub sound-is : (x : Fault) → is_sound x ≡ true → meaning x ≡ spec.sound
-sound-is Sound b = refl
-sound-is (Undefined l c) b = absurd (not-both b refl)
-sound-is (UsedBefore l c) b = absurd (not-both b refl)
-sound-is (Lengths l c) b = absurd (not-both b refl)
-sound-is IndexVariable b = absurd (not-both b refl)
+pub sound-is : (x : Option Fault) → is_sound x ≡ true → meaning x ≡ spec.sound
+sound-is None b = refl
+sound-is (Some f) b = absurd (not-both b refl)
 
 fault-free : spec.Fault → Bool
 fault-free spec.sound = true
@@ -31,15 +29,15 @@ fault-free (spec.used_before l c) = false
 fault-free (spec.lengths l c) = false
 fault-free spec.index_variable = false
 
-means_free : (x : Fault) → fault-free (meaning x) ≡ is_sound x
+means_free : (x : Option Fault) → fault-free (meaning x) ≡ is_sound x
 unfolding fault-free
-means_free Sound = refl
-means_free (Undefined l c) = refl
-means_free (UsedBefore l c) = refl
-means_free (Lengths l c) = refl
-means_free IndexVariable = refl
+means_free None = refl
+means_free (Some (Undefined l c)) = refl
+means_free (Some (UsedBefore l c)) = refl
+means_free (Some (Lengths l c)) = refl
+means_free (Some IndexVariable) = refl
 
-pub not_sound : (x : Fault) → is_sound x ≡ false → meaning x ≡ spec.sound → ⊥
+pub not_sound : (x : Option Fault) → is_sound x ≡ false → meaning x ≡ spec.sound → ⊥
 unfolding fault-free
 not_sound x b e = not-both (sym (means_free x) ∙ ap fault-free e) b
 
@@ -47,12 +45,12 @@ module _ (f : State → State) (s : State) where
   pub guarded_when_sound : s.run.fault ≡ spec.sound → guarded f s ≡ f s
   guarded_when_sound e = rw e
 
-  pub guarded_when_faulty : (x : Fault) → meaning x ≡ s.run.fault → is_sound x ≡ false → guarded f s ≡ s
-  guarded_when_faulty Sound e b = absurd (not-both refl b)
-  guarded_when_faulty (Undefined l c) e b = rw (sym e)
-  guarded_when_faulty (UsedBefore l c) e b = rw (sym e)
-  guarded_when_faulty (Lengths l c) e b = rw (sym e)
-  guarded_when_faulty IndexVariable e b = rw (sym e)
+  pub guarded_when_faulty : (x : Option Fault) → meaning x ≡ s.run.fault → is_sound x ≡ false → guarded f s ≡ s
+  guarded_when_faulty None e b = absurd (not-both refl b)
+  guarded_when_faulty (Some (Undefined l c)) e b = rw (sym e)
+  guarded_when_faulty (Some (UsedBefore l c)) e b = rw (sym e)
+  guarded_when_faulty (Some (Lengths l c)) e b = rw (sym e)
+  guarded_when_faulty (Some IndexVariable) e b = rw (sym e)
 
 module _ (t : List ℕ) where
   -- The state has no fault where the code has none.
@@ -64,15 +62,15 @@ module _ (t : List ℕ) where
     agree_whole = a.whole agree_sound
 
   -- A fault ends it: only the fault and the count are kept, whatever is left beside them.
-  pub failed-leaves : (spans : List ℕ) (p : Progress) (fs w fs' w' : List ℕ) (s : State) → Agree t spans p fs w s → (x : Fault) → is_sound x ≡ false
-      → Agree t spans (failed p x) fs' w' (fail (meaning x) s)
+  pub failed-leaves : (spans : List ℕ) (p : Progress) (fs w fs' w' : List ℕ) (s : State) → Agree t spans p fs w s → (x : Fault)
+      → Agree t spans (failed p x) fs' w' (fail (meant x) s)
   unfolding fail set_run
-  failed-leaves spans p fs w fs' w' s a x b = record { fault = refl; count = a.count; whole = λ e. absurd (not_sound x b e) }
+  failed-leaves spans p fs w fs' w' s a x = record { fault = refl; count = a.count; whole = λ e. absurd (not_sound (Some x) refl e) }
 
   -- Where all else is left as it was.
-  pub failed-agrees : (spans : List ℕ) (p : Progress) (fs w : List ℕ) (s : State) → Agree t spans p fs w s → (x : Fault) → is_sound x ≡ false
-      → Agree t spans (failed p x) fs w (fail (meaning x) s)
-  failed-agrees spans p fs w s a x b = failed-leaves spans p fs w fs w s a x b
+  pub failed-agrees : (spans : List ℕ) (p : Progress) (fs w : List ℕ) (s : State) → Agree t spans p fs w s → (x : Fault)
+      → Agree t spans (failed p x) fs w (fail (meant x) s)
+  failed-agrees spans p fs w s a x = failed-leaves spans p fs w fs w s a x
 
   -- At a fault nothing is done.
   pub runs-stays : (f : State → State) (p : Progress) (fs w : List ℕ) → is_sound p.fault ≡ false → Runs t (guarded f) p fs w p fs w

@@ -1,5 +1,5 @@
 -- How the code keeps the state of a query's analysis.
-use Rattle.std.specs.Prelude.{◌≡◌, List, ℕ, ◌+◌, ◌-◌, ◌*◌, ◌/◌, ◌≤◌, ◌<◌, length, get_or}
+use Rattle.std.specs.Prelude.{◌≡◌, List, ℕ, ◌+◌, ◌-◌, ◌*◌, ◌/◌, ◌≤◌, ◌<◌, length, get_or, Option, Some}
 use Rattle.names_width.specs.declared.Width.{Width}
 use Rattle.names_width.specs.Inner.Widths.{row_words}
 use Rattle.answer_blocks.specs.Inner.Layout.{answers_size}
@@ -22,8 +22,11 @@ pub record Room (v : Width) (n k : ℕ) : Type 0 where
 
 -- ---- changes of one part
 
+abbrev pub with_fault : Progress → Option Fault → Progress
+with_fault p f = record { scope = p.scope; count = p.count; fault = f; width = p.width }
+
 abbrev pub failed : Progress → Fault → Progress
-failed p f = record { scope = p.scope; count = p.count; fault = f; width = p.width }
+failed p f = with_fault p (Some f)
 
 abbrev pub scoped : Progress → Scope → Progress
 scoped p k = record { scope = k; count = p.count; fault = p.fault; width = p.width }

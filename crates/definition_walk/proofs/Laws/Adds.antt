@@ -8,7 +8,7 @@ use Rattle.base.specs.Lists.{elem}
 use Rattle.base.proofs.Laws.Members.{elem-append}
 use Rattle.base.specs.Sets.{member}
 use Rattle.names.specs.Inner.Sets.{Empty, Inserted, Union}
-use Rattle.names.specs.declared.Names.{Names}
+use Rattle.names.specs.Inner.Names.{Names}
 use Rattle.definition_walk.specs.Inner.Own.{Holds}
 use Rattle.definition_walk.specs.Inner.Adds.{Adds}
 

@@ -15,7 +15,7 @@ use Rattle.base.specs.Limits as limits
 use Rattle.base.proofs.Laws.Truth.{lt_cases}
 use Rattle.base.specs.Lists.{filter, elem, counted, range}
 use Rattle.base.specs.Sets.{member, members, words_at}
-use Rattle.names.specs.declared.Names.{Names}
+use Rattle.names.specs.Inner.Names.{Names}
 use Rattle.order.specs.Definitions.{Definition}
 use Rattle.names_width.specs.declared.Width.{Width}
 use Rattle.names_width.specs.Inner.Widths.{set_words, row_words, Put}

@@ -6,10 +6,11 @@ use mathlib.Core.Logic.{◌⊎◌, inl, inr}
 use Prim.Native.Nat.{ℕ, ◌+◌, ◌/◌, ◌≤◌}
 use native.Mathlib.Omega.{arith}
 use lib.ListN.{length}
+use Rattle.std.specs.Prelude.{None}
 use borrow.Author.Tests.{eqb-true}
 use Rattle.base.proofs.Laws.Truth.{bool_cases}
 use Rattle.names.specs.Inner.Sets.{Empty, Union}
-use Rattle.names.specs.declared.Names.{Names}
+use Rattle.names.specs.Inner.Names.{Names}
 use Rattle.names_width.specs.declared.Width.{Width}
 use Rattle.names_width.specs.Inner.Widths as Widths
 use Rattle.order.specs.Definitions.{Definition}
@@ -278,7 +279,7 @@ module _ (t : List ℕ) (v : Width) (k : Scope) (extras : Names) (i : ℕ) where
           held s h l o = adds_holds f.names part.names _ fresh.clear (h₁.names s h l o)
 
   pub gathered-uses : (row : ℕ) (rest : Bool) (count : ℕ) (start : Names) → Empty start.words → (firsts ws : List ℕ) (r : Used) (firsts' rs : List ℕ)
-      → UsesWalked t v k extras i row rest (record { names = start; count = count; undefined = 0; reads = false; comprs = false }) firsts ws r firsts' rs
+      → UsesWalked t v k extras i row rest (record { names = start; count = count; undefined = None; reads = false; comprs = false }) firsts ws r firsts' rs
       → GatheredUses t v k extras i row rest count firsts ws r firsts' rs
   gathered-uses row rest count start clear firsts ws r firsts' rs h = record {
     total = h.count;

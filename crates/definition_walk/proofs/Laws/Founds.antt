@@ -1,28 +1,33 @@
 -- Laws of `Founds`.
 use mathlib.Core.Path.{◌≡◌, refl, sym, ap, ap₂, ◌∙◌, subst}
 use mathlib.Core.Bool.{Bool, true, false, not, ◌&&◌, ◌||◌, or-true}
-use mathlib.Core.List.{List}
+use mathlib.Core.List.{List, map}
 use mathlib.Core.Logic.{◌⊎◌, inl, inr}
-use Prim.Native.Nat.{ℕ, zero, suc, ◌≤◌, ◌<◌}
+use Prim.Native.Nat.{ℕ, ◌≤◌}
+use Rattle.std.specs.Prelude.{Option, Some}
+use Rattle.std.specs.Option.{option_or}
 use native.Mathlib.Omega.{arith}
 use lib.Dec.{eqb, leb}
 use lib.ListN.{length}
-use borrow.Author.Tests.{eq-eqb, ne_eqb, le-leb, lt-leb}
+use borrow.Author.Tests.{eq-eqb, ne_eqb}
 use Rattle.base.proofs.Laws.Truth.{bool_cases, not-both, neither_left, neither_right}
 use Rattle.base.specs.Sets.{member}
 use Rattle.names.specs.Inner.Sets.{Inserted}
-use Rattle.names.specs.declared.Names.{Names}
+use Rattle.names.specs.Inner.Names.{Names}
 use Rattle.sheet.specs.declared.Row.{Row}
 use Rattle.sheet.specs.Sheet.{is_input, is_special}
 use Rattle.sheet.specs.Kinds.{is_var, is_compr}
 use Rattle.scope_walk.specs.declared.Kids.{Kids}
-use Rattle.scope_walk.proofs.Laws.Arms.{KidsTurn, NoKind, no_such_kind, no_compr_kind}
+use Rattle.scope_walk.proofs.Laws.Arms.{KidsTurn, Quiet, NoKind, no_such_kind, no_compr_kind}
+use Rattle.scope_walk.proofs.Laws.Numbers.{number_of, by_number, OneOf, same_of, compr_kinds}
+use Rattle.sheet.specs.declared.kinds.Kind.{Kind}
+use Rattle.sheet.specs.Inner.Kinds.{KindNumbered}
 use Rattle.scope_state.specs.declared.Scope.{Scope}
 use Rattle.scope_walk.specs.Inner.Sheets.{sheet_at, expr_count}
 use Rattle.definition_walk.specs.declared.found.Used.{Used}
 use Rattle.definition_walk.specs.Inner.Own.{Owns, IsUse}
 use Rattle.definition_walk.proofs.Laws.Own.{IsUndefined, undefined-special, undefined-own, undefined-input, use_special, use_own, use_other}
-use Rattle.definition_walk.specs.Inner.Undefined.{earlier, UndefinedStep}
+use Rattle.definition_walk.specs.Inner.Undefined.{UndefinedStep}
 use Rattle.definition_walk.proofs.Laws.Undefined.{undefined-other, undefined-not, undefined-here}
 use Rattle.definition_walk.specs.Inner.Met.{MetStep, reads}
 use Rattle.definition_walk.proofs.Laws.Met.{met-not}
@@ -39,36 +44,6 @@ unfolding is_special
 no_special t x h =
     neither_left (is_input (sheet_at t) x) (eqb x (sheet_at t).special.«data»)
     (neither_right (eqb x (sheet_at t).special.blank) (is_input (sheet_at t) x || eqb x (sheet_at t).special.«data») h)
-
-abbrev reading : Used → Bool → Used
-reading u b = record { names = u.names; count = u.count; undefined = u.undefined; reads = b; comprs = u.comprs }
-
-pub input_was : (u : Used) (b : Bool) → u.reads ≡ true → reading u u.reads ≡ input_read u b
-input_was u b p = ap (reading u) (p ∙ sym (ap (λ (r : Bool). r || b) p))
-
-pub input_now : (u : Used) (b : Bool) → u.reads ≡ false → reading u b ≡ input_read u b
-input_now u b p = ap (reading u) (sym (ap (λ (r : Bool). r || b) p))
-
-pub undefined-stays : (u : Used) (row : ℕ) → (u.undefined ≡ 0 → ⊥) → u ≡ found_undefined u row
-undefined-stays u row ne = ap (λ (n : ℕ). record { names = u.names; count = u.count; undefined = n; reads = u.reads; comprs = u.comprs }) (go u.undefined ne)
-  where
-    go : (n : ℕ) → (n ≡ 0 → ⊥) → n ≡ earlier n row
-    go zero b = absurd (b refl)
-    go (suc n) b = refl
-
-pub undefined-first : (u : Used) (row : ℕ) → u.undefined ≡ 0
-    → record { names = u.names; count = u.count; undefined = row; reads = u.reads; comprs = u.comprs } ≡ found_undefined u row
-undefined-first u row z =
-    ap (λ (n : ℕ). record { names = u.names; count = u.count; undefined = n; reads = u.reads; comprs = u.comprs }) (sym (ap (λ (n : ℕ). earlier n row) z))
-
--- ---- what `is_compr` answers
-
-module _ (w : Row) where
-  pub low_kind : w.kind < 10 → false ≡ is_compr w
-  low_kind l = rw (lt-leb 10 w.kind l)
-
-  pub high_kind : 10 ≤ w.kind → leb w.kind 12 ≡ is_compr w
-  high_kind l = rw (le-leb 10 w.kind l)
 
 module _ (extras : Names) (w : Row) (a : Used) (ws : List ℕ) (m : Bool) (is : m ≡ member extras.words w.name) where
   pub own-bound : m ≡ true → OwnUsed extras w a ws a ws
@@ -141,7 +116,7 @@ module _ (t : List ℕ) (k : Scope) (extras : Names) (row : ℕ) (w : Row) (a : 
                 }
 
         module _ (p : o ≡ false) (i : Bool) (input : i ≡ member k.inputs.words w.name) where
-          not_own : (n : ℕ) → UndefinedStep t k row w a.undefined n
+          not_own : (n : Option ℕ) → UndefinedStep t k row w a.undefined n
               → RowUsed t k extras row w a ws (record { names = a.names; count = a.count; undefined = n; reads = a.reads; comprs = a.comprs }) ws
           not_own n u = record {
             count = refl;
@@ -157,10 +132,10 @@ module _ (t : List ℕ) (k : Scope) (extras : Names) (row : ℕ) (w : Row) (a : 
               not_own a.undefined
               (undefined-not t k row w a.undefined v (subst (IsUndefined t k w) (ap not q) (undefined-input t k w sp special other o owned p i input)))
 
-          pub var-undefined : i ≡ false → (row ≡ 0 → ⊥) → row ≤ expr_count t → (b : Used) → b ≡ found_undefined a row → RowUsed t k extras row w a ws b ws
-          var-undefined q ne high b is = subst (λ (u : Used). RowUsed t k extras row w a ws u ws) (sym is)
-              (not_own (earlier a.undefined row)
-              (undefined-here t k row w a.undefined v (subst (IsUndefined t k w) (ap not q) (undefined-input t k w sp special other o owned p i input)) ne high))
+          pub var-undefined : i ≡ false → row ≤ expr_count t → (b : Used) → b ≡ found_undefined a row → RowUsed t k extras row w a ws b ws
+          var-undefined q high b is = subst (λ (u : Used). RowUsed t k extras row w a ws u ws) (sym is)
+              (not_own (option_or a.undefined (Some row))
+              (undefined-here t k row w a.undefined v (subst (IsUndefined t k w) (ap not q) (undefined-input t k w sp special other o owned p i input)) high))
 
   -- ---- other rows
 
@@ -193,14 +168,17 @@ module _ (t : List ℕ) (k : Scope) (extras : Names) (row : ℕ) (w : Row) (a : 
 
 -- ---- the arms of `used_from`, on what is found and the first uses
 
+abbrev FoundDone : List ℕ → Scope → Names → ℕ → Row → Used × List ℕ → Used × List ℕ → Type 0
+FoundDone t k extras row w a b = RowUsed t k extras row w a.0 a.1 b.0 b.1 × (length b.1 ≡ length a.1)
+
 abbrev pub FoundTurn : List ℕ → Scope → Names → ℕ → Row → Used × List ℕ → Used × List ℕ → Kids → Type 0
-FoundTurn t k extras row w = KidsTurn (λ a b. RowUsed t k extras row w a.0 a.1 b.0 b.1 × (length b.1 ≡ length a.1)) w
+FoundTurn t k extras row w = KidsTurn (FoundDone t k extras row w) w
 
 -- The kinds at which something is done: a Var, a RefBrack, a comprehension.
-abbrev pub is_found : ℕ → Bool
-is_found kind = eqb kind 6 || (eqb kind 16 || (leb 10 kind && leb kind 12))
+abbrev pub found_number : ℕ → Bool
+found_number kind = eqb kind 6 || (eqb kind 16 || (leb 10 kind && leb kind 12))
 
-pub no_found_kind : (w : Row) → NoKind w → is_found w.kind ≡ false
+no_found_kind : (w : Row) → NoKind w → found_number w.kind ≡ false
 no_found_kind w none =
     ap₂ ◌||◌ (no_such_kind w 6 (omega arith) (omega arith) none) (ap₂ ◌||◌ (no_such_kind w 16 (omega arith) (omega arith) none) (no_compr_kind w none))
 
@@ -208,22 +186,30 @@ module _ (t : List ℕ) (k : Scope) (extras : Names) (row : ℕ) (w : Row) (a : 
   abbrev Did : Used → List ℕ → Type 0
   Did b rs = RowUsed t k extras row w a ws b rs × (length rs ≡ length ws)
 
-  pub found_still : is_found w.kind ≡ false → Did a ws
-  found_still h =
+  nothing_found : found_number w.kind ≡ false → Did a ws
+  nothing_found h =
       let rest = neither_right (is_var w) _ h in (
         row_other t k extras row w a ws (λ e. not-both (eq-eqb w.kind 6 e) (neither_left (is_var w) _ h))
             (λ e. not-both (eq-eqb w.kind 16 e) (neither_left (eqb w.kind 16) _ rest)) false (sym (neither_right (eqb w.kind 16) _ rest)) refl,
         refl,
       )
 
+  pub found_still : (kind : Kind) → KindNumbered w.kind kind → Quiet (FoundDone t k extras row w) w found_number kind (a, ws)
+  found_still kind is = record { numbered = is; past = no_found_kind w; still = nothing_found }
+
   pub found_at-bracket : w.kind ≡ 16 → (b : Used) → IndexUsed t k w a b → Did b ws
   found_at-bracket e b u =
       (row-bracket t k extras row w a ws (λ v. not-both (eq-eqb w.kind 6 v) (ap (λ (n : ℕ). eqb n 6) e)) e u.names u.walked b u.is, refl)
 
-  -- A comprehension of kind n.
-  pub found_at-compr : (n : ℕ) → w.kind ≡ n → eqb n 6 ≡ false → eqb n 16 ≡ false → (leb 10 n && leb n 12) ≡ true → (b : Used) → b ≡ compr_met a → Did b ws
-  found_at-compr n e v r c b is = (
-    row-compr t k extras row w a ws (λ k. not-both (eq-eqb w.kind 6 k) (ap (λ (j : ℕ). eqb j 6) e ∙ v))
-        (λ k. not-both (eq-eqb w.kind 16 k) (ap (λ (j : ℕ). eqb j 16) e ∙ r)) true (sym (ap (λ (j : ℕ). leb 10 j && leb j 12) e ∙ c)) refl b is,
+  pub found_at-compr : (kind : Kind) → KindNumbered w.kind kind → OneOf kind compr_kinds → (b : Used) → b ≡ compr_met a → Did b ws
+  found_at-compr kind e one b is = (
+    row-compr t k extras row w a ws
+        (λ v. not-both (eq-eqb w.kind 6 v) (told (λ n. eqb n 6) false (no_such_kind w 6 (omega arith) (omega arith)) refl))
+        (λ v. not-both (eq-eqb w.kind 16 v) (told (λ n. eqb n 16) false (no_such_kind w 16 (omega arith) (omega arith)) refl))
+        true (sym (told (λ n. leb 10 n && leb n 12) true (no_compr_kind w) refl)) refl b is,
     refl,
   )
+    where
+      -- What is the same of the numbers of the three kinds.
+      told : (f : ℕ → Bool) (v : Bool) → (NoKind w → f w.kind ≡ f 0) → map (λ j. f (number_of j)) compr_kinds ≡ map (λ j. v) compr_kinds → f w.kind ≡ v
+      told f v past same = by_number f w.kind kind e past ∙ same_of (λ j. f (number_of j)) v kind compr_kinds same one

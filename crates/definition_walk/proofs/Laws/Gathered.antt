@@ -5,7 +5,7 @@ use mathlib.Core.List.{List, [], ◌++◌}
 use mathlib.Core.Logic.{◌⊎◌, inl, inr}
 use Prim.Native.Nat.{ℕ, ◌≤◌}
 use native.Mathlib.Omega.{arith}
-use Rattle.names.specs.declared.Names.{Names}
+use Rattle.names.specs.Inner.Names.{Names}
 use Rattle.base.specs.Lists.{concat_map}
 use Rattle.base.proofs.Laws.Truth.{bool_cases}
 use Rattle.sheet.specs.declared.Row.{Row}

@@ -1,19 +1,24 @@
 -- Laws of `Index`.
 use mathlib.Core.Path.{◌≡◌, refl, sym, ap, ◌∙◌, subst}
-use mathlib.Core.Bool.{Bool, true, false, cond}
+use mathlib.Core.Bool.{Bool, true, false, cond, ◌||◌}
 use mathlib.Core.List.{List, [], ◌∷◌, ◌++◌, map}
 use Prim.Native.Nat.{ℕ, suc, ◌+◌, ◌*◌, ◌/◌, ◌≤◌}
 use native.Mathlib.Nat.{div-le_self}
 use native.Mathlib.Omega.{arith}
 use lib.ListN.{length}
-use borrow.Author.Tests.{eq-eqb, ne_eqb}
-use Rattle.names.specs.declared.Names.{Names}
+use borrow.Author.Tests.{eq-eqb}
+use Rattle.names.specs.Inner.Names.{Names}
 use Rattle.names_width.specs.declared.Width.{Width}
 use Rattle.names_width.specs.Inner.Widths as Widths
 use Rattle.names_width.proofs.Laws.Laws.{room_whole}
 use Rattle.sheet.specs.declared.Row.{Row}
 use Rattle.sheet.specs.Inner.Sheet.{row_at}
-use Rattle.sheet.specs.Kinds.{is_var, is_pattern, is_ref_brack}
+use Rattle.sheet.specs.Kinds.{is_var, is_pattern}
+use Rattle.sheet.specs.declared.kinds.Kind.{Kind}
+use Rattle.sheet.specs.Inner.Kinds.{KindNumbered}
+use Rattle.scope_walk.proofs.Laws.Arms.{no_such_kinds}
+use Rattle.scope_walk.proofs.Laws.Numbers.{number_of, by_number, OneOf, same_of, patterns}
+use lib.Dec.{eqb}
 use Rattle.scope.specs.Trees.{tree_at}
 use Rattle.scope.specs.Scopes as spec
 use Rattle.definition.specs.Uses.{define, assigned_vars}
@@ -44,14 +49,12 @@ module _ {A : Type 0} where
   append-length [] l = omega arith
   append-length (x ∷ k) l = let e = append-length k l in omega (arith, e)
 
--- ---- what `index_of` answers
+-- ---- the kind of an arm
 
-module _ (w : Row) where
-  pub is-bracket : w.kind ≡ 16 → w.second ≡ cond (is_ref_brack w) w.second 0
-  is-bracket e = sym (rw (eq-eqb w.kind 16 e))
-
-  pub no_bracket : (w.kind ≡ 16 → ⊥) → 0 ≡ cond (is_ref_brack w) w.second 0
-  no_bracket ne = sym (rw (ne_eqb w.kind 16 ne))
+pub items_pattern : {k : Kind} (w : Row) → KindNumbered w.kind k → OneOf k patterns → is_pattern w ≡ true
+items_pattern {k} w e is =
+    by_number (λ n. eqb n 7 || eqb n 9) w.kind k e (no_such_kinds w 7 9 (omega arith) (omega arith) (omega arith) (omega arith))
+    ∙ same_of (λ j. eqb (number_of j) 7 || eqb (number_of j) 9) true k patterns refl is
 
 -- ---- names that are defined
 

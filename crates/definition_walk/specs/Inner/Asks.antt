@@ -1,7 +1,7 @@
 -- What the functions of the walk over an expression ask of where they are called.
 use Rattle.std.specs.Prelude.{◌≡◌, Bool, List, ℕ, ◌≤◌, ◌<◌, length}
 use Rattle.base.specs.Limits as limits
-use Rattle.names.specs.declared.Names.{Names}
+use Rattle.names.specs.Inner.Names.{Names}
 use Rattle.names_width.specs.declared.Width.{Width}
 use Rattle.sheet.specs.declared.Row.{Row}
 use Rattle.scope_state.specs.declared.Scope.{Scope}
@@ -14,7 +14,6 @@ module _ (t : List ℕ) where
     pub tables-room : limits.table_entries ≤ length t
     pub var : w.kind ≡ 6
     pub name-low : w.name < limits.per_name
-    pub some-row : row ≡ 0 → ⊥
     pub row_in : row ≤ expr_count t
     pub firsts_room : limits.per_name ≤ length firsts
 

@@ -1,6 +1,6 @@
 -- The walk over a pattern, with the rest of its chain or without.
 use Rattle.std.specs.Prelude.{Bool, cond, List, [], ◌∷◌, ℕ}
-use Rattle.names.specs.declared.Names.{Names}
+use Rattle.names.specs.Inner.Names.{Names}
 use Rattle.sheet.specs.declared.Row.{Row}
 use Rattle.sheet.specs.Kinds.{is_var}
 use Rattle.scope.specs.Scopes as spec

@@ -3,7 +3,7 @@ use Rattle.std.specs.Prelude.{◌≡◌, Bool, false, cond, List, [], map, ℕ, 
 use Rattle.base.specs.Lists.{elem}
 use Rattle.base.specs.Sets.{member}
 use Rattle.names.specs.Inner.Sets.{Empty}
-use Rattle.names.specs.declared.Names.{Names}
+use Rattle.names.specs.Inner.Names.{Names}
 use Rattle.names_width.specs.declared.Width.{Width}
 use Rattle.names_width.specs.Inner.Widths as Widths
 use Rattle.sheet.specs.declared.Row.{Row}

@@ -3,7 +3,7 @@ use Rattle.std.specs.Prelude.{◌≡◌, Bool, cond, ℕ, ◌+◌, ◌*◌, ◌<
 use mathlib.Core.List.{List, foldl, map}
 use Rattle.std.proofs.Math.Option.{Option, none, some}
 use Rattle.base.specs.Limits as limits
-use Rattle.names.specs.declared.Names.{Names}
+use Rattle.names.specs.Inner.Names.{Names}
 use Rattle.sheet.specs.declared.Row.{Row}
 use Rattle.sheet.specs.Kinds.{is_var}
 use Rattle.scope.specs.Scopes as spec

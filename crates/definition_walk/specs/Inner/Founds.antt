@@ -1,14 +1,15 @@
 -- What a row of an expression does by itself to what a walk has found.
-use Rattle.std.specs.Prelude.{◌≡◌, Bool, true, false, ◌||◌, List, ℕ}
+use Rattle.std.specs.Prelude.{◌≡◌, Bool, true, false, ◌||◌, List, ℕ, Some}
+use Rattle.std.specs.Option.{option_or}
 use Rattle.base.specs.Sets.{member}
 use Rattle.names.specs.Inner.Sets.{Inserted}
-use Rattle.names.specs.declared.Names.{Names}
+use Rattle.names.specs.Inner.Names.{Names}
 use Rattle.sheet.specs.declared.Row.{Row}
 use Rattle.sheet.specs.Kinds.{is_compr}
 use Rattle.scope_state.specs.declared.Scope.{Scope}
 use Rattle.definition_walk.specs.declared.found.Used.{Used}
 use Rattle.definition_walk.specs.Inner.Assigned.{AssignedWalk}
-use Rattle.definition_walk.specs.Inner.Undefined.{earlier, UndefinedStep}
+use Rattle.definition_walk.specs.Inner.Undefined.{UndefinedStep}
 use Rattle.definition_walk.specs.Inner.Met.{MetStep, reads}
 use Rattle.definition_walk.specs.Inner.Firsts.{FirstUse, FirstStep}
 use Rattle.definition_walk.specs.Inner.UsedVars.{UsedStep}
@@ -25,7 +26,7 @@ abbrev pub compr_met : Used → Used
 compr_met u = record { names = u.names; count = u.count; undefined = u.undefined; reads = u.reads; comprs = true }
 
 abbrev pub found_undefined : Used → ℕ → Used
-found_undefined u row = record { names = u.names; count = u.count; undefined = earlier u.undefined row; reads = u.reads; comprs = u.comprs }
+found_undefined u row = record { names = u.names; count = u.count; undefined = option_or u.undefined (Some row); reads = u.reads; comprs = u.comprs }
 
 -- ---- a variable of the query
 

@@ -1,6 +1,6 @@
 -- The walk over an index that defines its names.
 use Rattle.std.specs.Prelude.{◌≡◌, List, map, ℕ, ◌+◌, ◌/◌, ◌≤◌, length}
-use Rattle.names.specs.declared.Names.{Names}
+use Rattle.names.specs.Inner.Names.{Names}
 use Rattle.names_width.specs.declared.Width.{Width}
 use Rattle.names_width.specs.Inner.Widths as Widths
 use Rattle.sheet.specs.declared.Row.{Row}

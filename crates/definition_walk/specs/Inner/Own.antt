@@ -2,7 +2,7 @@
 use Rattle.std.specs.Prelude.{◌≡◌, Bool, List, ℕ}
 use Rattle.base.specs.Lists.{elem}
 use Rattle.base.specs.Sets.{member}
-use Rattle.names.specs.declared.Names.{Names}
+use Rattle.names.specs.Inner.Names.{Names}
 use Rattle.sheet.specs.declared.Row.{Row}
 use Rattle.scope.specs.Scopes as spec
 use Rattle.scope.specs.Scopes.{owns}

@@ -13,14 +13,15 @@ use Rattle.base.proofs.Laws.Truth.{lt_cases}
 use Rattle.base.specs.Lists.{all, filter, range}
 use Rattle.base.proofs.Laws.Ranges.{range-nil, range_cons, filter_skip}
 use Rattle.base.specs.Sets.{member, members}
-use Rattle.names.specs.Inner.Sets.{Next}
+use Rattle.names.specs.Inner.Sets.{Next, Gap}
+use Rattle.names.specs.Inner.Members.{Lowest}
 
 -- The members from a up.
 unfoldable pub members_from : List ℕ → ℕ → List ℕ
 members_from ws a = filter (member ws) (range a (64 * length ws))
 
 module _ (ws : List ℕ) where
-  from_start : members_from ws 0 ≡ members ws
+  pub from_start : members_from ws 0 ≡ members ws
   unfolding members_from members
   from_start = refl
 
@@ -89,3 +90,17 @@ module _ {ws : List ℕ} {end : ℕ} (test : ℕ → Bool) where
 
     pub members_listed_all : end ≤ n → all test (members ws) ≡ true
     members_listed_all h = sym (listing_end l h)
+
+-- ---- a loop over the iterator of the members: what comes next, and what is left
+
+module _ (ws : List ℕ) (end : ℕ) (whole : 64 * length ws ≡ end) where
+  pub left-some : {a x : ℕ} → Lowest ws end a x → members_from ws a ≡ x ∷ members_from ws (x + 1)
+  unfolding members_from
+  left-some {a} {x} l =
+      filter_skip (member ws) a x (64 * length ws) l.low (omega (arith, l.high)) l.gap ∙ from_member ws x (omega (arith, l.high)) l.found
+
+  pub left-none : {a : ℕ} → Gap ws a end → members_from ws a ≡ []
+  unfolding members_from
+  left-none {a} gap =
+      ⊎_elim (λ (h : end < a). from_end ws a (omega arith))
+      (λ (h : a ≤ end). filter_skip (member ws) a end (64 * length ws) h (omega arith) gap ∙ from_end ws end (omega arith)) (lt_cases end a)

@@ -1,15 +1,16 @@
 -- Laws of sets of w words, for any w.
 use mathlib.Core.Path.{◌≡◌, refl, sym, ap, ap₂, ◌∙◌}
 use mathlib.Core.Bool.{Bool, false, cond}
-use mathlib.Core.List.{List, ◌∷◌}
+use mathlib.Core.List.{List, ◌∷◌, ◌++◌}
 use mathlib.Core.Logic.{⊎_elim}
-use Prim.Native.Nat.{ℕ, zero, suc, ◌+◌, ◌*◌, ◌/◌, ◌%◌, ◌^◌, ◌≤◌, ◌<◌}
+use Prim.Native.Nat.{ℕ, zero, suc, ◌+◌, ◌-◌, ◌*◌, ◌/◌, ◌%◌, ◌^◌, ◌≤◌, ◌<◌}
 use native.Mathlib.Nat.{mul-le-mul_left, mul-suc, div-mul-le_self}
 use native.Mathlib.Omega.{arith}
 use lib.Dec.{lit≤, lit<}
-use lib.ListN.{length, get_or, set, length-set}
-use lib.Seq.{get_or-set_same, get_or-set_other}
-use borrow.Author.Count.{below_none, below_more}
+use lib.ListN.{length, get_or, take, drop, length-drop, get_or-append}
+use lib.Seq.{length-take-le}
+use borrow.Rule.Slice.PartMut.{put_mid, same_len_mid}
+use Rattle.std.proofs.lemmas.List.{get_or-take, get_or-drop, get_or-append_right}
 use Rattle.base.specs.Limits.{library}
 use Rattle.base.specs.Inner.Sizes.{least_work}
 use Rattle.base.proofs.Laws.Truth.{lt_cases}
@@ -90,94 +91,50 @@ pub names_are : (w : Width) → 64 * set_words w ≡ names w + 1
 names_are Two = refl
 names_are Eight = refl
 
--- ---- loading: the first i words of `count` are the memory's from `at` up, and no member stands behind them
+-- ---- loading and storing
 
-pub record Loading (memory : List ℕ) (at count : ℕ) (ws : List ℕ) (i : ℕ) : Type 0 where
-  pub room : at + count ≤ length memory
-  pub most : count ≤ 8
-  pub here : i ≤ count
-  pub long : length ws ≡ 8
-  pub loaded : (j : ℕ) → j < i → get_or ws j 0 ≡ get_or memory (at + j) 0
-  pub rest : (n : ℕ) → 64 * i ≤ n → member ws n ≡ false
+-- The words of a set of no member, after the first w of them are the memory's from `at` up.
+pub loaded : (w at : ℕ) (memory none after : List ℕ) → at + w ≤ length memory → w ≤ length none → Empty none
+    → after ≡ take w (drop at memory) ++ drop w none → Same (words_at w memory at) after
+unfolding member
+loaded w at memory none after room most empty e =
+    same-words w (words_at w memory at) after (words-length w memory at)
+    (λ i l.
+    ap (λ (ws : List ℕ). get_or ws i 0) e ∙ get_or-append (take w (drop at memory)) (drop w none) 0 i (omega (arith, front, l))
+    ∙ get_or-take w (drop at memory) i 0 l ∙ get_or-drop at memory i 0 ∙ sym (words_get w memory at i l))
+    (λ n l.
+    ap (λ (ws : List ℕ). bit (get_or ws (n / 64) 0) (n % 64)) e
+    ∙ ap (λ (v : ℕ). bit v (n % 64))
+    (get_or-append_right (take w (drop at memory)) (drop w none) w (n / 64) 0 front (omega arith) ∙ get_or-drop w none (n / 64 - w) 0)
+    ∙ ap (λ (i : ℕ). bit (get_or none i 0) (n % 64)) (let i : w + (n / 64 - w) ≡ n / 64 = omega arith in i) ∙ empty.has n)
+  where
+    front : length (take w (drop at memory)) ≡ w
+    front = length-take-le w (drop at memory) (omega (arith, length-drop at memory))
 
-module _ (memory : List ℕ) (at count : ℕ) (ws : List ℕ) where
-  pub loading_none : at + count ≤ length memory → count ≤ 8 → length ws ≡ 8 → Empty ws → Loading memory at count ws 0
-  loading_none room most long empty = record {
-    room = room;
-    most = most;
-    here = omega arith;
-    long = long;
-    loaded = below_none _;
-    rest = λ n h. empty.has n;
-  }
+-- The first w words of a set in the place of the memory's from `at` up.
+pub stored : (w at : ℕ) (before ws after : List ℕ) → at + w ≤ length before → w ≤ length ws → after ≡ put_mid at w before (take w ws) → Put w before at ws after
+unfolding member
+stored w at before ws after room most e = record {
+  long = ap length e ∙ same_len_mid at w before (take w ws) (part ∙ sym (length-take-le w (drop at before) (omega (arith, length-drop at before))));
+  held = λ n b. ap (λ (v : ℕ). bit v (n % 64)) (words_get w after at (n / 64) (omega arith) ∙ within (n / 64) (omega arith));
+  below = λ i l. ap (λ (l : List ℕ). get_or l i 0) e ∙ get_or-append (take at before) _ 0 i (omega (arith, front, l)) ∙ get_or-take at before i 0 l;
+  above = λ i l.
+      ap (λ (l : List ℕ). get_or l i 0) e ∙ get_or-append_right (take at before) _ at i 0 front (omega arith)
+      ∙ get_or-append_right (take w ws) _ w (i - at) 0 part (omega arith) ∙ get_or-drop w (drop at before) (i - at - w) 0
+      ∙ get_or-drop at before (w + (i - at - w)) 0 ∙ ap (λ (k : ℕ). get_or before k 0) (let k : at + (w + (i - at - w)) ≡ i = omega arith in k);
+}
+  where
+    part : length (take w ws) ≡ w
+    part = length-take-le w ws most
 
-  pub loading_next : (i : ℕ) → i < count → Loading memory at count ws i → Loading memory at count (set ws i (get_or memory (at + i) 0)) (i + 1)
-  unfolding member
-  loading_next i h l =
-      let v = get_or memory (at + i) 0 in
-      record {
-        room = l.room;
-        most = l.most;
-        here = omega arith;
-        long = length-set ws i v ∙ l.long;
-        loaded = below_more (λ j. get_or (set ws i v) j 0 ≡ get_or memory (at + j) 0) i
-            (λ j b. get_or-set_other ws i j v 0 (λ e. omega (arith, e)) ∙ l.loaded j b)
-            (get_or-set_same ws i v 0 (omega (arith, l.long, l.most)));
-        rest = λ n b. ap (λ (x : ℕ). bit x (n % 64)) (get_or-set_other ws i (n / 64) v 0 (λ e. omega (arith, e))) ∙ l.rest n (omega arith);
-      }
+    front : length (take at before) ≡ at
+    front = length-take-le at before (omega arith)
 
-  pub loading_all : (w i : ℕ) → count ≡ w → count ≤ i → Loading memory at count ws i → Same (words_at w memory at) ws
-  loading_all w i e h l =
-      same-words w (words_at w memory at) ws (words-length w memory at)
-      (λ j b. l.loaded j (omega (arith, e, b)) ∙ sym (words_get w memory at j b)) (λ n b. l.rest n (omega (arith, e, l.here)))
-
--- ---- storing: the first i words of a set stand from `at` up
-
-pub record Storing (before : List ℕ) (at count : ℕ) (ws after : List ℕ) (i : ℕ) : Type 0 where
-  pub room : at + count ≤ length before
-  pub most : count ≤ 8
-  pub here : i ≤ count
-  pub long : length after ≡ length before
-  pub stored : (j : ℕ) → j < i → get_or after (at + j) 0 ≡ get_or ws j 0
-  pub below : (j : ℕ) → j < at → get_or after j 0 ≡ get_or before j 0
-  pub above : (j : ℕ) → at + i ≤ j → get_or after j 0 ≡ get_or before j 0
-
-module _ (before : List ℕ) (at count : ℕ) (ws : List ℕ) where
-  pub storing_none : at + count ≤ length before → count ≤ 8 → Storing before at count ws before 0
-  storing_none room most = record {
-    room = room;
-    most = most;
-    here = omega arith;
-    long = refl;
-    stored = below_none _;
-    below = λ j h. refl;
-    above = λ j h. refl;
-  }
-
-  pub storing_next : (after : List ℕ) (i : ℕ) → i < count → Storing before at count ws after i
-      → Storing before at count ws (set after (at + i) (get_or ws i 0)) (i + 1)
-  storing_next after i h l =
-      let v = get_or ws i 0 in
-      record {
-        room = l.room;
-        most = l.most;
-        here = omega arith;
-        long = length-set after (at + i) v ∙ l.long;
-        stored = below_more (λ j. get_or (set after (at + i) v) (at + j) 0 ≡ get_or ws j 0) i
-            (λ j b. get_or-set_other after (at + i) (at + j) v 0 (λ e. omega (arith, e)) ∙ l.stored j b)
-            (get_or-set_same after (at + i) v 0 (omega (arith, l.long, l.room)));
-        below = λ j b. get_or-set_other after (at + i) j v 0 (λ e. omega (arith, e)) ∙ l.below j b;
-        above = λ j b. get_or-set_other after (at + i) j v 0 (λ e. omega (arith, e)) ∙ l.above j (omega arith);
-      }
-
-  pub storing_all : (w : ℕ) (after : List ℕ) (i : ℕ) → count ≡ w → count ≤ i → Storing before at count ws after i → Put w before at ws after
-  unfolding member
-  storing_all w after i e h l = record {
-    long = l.long;
-    held = λ n b. ap (λ (v : ℕ). bit v (n % 64)) (words_get w after at (n / 64) (omega arith) ∙ l.stored (n / 64) (omega (arith, e, b)));
-    below = l.below;
-    above = λ j b. l.above j (omega (arith, e, l.here));
-  }
+    within : (i : ℕ) → i < w → get_or after (at + i) 0 ≡ get_or ws i 0
+    within i l =
+        ap (λ (l : List ℕ). get_or l (at + i) 0) e ∙ get_or-append_right (take at before) _ at (at + i) 0 front (omega arith)
+        ∙ ap (λ (k : ℕ). get_or (take w ws ++ drop w (drop at before)) k 0) (let k : at + i - at ≡ i = omega arith in k)
+        ∙ get_or-append (take w ws) _ 0 i (omega (arith, part, l)) ∙ get_or-take w ws i 0 l
 
 -- ---- the members listed: the same whatever the number of words
 

@@ -1,20 +1,22 @@
--- The words are loaded one after the other.
+-- The memory's words in front of those that stay zero.
+use mathlib.Core.Path.{◌≡◌, ap, subst}
+use mathlib.Core.List.{List, ◌++◌}
+use Prim.Native.Nat.{ℕ, ◌+◌, ◌-◌}
 use native.Mathlib.Omega.{arith}
-use borrow.Author.Rules.{rules}
-use Rattle.names_width.proofs.Laws.Laws.{at_most, loading_none, loading_next, loading_all}
+use lib.ListN.{drop, replicate}
+use Rattle.base.specs.Sets.{words_at}
+use Rattle.names.proofs.Laws.Words.{zeros-empty}
+use Rattle.names_width.specs.Inner.Widths.{Same}
+use Rattle.names_width.proofs.Laws.Laws.{at_most, loaded}
 use Rattle.names_width.proofs.load_set.Goals as goal
-
-pub loop-i-init : goal.loop-i-init
-loop-i-init c =
-    let start = c.args in
-    let count = c.words-count.ensures in
-    loading_none _ _ _ _ (omega (arith, count)) (omega (arith, count, at_most start.width)) (search rules) c.empty-set.ensures
-
-pub loop-i-preserved : goal.loop-i-preserved
-loop-i-preserved c = loading_next _ _ _ _ _ (search rules) c.loop-i.invariant
 
 pub returns : goal.returns
 returns c =
-    let loop = c.loop-i in
+    let a = c.args in
+    let n = c.words-count.result in
     let count = c.words-count.ensures in
-    loading_all _ _ _ _ _ loop.i count (omega arith) loop.invariant
+    let none : List ℕ = replicate 8 0 in
+    let w : a.at + n - a.at ≡ n = omega arith in
+    subst (λ (m : ℕ). Same (words_at m a.memory.now a.at) (c.copy_from_slice.new.self ++ drop n none)) count
+    (loaded n a.at a.memory.now none _ (omega (arith, count, c.requires)) (omega (arith, count, at_most a.width)) (zeros-empty 8)
+    (ap (λ (l : List ℕ). l ++ drop n none) (rw w at c.copy_from_slice.ensures.after)))

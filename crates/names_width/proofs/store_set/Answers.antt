@@ -1,23 +1,19 @@
--- The words are stored one after the other.
+use mathlib.Core.Path.{◌≡◌, ap₂, subst}
+use mathlib.Core.List.{List}
+use Prim.Native.Nat.{ℕ, ◌+◌, ◌-◌}
 use native.Mathlib.Omega.{arith}
 use borrow.Author.Rules.{rules}
-use Rattle.names_width.proofs.Laws.Laws.{at_most, storing_none, storing_next, storing_all}
+use borrow.Rule.Slice.PartMut.{put_mid}
+use Rattle.names_width.specs.Inner.Widths.{Put}
+use Rattle.names_width.proofs.Laws.Laws.{stored}
 use Rattle.names_width.proofs.store_set.Goals as goal
-
-pub loop-i-init : goal.loop-i-init
-loop-i-init c =
-    let start = c.args in
-    let count = c.words-count.ensures in
-    storing_none _ _ _ _ (omega (arith, count)) (omega (arith, count, at_most start.width))
-
-pub loop-i-preserved : goal.loop-i-preserved
-loop-i-preserved c = storing_next _ _ _ _ _ _ (search rules) c.loop-i.invariant
-
-pub shape_of-memory : goal.shape_of-memory
-shape_of-memory c = c.loop-i.invariant.long
 
 pub returns : goal.returns
 returns c =
-    let loop = c.loop-i in
+    let a = c.args in
+    let n = c.words-count.result in
     let count = c.words-count.ensures in
-    storing_all _ _ _ _ _ _ loop.i count (omega arith) loop.invariant
+    let w : a.at + n - a.at ≡ n = omega arith in
+    subst (λ (m : ℕ). Put m a.memory.now a.at a.set.words (put_mid a.at (a.at + n - a.at) a.memory.now c.copy_from_slice.new.self)) count
+    (stored n a.at a.memory.now a.set.words _ (omega (arith, count, c.requires)) (search rules)
+    (ap₂ (λ (k : ℕ) (l : List ℕ). put_mid a.at k a.memory.now l) w c.copy_from_slice.ensures.after))

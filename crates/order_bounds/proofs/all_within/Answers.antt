@@ -1,34 +1,25 @@
 use mathlib.Core.Path.{sym, ◌∙◌}
 use native.Mathlib.Omega.{arith}
 use Rattle.names_width.specs.Widths.{limits}
-use Rattle.order_bounds.proofs.Laws.RowTests.{within_all, within_none, row_within, statement_out, name_out}
+use Rattle.order_bounds.proofs.Laws.RowTests.{within_all, within_none, within-cons}
 use Rattle.order_bounds.proofs.all_within.Goals as goal
 
-pub returns-then-n-statement_at : goal.returns-then-n-statement_at
-returns-then-n-statement_at c =
-    let loop = c.loop-k in
-    let start = c.args in
-    let w = limits start.width in
-    sym (statement_out w start.rows.now start.n loop.k (omega (arith, loop.invariant.0)) (omega (arith, c.statement_at.ensures))) ∙ loop.invariant.2
-    ∙ within_all w start.rows.now start.n
-
-pub returns-then-most-name_at : goal.returns-then-most-name_at
-returns-then-most-name_at c =
-    let loop = c.loop-k in
-    let start = c.args in
-    let w = limits start.width in
-    sym (name_out w start.rows.now start.n loop.k (omega (arith, loop.invariant.0)) (omega (arith, c.statement_at.ensures)) (omega (arith, c.name_at.ensures, loop.invariant.1)))
-    ∙ loop.invariant.2 ∙ within_all w start.rows.now start.n
+pub returns-then-not-is_within : goal.returns-then-not-is_within
+returns-then-not-is_within c =
+    let rows = c.args.rows in
+    let w = limits rows.width in
+    let step = within-cons w rows.words.now c.args.n c.loop-k.k (omega (arith, c.loop-k-test.true, c.len-k-end.ensures)) in
+    sym (rw (sym c.is_within.ensures, c.if-not-is_within.true) at step) ∙ c.loop-k.invariant ∙ within_all w rows.words.now c.args.n
 
 pub loop-k-preserved : goal.loop-k-preserved
 loop-k-preserved c =
-    let loop = c.loop-k in
-    let start = c.args in
-    (loop.invariant.0, loop.invariant.1, sym (row_within (limits start.width) start.rows.now start.n loop.k (omega (arith, loop.invariant.0)) (omega (arith, c.statement_at.ensures)) (omega (arith, c.name_at.ensures, loop.invariant.1))) ∙ loop.invariant.2)
+    let rows = c.args.rows in
+    let step = within-cons (limits rows.width) rows.words.now c.args.n c.loop-k.k (omega (arith, c.loop-k-test.true, c.len-k-end.ensures)) in
+    sym (rw (sym c.is_within.ensures, c.if-not-is_within.false) at step) ∙ c.loop-k.invariant
 
 pub returns : goal.returns
 returns c =
-    let loop = c.loop-k in
-    let start = c.args in
-    let w = limits start.width in
-    sym (within_none w start.rows.now start.n loop.k (omega (arith, loop.invariant.0))) ∙ loop.invariant.2 ∙ within_all w start.rows.now start.n
+    let rows = c.args.rows in
+    let w = limits rows.width in
+    sym (within_none w rows.words.now c.args.n c.loop-k.k (omega (arith, c.loop-k-test.false, c.len-k-end.ensures)))
+    ∙ c.loop-k.invariant ∙ within_all w rows.words.now c.args.n

@@ -16,33 +16,33 @@ use Rattle.order_place.proofs.Laws.StateLaws.{state_order_length, after-length}
 use Rattle.order_place.specs.declared.State.{State}
 
 -- Before a round: those that are left make `result`.
-pub record Placing (defs : List Definition) (n : ℕ) (result : List ℕ) (s : State) (order reached : List ℕ) : Type 0 where
-  pub holds : HoldsPlaced defs n s order reached
-  pub left : RoundsLeft defs n limits.per_name (order_of s order) result
+pub record Placing (defs : List Definition) (n : ℕ) (result : List ℕ) (s : State) : Type 0 where
+  pub holds : HoldsPlaced defs n s
+  pub left : RoundsLeft defs n limits.per_name (order_of s) result
 
-pub placing_first : {defs : List Definition} {n : ℕ} {s : State} {order reached : List ℕ}
-    → After defs n (turn_order defs n 0 []) s order reached → Placing defs n (placed_order defs n limits.per_name) s order reached
+pub placing_first : {defs : List Definition} {n : ℕ} {s : State}
+    → After defs n (turn_order defs n 0 []) s → Placing defs n (placed_order defs n limits.per_name) s
 placing_first {defs} {n} after = record { holds = after.holds; left = rw after.now_is (rounds-first defs n limits.per_name) }
 
-module _ {defs : List Definition} {n : ℕ} {result : List ℕ} {s : State} {order reached : List ℕ}
-    (placing : Placing defs n result s order reached) where
+module _ {defs : List Definition} {n : ℕ} {result : List ℕ} {s : State}
+    (placing : Placing defs n result s) where
   -- All n are placed: a further round would change nothing.
-  pub placing_full : n ≤ s.count → After defs n result s order reached
+  pub placing_full : n ≤ s.count → After defs n result s
   placing_full full =
-      let walked = round-walked defs n (range 0 limits.per_name) (order_of s order) in
-      let same : length (round_order defs n (range 0 limits.per_name) (order_of s order)) ≡ length (order_of s order) =
+      let walked = round-walked defs n (range 0 limits.per_name) (order_of s) in
+      let same : length (round_order defs n (range 0 limits.per_name) (order_of s)) ≡ length (order_of s) =
       omega (
         arith,
         state_order_length placing.holds,
         walked-length walked,
-        walked_adds_up walked placing.holds.written.adds_up,
+        walked_adds_up walked placing.holds.adds_up,
       ) in
       record { holds = placing.holds; now_is = sym (walked_same walked same) ∙ rounds-last defs n limits.per_name placing.left same }
 
-  module _ {s' : State} {order' reached' : List ℕ}
-      (round : After defs n (round_order defs n (range 0 limits.per_name) (order_of s order)) s' order' reached') where
+  module _ {s' : State}
+      (round : After defs n (round_order defs n (range 0 limits.per_name) (order_of s)) s') where
     -- A round placed nothing: it is the last.
-    pub placing_last : s'.count ≡ s.count → After defs n result s' order' reached'
+    pub placing_last : s'.count ≡ s.count → After defs n result s'
     placing_last e = record {
       holds = round.holds;
       now_is =
@@ -50,17 +50,17 @@ module _ {defs : List Definition} {n : ℕ} {result : List ℕ} {s : State} {ord
     }
 
     -- It placed something: there may be more, and fewer are left.
-    pub placing_next : (s'.count ≡ s.count → ⊥) → Placing defs n result s' order' reached'
+    pub placing_next : (s'.count ≡ s.count → ⊥) → Placing defs n result s'
     placing_next ne = record {
       holds = round.holds;
       left =
           rw round.now_is
-          (rounds-more defs n limits.per_name placing.left placing.holds.written.adds_up
+          (rounds-more defs n limits.per_name placing.left placing.holds.adds_up
           (λ e. ne (sym (after-length round) ∙ e ∙ state_order_length placing.holds)));
     }
 
     pub placing_less : (s'.count ≡ s.count → ⊥) → n - s'.count < n - s.count
     placing_less ne =
-        let grown = walked-length (round-walked defs n (range 0 limits.per_name) (order_of s order)) in
-        let fits = round.holds.written.adds_up in
+        let grown = walked-length (round-walked defs n (range 0 limits.per_name) (order_of s)) in
+        let fits = round.holds.adds_up in
         omega (arith, state_order_length placing.holds, after-length round, state_order_length round.holds)

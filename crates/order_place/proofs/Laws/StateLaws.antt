@@ -1,46 +1,36 @@
 -- The state: where it begins, and how long its order is.
 use mathlib.Core.Path.{◌≡◌, sym, ap, ◌∙◌}
 use mathlib.Core.List.{List, []}
-use Prim.Native.Nat.{ℕ, ◌≤◌}
+use Prim.Native.Nat.{ℕ}
 use native.Mathlib.Omega.{arith}
-use lib.ListN.{length, get_or, replicate, length-replicate}
+use lib.ListN.{length}
 use lib.Seq.{length-take-le}
 use Rattle.base.proofs.Laws.Truth.{not-both}
-use Rattle.names.specs.declared.statements.Statements.{Statements}
+use Rattle.base.specs.Limits as limits
 use Rattle.names.specs.Inner.Sets.{Empty}
-use Rattle.names.proofs.Laws.Words.{zeros-empty}
 use Rattle.order.proofs.Laws.Count.{nil_adds_up}
 use Rattle.order.specs.Definitions.{Definition}
-use Rattle.order_place.specs.Inner.State.{order_of, HoldsPlaced, Knows, After}
+use Rattle.order_place.specs.Inner.State.{order_of, HoldsPlaced, After}
 use Rattle.order_place.specs.declared.State.{State}
 
 -- Nothing is placed yet.
-pub begins : {n : ℕ} {order reached : List ℕ} (defs : List Definition) (none : Statements)
-    → Empty none.words → (n ≤ length order) × (n ≤ length reached) → ((i : ℕ) → get_or order i 0 ≡ 0) → ((i : ℕ) → get_or reached i 0 ≡ 0)
-    → HoldsPlaced defs n (record { placed = none; idle = none; count = 0 }) order reached
-begins {n} defs none empty room no_order no_marks = record {
-  written = record {
-    room = room.0;
-    marked = room.1;
-    filled = omega arith;
-    adds_up = nil_adds_up n;
-    marks = λ i h. no_marks i;
-    past = λ i h. no_order i;
-    beyond = λ i h. no_marks i;
-  };
-  taken = empty.has;
-  rests = λ i m. m;
-  idles = λ i m. absurd (not-both m (empty.has i));
-}
-
-pub knows-none : (defs : List Definition) → Knows defs (replicate 8 0) []
-knows-none defs = record { long = length-replicate {A = ℕ} 8 0; has = (zeros-empty 8).has }
+pub begins : (defs : List Definition) (n : ℕ) (s : State) → s.count ≡ 0 → length s.order ≡ limits.most_statements → Empty s.placed.words → Empty s.idle.words
+    → (length s.known.words ≡ 8) × Empty s.known.words → HoldsPlaced defs n s
+begins defs n s none long placed idle known =
+    let o : order_of s ≡ [] = rw none in
+    record {
+      long = long;
+      filled = omega arith;
+      adds_up = rw o (nil_adds_up n);
+      taken = λ i. rw o (placed.has i);
+      rests = λ i m. absurd (not-both m (placed.has i));
+      idles = λ i m. absurd (not-both m (idle.has i));
+      knows = record { long = known.0; has = λ x. rw o (known.1.has x) };
+    }
 
 -- The state counts the statements of its order.
-pub state_order_length : {defs : List Definition} {n : ℕ} {s : State} {order reached : List ℕ} → HoldsPlaced defs n s order reached
-    → length (order_of s order) ≡ s.count
-state_order_length {s = s} {order = order} h = length-take-le s.count order h.written.filled
+pub state_order_length : {defs : List Definition} {n : ℕ} {s : State} → HoldsPlaced defs n s → length (order_of s) ≡ s.count
+state_order_length {s = s} h = length-take-le s.count s.order (omega (arith, h.long, h.filled))
 
-pub after-length : {defs : List Definition} {n : ℕ} {o : List ℕ} {s : State} {order reached : List ℕ} → After defs n o s order reached
-    → length o ≡ s.count
+pub after-length : {defs : List Definition} {n : ℕ} {o : List ℕ} {s : State} → After defs n o s → length o ≡ s.count
 after-length after = sym (ap length after.now_is) ∙ state_order_length after.holds

@@ -18,8 +18,11 @@ use Rattle.order.proofs.Laws.Statements.{mem_statement, mem_some, defines-by}
 use Rattle.order.specs.Inner.Orders.{turn_order}
 use Rattle.order.specs.Call.{statement_at, definitions}
 use Rattle.order_rows.proofs.Laws.RowLaws.{listed-row}
-use Rattle.order_rows.specs.Inner.Masks.{mask_at}
-use Rattle.order_place.specs.Inner.State.{SoundRows, Indexed, NextTry, order_of, HoldsPlaced, Waiting, After}
+use Rattle.order_rows.specs.Inner.Masks.{mask_at, Masked}
+use Rattle.order_rows.proofs.Laws.DefinesLaws.{defines_in-all}
+use Rattle.names.specs.Inner.Names.{Statements}
+use Rattle.order_place.specs.Inner.Sound.{SoundRows}
+use Rattle.order_place.specs.Inner.State.{Untried, Untired, order_of, HoldsPlaced, Waiting, After}
 use Rattle.order_place.specs.declared.State.{State}
 
 -- A walk along the numbers from a up that pass a test may start at b, if none before b both passes and can be taken.
@@ -43,72 +46,67 @@ walk_skip ready gives n f o a b e h skipped = go (b - a) a (omega arith) (omega 
         ⊎_elim (λ (l : x < e). past x l (skipped x h (omega arith)) (bool_cases (f x)) ∙ go c (x + 1) (omega arith) (omega arith))
         (λ (l : e ≤ x). rw (range-nil x e l, range-nil b e (omega arith))) (lt_cases x e)
 
--- In a turn of the name x: i is the next statement to try, if it is below 128, and the walk along those from i up makes `result`.
-pub record Turning (defs : List Definition) (n x : ℕ) (result : List ℕ) (s : State) (order reached : List ℕ) (i : ℕ) : Type 0 where
-  pub holds : HoldsPlaced defs n s order reached
-  pub here : i < limits.most_statements → defines defs i x ≡ true
-  pub waits : i < limits.most_statements → Waiting defs n s i
-  pub left : walk (ready defs) (defines defs) n (order_of s order) (filter (λ j. defines defs j x) (range i n)) ≡ result
+-- In a turn of the name x, at the statements from a up: the walk along those that define it makes `result`.
+pub record Turning (defs : List Definition) (n x : ℕ) (result : List ℕ) (s : State) (a : ℕ) : Type 0 where
+  pub holds : HoldsPlaced defs n s
+  pub high : a ≤ limits.most_statements
+  pub left : walk (ready defs) (defines defs) n (order_of s) (filter (λ j. defines defs j x) (range a n)) ≡ result
 
--- A statement that defines a name and is not idle may be tried.
-is_waiting : {w : ℕ} {ws links : List ℕ} {n : ℕ} {s : State} {order reached : List ℕ} → SoundRows w ws links n → HoldsPlaced (definitions w ws) n s order reached
-    → (i x : ℕ) → defines (definitions w ws) i x ≡ true → member s.idle.words i ≡ false → Waiting (definitions w ws) n s i
-is_waiting {w} {ws} {s = s} sound h i x d active =
-    let by = defines-by (definitions w ws) i x d in
-    let row = listed-row w ws by.1.listed in
-    let is : statement_at w ws row.0 ≡ i = ap (λ (e : Definition). e.statement) row.2 ∙ by.1.statement in
-    record {
-      below = omega (arith, sound.stated row.0 row.1);
-      has = mem_some (of_statement i (definitions w ws)) (mem_statement i (definitions w ws) by.1.listed by.1.statement);
-      unplaced =
-          ⊎_elim (λ (p : member s.placed.words i ≡ true). absurd (not-both (h.rests i p) active))
-          (λ (p : member s.placed.words i ≡ false). p) (bool_cases (member s.placed.words i));
+pub turning_first : {defs : List Definition} {n : ℕ} (x : ℕ) {s : State} → HoldsPlaced defs n s → Turning defs n x (turn_order defs n x (order_of s)) s 0
+turning_first x h = record { holds = h; high = omega arith; left = refl }
+
+module _ {w : ℕ} {ws first next : List ℕ} {masks : List Statements} {names : List ℕ} {n : ℕ} (sound : SoundRows w ws first next n)
+    (masked : Masked w ws masks names) {x : ℕ} (named : x < limits.per_name) where
+  abbrev defs : List Definition
+  defs = definitions w ws
+
+  sets : (i : ℕ) → member (mask_at masks x) i ≡ defines defs i x
+  sets i = masked.masked x named i ∙ defines_in-all w ws i x
+
+  module _ {s : State} {result : List ℕ} {a : ℕ} (turn : Turning defs n x result s a) where
+    -- What is no untried member does not define the name, or is idle.
+    passed : (b : ℕ) → a ≤ b → Untried (mask_at masks x) s.idle.words a b
+        → walk (ready defs) (defines defs) n (order_of s) (filter (λ j. defines defs j x) (range b n)) ≡ result
+    passed b h none =
+        sym (walk_skip (ready defs) (defines defs) n (λ j. defines defs j x) (order_of s) a b n h
+        (λ j low high. skipped j (none j low high) (bool_cases (member s.idle.words j)))) ∙ turn.left
+      where
+        skipped : (j : ℕ) → (member (mask_at masks x) j && not (member s.idle.words j)) ≡ false
+            → (member s.idle.words j ≡ true) ⊎ (member s.idle.words j ≡ false)
+            → (defines defs j x && takeable (ready defs) (defines defs) n (order_of s) j) ≡ false
+        skipped j out (inl idle) = rw (turn.holds.idles j idle, and-false (defines defs j x))
+        skipped j out (inr active) = rw (sym (sets j) ∙ sym (and-true (member (mask_at masks x) j)) ∙ (rw active at out))
+
+    -- Past the last statement nothing is left.
+    pub turning_done : Untried (mask_at masks x) s.idle.words a limits.most_statements → After defs n result s
+    turning_done none = record {
+      holds = turn.holds;
+      now_is = rw (range-nil limits.most_statements n sound.few) at (passed limits.most_statements turn.high none);
     }
 
-module _ {w : ℕ} {ws links masks : List ℕ} {n x : ℕ} (indexed : Indexed w ws links masks n) (named : x < limits.per_name) where
-  -- What `next_try` passes over does not define the name, or is idle.
-  goes_to : {s : State} {order reached result : List ℕ} {a r : ℕ} → HoldsPlaced (definitions w ws) n s order reached
-      → NextTry (mask_at masks x) s.idle.words a r → a ≤ limits.most_statements
-      → walk (ready (definitions w ws)) (defines (definitions w ws)) n (order_of s order)
-      (filter (λ j. defines (definitions w ws) j x) (range a n))
-      ≡ result
-      → Turning (definitions w ws) n x result s order reached r
-  goes_to {s} {order} {a = a} {r = r} h next l left = record {
-    holds = h;
-    here = here;
-    waits = λ u. is_waiting indexed.sound h r x (here u) (not-true _ (and_right (member (mask_at masks x) r) _ (next.found u)));
-    left =
-        sym (walk_skip (ready defs) (defines defs) n (λ j. defines defs j x) (order_of s order) a r n (omega (arith, next.low))
-        (λ j low high. skipped j (next.gap j low high) (bool_cases (member s.idle.words j)))) ∙ left;
-  }
-    where
-      defs : List Definition
-      defs = definitions w ws
+    module _ {i : ℕ} (tried : Untired (mask_at masks x) s.idle.words a i) where
+      here : defines defs i x ≡ true
+      here = sym (sets i) ∙ and_left _ _ tried.found
 
-      here : r < limits.most_statements → defines defs r x ≡ true
-      here u = sym (indexed.sets x named r) ∙ and_left _ _ (next.found u)
+      -- A statement that defines a name and is not idle may be tried.
+      pub is_waiting : Waiting defs n s i
+      is_waiting =
+          let by = defines-by defs i x here in
+          let row = listed-row w ws by.1.listed in
+          let is : statement_at w ws row.0 ≡ i = ap (λ (e : Definition). e.statement) row.2 ∙ by.1.statement in
+          let active = not-true _ (and_right (member (mask_at masks x) i) _ tried.found) in
+          record {
+            below = omega (arith, sound.stated row.0 row.1);
+            has = mem_some (of_statement i defs) (mem_statement i defs by.1.listed by.1.statement);
+            unplaced =
+                ⊎_elim (λ (p : member s.placed.words i ≡ true). absurd (not-both (turn.holds.rests i p) active))
+                (λ (p : member s.placed.words i ≡ false). p) (bool_cases (member s.placed.words i));
+          }
 
-      skipped : (j : ℕ) → (member (mask_at masks x) j && not (member s.idle.words j)) ≡ false
-          → (member s.idle.words j ≡ true) ⊎ (member s.idle.words j ≡ false)
-          → (defines defs j x && takeable (ready defs) (defines defs) n (order_of s order) j) ≡ false
-      skipped j out (inl idle) = rw (h.idles j idle, and-false (defines defs j x))
-      skipped j out (inr active) = rw (sym (indexed.sets x named j) ∙ sym (and-true (member (mask_at masks x) j)) ∙ (rw active at out))
-
-  pub turning_first : {s : State} {order reached : List ℕ} {r : ℕ} → HoldsPlaced (definitions w ws) n s order reached
-      → NextTry (mask_at masks x) s.idle.words 0 r
-      → Turning (definitions w ws) n x (turn_order (definitions w ws) n x (order_of s order)) s order reached r
-  turning_first h next = goes_to h next (omega arith) refl
-
-  -- After the try of the statement at hand the turn goes on above it.
-  pub turning_next : {s s' : State} {order reached order' reached' result : List ℕ} {i r : ℕ}
-      → Turning (definitions w ws) n x result s order reached i → i < limits.most_statements
-      → After (definitions w ws) n (pick (ready (definitions w ws)) (defines (definitions w ws)) n (order_of s order) i) s' order' reached'
-      → NextTry (mask_at masks x) s'.idle.words (i + 1) r → Turning (definitions w ws) n x result s' order' reached' r
-  turning_next {i = i} turn l after next =
-      goes_to after.holds next (omega arith)
-      (rw after.now_is (rw (range_cons i n (turn.waits l).below, turn.here l) at turn.left))
-
--- Past the last statement nothing is left.
-pub turning_done : {defs : List Definition} {n x i : ℕ} {s : State} {order reached result : List ℕ}
-    → Turning defs n x result s order reached i → n ≤ i → After defs n result s order reached
-turning_done {n = n} {i = i} turn h = record { holds = turn.holds; now_is = rw (range-nil i n h) at turn.left }
+      -- After its try the turn goes on above it.
+      pub turning_next : {s' : State} → After defs n (pick (ready defs) (defines defs) n (order_of s) i) s' → Turning defs n x result s' (i + 1)
+      turning_next after = record {
+        holds = after.holds;
+        high = omega (arith, is_waiting.below, sound.few);
+        left = rw after.now_is (rw (range_cons i n is_waiting.below, here) at (passed i tried.low tried.gap));
+      }

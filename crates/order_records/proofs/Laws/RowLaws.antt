@@ -11,7 +11,10 @@ use Rattle.base.specs.Sets.{words_at}
 use Rattle.order.specs.Call.{row_count, definition_at, definitions}
 use Rattle.order_records.specs.declared.Definition.{Definition}
 use Rattle.order_records.specs.Records.{row_of_record, rows_of_records, definition_of}
-use Rattle.order_records.proofs.Laws.Copies.{no_record}
+
+-- What a proof reads past the end of a list of records.
+abbrev pub no_record : Definition
+no_record = record { statement = 0; name = 0; used = [] }
 
 pub records_rows_length : (ds : List Definition) → length (rows_of_records ds) ≡ 10 * length ds
 records_rows_length [] = refl

@@ -6,9 +6,5 @@ use Rattle.order_records.proofs.rows_of.Goals as goal
 
 pub loop-i-preserved : goal.loop-i-preserved
 loop-i-preserved c =
-    let a = c.args in
-    let put = c.put_row.ensures in (
-      search rules,
-      put.long ∙ c.loop-i.invariant.1,
-      rows_next a.all c.loop-i.words _ c.loop-i.i (search rules) put c.loop-i.invariant.2,
-    )
+    let put = c.put_row.ensures in
+    (put.long ∙ c.loop-i.invariant.0, rows_next c.args.records.now c.loop-i.words _ c.loop-i.i (search rules) put c.loop-i.invariant.1)

@@ -1,6 +1,6 @@
 -- What holds at the test of the loop of `pass`, of the names seen: none is lost, and the flag says whether one is new.
 use mathlib.Core.Path.{◌≡◌, refl, sym, ap, ◌∙◌}
-use mathlib.Core.Bool.{Bool, true, false, not, ◌||◌}
+use mathlib.Core.Bool.{Bool, true, false, ◌||◌}
 use mathlib.Core.List.{List}
 use mathlib.Core.Logic.{◌⊎◌, inl, inr, ⊎_elim}
 use Prim.Native.Nat.{ℕ}
@@ -12,7 +12,7 @@ use Rattle.base.proofs.Laws.Subsets.{◌⊆◌}
 use Rattle.base.specs.Sets.{member, members}
 use Rattle.names.specs.Inner.Sets.{Inserted}
 use Rattle.names.proofs.Laws.Laws.{all-members, members-all, inserted_keeps}
-use Rattle.order_resolve.specs.Inner.Pass.{GrowsSeen}
+use Rattle.order_resolve.specs.Inner.Pass.{grows}
 
 pub record Growing (start seen : List ℕ) (grew : Bool) : Type 0 where
   pub up : member start ⊆ member seen
@@ -42,11 +42,11 @@ module _ {start seen : List ℕ} {grew : Bool} (g : Growing start seen grew) whe
       absent =
           ⊎_elim (λ (h : member start x ≡ true). absurd (not-both (g.up x h) fresh)) (λ (h : member start x ≡ false). h) (bool_cases (member start x))
 
-  pub growing_end : GrowsSeen start seen grew
-  growing_end = record { fresh = go (bool_cases grew) (bool_cases (all (member start) (members seen))) }
+  pub growing_end : grew ≡ grows start seen
+  growing_end = go (bool_cases grew) (bool_cases (all (member start) (members seen)))
     where
       go : (grew ≡ true) ⊎ (grew ≡ false) → (all (member start) (members seen) ≡ true) ⊎ (all (member start) (members seen) ≡ false)
-          → grew ≡ not (all (member start) (members seen))
+          → grew ≡ grows start seen
       go (inl e) (inl a) = let n = g.new e in absurd (not-both (all-members (member start) seen a n.0 n.1) n.2)
       go (inl e) (inr a) = rw (e, a)
       go (inr e) (inl a) = rw (e, a)

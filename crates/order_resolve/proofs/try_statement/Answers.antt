@@ -1,27 +1,19 @@
-use mathlib.Core.Path.{sym, ◌∙◌}
+use mathlib.Core.Path.{refl}
 use native.Mathlib.Omega.{arith}
-use borrow.Author.Tests.{not-true, not-false}
-use Rattle.order_resolve.proofs.Laws.Trying.{trying_next, trying_less, trying_resolved, trying_fails}
+use Rattle.order_resolve.proofs.Laws.Trying.{trying_first, trying_next, trying_less, trying_resolved, trying_fails}
 use Rattle.order_resolve.proofs.try_statement.Goals as goal
 
-pub returns-then-not-p : goal.returns-then-not-p
-returns-then-not-p c =
-    (c.pass-p.ensures.0, trying_resolved _ _ _ _ c.loop-width.invariant.2 c.pass-p.ensures.1 (not-true _ c.if-not-p.true))
+pub loop-seen-init : goal.loop-seen-init
+loop-seen-init c = (refl, c.requires.known_len, trying_first _ _ _ _)
 
-pub returns-then-not-p-2 : goal.returns-then-not-p-2
-returns-then-not-p-2 c =
-    rw c.loop-width.invariant.1 (
-      c.requires.known_len,
-      trying_fails _ _ _ _ c.loop-width.invariant.2 c.pass-p.ensures.1 (not-false _ c.if-not-p.false)
-          (not-false _ (sym c.pass-p.ensures.2.fresh ∙ not-true _ c.if-not-p-2.true)),
-    )
+pub returns-in-Resolved : goal.returns-in-Resolved
+returns-in-Resolved c = (c.pass.ensures.0, trying_resolved _ _ _ _ c.loop-seen.invariant.2 c.pass.ensures.1 c.in-Resolved.is)
 
-pub loop-width-smaller : goal.loop-width-smaller
-loop-width-smaller c =
-    trying_less _ _ _ _ c.loop-width.invariant.2 c.pass-p.ensures.1 (omega (arith, c.pass-p.ensures.0))
-    (not-true _ (sym c.pass-p.ensures.2.fresh ∙ not-false _ c.if-not-p-2.false))
+pub loop-seen-smaller : goal.loop-seen-smaller
+loop-seen-smaller c = trying_less _ _ _ _ c.loop-seen.invariant.2 c.pass.ensures.1 (omega (arith, c.pass.ensures.0)) c.in-Grew.is
 
-pub loop-width-preserved : goal.loop-width-preserved
-loop-width-preserved c =
-    let loop = c.loop-width in
-    (c.pass-p.ensures.0, loop.invariant.1, trying_next _ _ _ _ loop.invariant.2 c.pass-p.ensures.1)
+pub loop-seen-preserved : goal.loop-seen-preserved
+loop-seen-preserved c = (c.loop-seen.invariant.0, c.loop-seen.invariant.1, trying_next _ _ _ _ c.loop-seen.invariant.2 c.pass.ensures.1)
+
+pub returns-in-Stuck : goal.returns-in-Stuck
+returns-in-Stuck c = rw c.loop-seen.invariant.0 (rw c.loop-seen.invariant.0 at c.loop-seen.invariant.1, trying_fails _ _ _ _ c.loop-seen.invariant.2 c.pass.ensures.1 c.in-Stuck.is)

@@ -8,9 +8,9 @@ use Rattle.names_width.specs.Inner.Widths.{row_words}
 use Rattle.order_resolve.proofs.Laws.Trying.{Trying}
 use Rattle.order_resolve.proofs.try_statement.Given as goal
 
-abbrev pub invariant-loop-width : goal.invariant-loop-width
-invariant-loop-width l =
-    (length l.seen ≡ 8) × (l.known ≡ l.initial.known) × Trying (row_words l.width) l.rows l.statement l.initial.known l.seen
+abbrev pub invariant-loop-seen : goal.invariant-loop-seen
+invariant-loop-seen l =
+    (l.known ≡ l.initial.known) × (length l.known.words ≡ 8) × Trying (row_words l.rows.width) l.rows.words.now l.statement l.initial.known.words l.seen.words
 
-abbrev pub decreases-loop-width : goal.decreases-loop-width
-decreases-loop-width l = missing 512 (member l.seen)
+abbrev pub decreases-loop-seen : goal.decreases-loop-seen
+decreases-loop-seen l = missing 512 (member l.seen.words)

@@ -5,6 +5,8 @@ use Rattle.base.specs.Sets.{member, members}
 use Rattle.order.specs.Definitions.{Definition, of_statement, resolves, defines}
 use Rattle.order.specs.Call.{row_count, definitions}
 use Rattle.order_rows.specs.Inner.Links.{chain_of}
+use Rattle.order_resolve.specs.declared.Passed.{Passed}
+use Rattle.order_resolve.specs.declared.Passed.TheVariants.{Resolved, Grew, Stuck}
 
 -- The set after one definition.
 abbrev pub gain : (ℕ → Bool) → Definition → ℕ → Bool
@@ -20,14 +22,18 @@ abbrev pub waits : List Definition → (ℕ → Bool) → Bool
 waits [] S = false
 waits (d ∷ rest) S = not (all S d.used) || waits rest (gain S d)
 
--- What `pass` answers for the definitions of statement s.
-pub record Passes (w : ℕ) (ws : List ℕ) (s : ℕ) (start seen : List ℕ) (waiting : Bool) : Type 0 where
-  pub gathered : (x : ℕ) → member seen x ≡ gather (chain_of w ws s (row_count w ws)) (member start) x
-  pub waited : waiting ≡ waits (chain_of w ws s (row_count w ws)) (member start)
-
 -- Has `seen` a member that `start` lacks?
-pub record GrowsSeen (start seen : List ℕ) (grew : Bool) : Type 0 where
-  pub fresh : grew ≡ not (all (member start) (members seen))
+abbrev pub grows : List ℕ → List ℕ → Bool
+grows start seen = not (all (member start) (members seen))
+
+-- What a pass comes to, by whether a definition waits and whether there is a name more than before.
+abbrev pub pass_of : Bool → Bool → Passed
+pass_of waiting grew = cond waiting (cond grew Grew Stuck) Resolved
+
+-- What `pass` answers for the definitions of statement s, and the set that it leaves.
+pub record Passes (w : ℕ) (ws : List ℕ) (s : ℕ) (start seen : List ℕ) (p : Passed) : Type 0 where
+  pub gathered : (x : ℕ) → member seen x ≡ gather (chain_of w ws s (row_count w ws)) (member start) x
+  pub came-to : p ≡ pass_of (waits (chain_of w ws s (row_count w ws)) (member start)) (grows start seen)
 
 -- What `try_statement` answers: do the definitions of statement s resolve from the names known; if so, what is known then, and if not, the same.
 pub record Tries (w : ℕ) (ws : List ℕ) (s : ℕ) (known : List ℕ) (resolved : Bool) (after : List ℕ) : Type 0 where

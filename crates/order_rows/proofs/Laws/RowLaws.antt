@@ -8,10 +8,12 @@ use native.Mathlib.Omega.{arith}
 use Rattle.base.specs.Lists.{counted, range}
 use Rattle.base.proofs.Laws.Ranges.{elem-range}
 use Rattle.base.proofs.Laws.Members.{elem_mem}
-use lib.ListN.{get_or}
-use Rattle.names_width.proofs.Laws.Laws.{words_same}
+use lib.ListN.{length, get_or}
+use Rattle.names_width.proofs.Laws.Laws.{words_same, words-length, row_words_lem}
+use Rattle.names_width.specs.Inner.Widths.{set_words, row_words}
+use Rattle.names_width.specs.declared.Width.{Width}
 use Rattle.order.specs.Definitions.{Definition}
-use Rattle.order.specs.Call.{row_count, definition_at, definitions}
+use Rattle.order.specs.Call.{row_count, used_words_at, definition_at, definitions}
 
 counted-below : {n : ℕ} (a c : ℕ) → Memᴰ n (counted a c) → n < a + c
 counted-below a zero m = absurd (Memᴰ.not-nil m)
@@ -42,3 +44,7 @@ row_same v two ws rs k h =
       h (v * k + 1) (omega arith) (omega arith),
       words_same (v - 2) ws rs (v * k + 2) (λ i a b. h i (omega arith) (omega arith)),
     )
+
+-- The used names of a row have as many words as a set of the width.
+pub used-whole : (v : Width) (ws : List ℕ) (k : ℕ) → 64 * length (used_words_at (row_words v) ws k) ≡ 64 * set_words v
+used-whole v ws k = omega (arith, words-length (row_words v - 2) ws (row_words v * k + 2), row_words_lem v)

@@ -1,11 +1,16 @@
 -- What the scheduler's call comes to, and what it leaves in the lent buffers: functions of what was lent.
-use Rattle.std.specs.Prelude.{◌≡◌, Bool, List, ◌++◌, map, ℕ, ◌-◌, replicate}
+use Rattle.std.specs.Prelude.{◌≡◌, Bool, List, ◌++◌, map, ℕ, ◌-◌, length, get_or, replicate}
 use Rattle.base.specs.Limits as limits
 use Rattle.base.specs.Limits.{Limits}
 use Rattle.base.specs.Lists.{range}
+use Rattle.base.specs.Sets.{member}
 use Rattle.order.specs.Turns.{placed, order, reached, mark}
-use Rattle.order.specs.Call.{definitions, schedule_outcome, order_buffer, reached_buffer}
-use Rattle.order.specs.declared.Outcome.{Outcome}
+use Rattle.order.specs.Call.{ScheduleOutcome, definitions, schedule_outcome, order_buffer, reached_buffer}
+
+-- A buffer as long as before, with a mark for each member of a set, and zeros.
+pub record MarkedBy (placed before after : List ℕ) : Type 0 where
+  pub long : length after ≡ length before
+  pub marks : (i : ℕ) → get_or after i 0 ≡ mark (member placed i)
 
 -- Rows `ws` of definitions, n statements, and buffers of lengths `room` and `marks`; names below 512.
 module _ (lim : Limits) (ws : List ℕ) (n room marks : ℕ) where
@@ -16,7 +21,7 @@ module _ (lim : Limits) (ws : List ℕ) (n room marks : ℕ) where
     pub marked : reached' ≡ map (λ i. mark (reached (definitions lim.row ws) n limits.per_name i)) (range 0 n) ++ replicate (marks - n) 0
 
   -- All that the call leaves.
-  pub record Scheduled (r : Outcome) (order' reached' : List ℕ) : Type 0 where
+  pub record Scheduled (r : ScheduleOutcome) (order' reached' : List ℕ) : Type 0 where
     pub came-to : r ≡ (schedule_outcome lim ws n room marks)
     pub ordered : order' ≡ (order_buffer lim ws n room marks)
     pub marked : reached' ≡ (reached_buffer lim ws n room marks)

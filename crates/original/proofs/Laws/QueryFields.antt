@@ -7,13 +7,16 @@ use mathlib.Core.Logic.{◌⊎◌, inl, inr, ⊎_elim}
 use Prim.Native.Nat.{ℕ, suc, ◌+◌, ◌-◌, ◌≤◌}
 use native.Mathlib.Omega.{arith}
 use borrow.Author.Tests.{not-true}
+use Rattle.sheet.proofs.Laws.FieldSections.{is_section}
+use Rattle.sheet.specs.declared.fields.Section.{Section}
+use Rattle.std.specs.Prelude.{Option}
 use Rattle.base.proofs.Laws.Truth.{bool_cases, not-both, or_cases}
 use Rattle.base.specs.Lists.{all, range}
 use Rattle.base.proofs.Laws.Lists.{all-elem}
 use Rattle.base.proofs.Laws.Ranges.{elem-range}
 use Rattle.sheet.specs.declared.Counts.{Counts}
 use Rattle.sheet.specs.Inner.Records.{expr_at, statement_row_at}
-use Rattle.sheet.specs.declared.Field.{Field}
+use Rattle.sheet.specs.declared.fields.Field.{Field}
 use Rattle.sheet.specs.Fields.{limit_of, kinds, kind_of, forms, form_of}
 use Rattle.sheet_fields.proofs.Laws.Tables.{HoldsQuery, holds_query, holds-query}
 use Rattle.sheet.specs.Naming.{Entry, statement_row, expr_row, row_in, expr_entry, statement_entry, expr_entries, statement_entries, entry_naming}
@@ -35,7 +38,7 @@ kind_test kind = not (compr_kind kind) || holds_query (kind_of kind).third
 
 -- So it is of every kind.
 kinds-pass : all kind_test (range 0 23) ≡ true
-unfolding kind_test range kind_of kinds
+unfolding kind_test range is_section kind_of kinds
 kinds-pass = refl
 
 -- A comprehension's third field holds a query.
@@ -69,9 +72,9 @@ module _ (c : Counts) (g : ℕ → ℕ) where
         let e : Entry = record { field = f; value = v; place = place } in
         let low = fine.is_set h.1 in
         let more = (fine.nests low h.0).not_first in
-        let high : v ≤ c.queries = subst (λ (i : ℕ). v ≤ limit_of c i) h.0 fine.in_range in
+        let high : v ≤ c.queries = subst (λ (i : Option Section). v ≤ limit_of c i) h.0 fine.in_range in
         let next : v ≡ suc (v - 1) = omega arith in
-        let to : target_of c e ≡ 1 + (v - 1) = target_row c k e low fine.in_range ∙ ap (λ (i : ℕ). row_in i v) h.0 ∙ omega arith in
+        let to : target_of c e ≡ 1 + (v - 1) = target_row c k e low fine.in_range ∙ ap (λ (i : Option Section). row_in i v) h.0 ∙ omega arith in
         omega (
           arith,
           entry_worth c query_value k e (1 + (v - 1)) to (omega arith),

@@ -16,9 +16,9 @@ use Rattle.base.specs.Lists.{all, concat_map}
 use Rattle.sheet.specs.Text.{bytes}
 use Rattle.answer.specs.Text.{digits, row_line, section, answer_text}
 use Rattle.sheet.specs.Sheet.{Sheet, sheet_in}
-use Rattle.sheet.specs.declared.Outcome.{Outcome}
-use Rattle.sheet.specs.declared.Outcome.TheVariants.{Read, NoRoom, TooLong, BadForm, BadName, BadCount, BadField}
-use Rattle.sheet.specs.Verdict.{verdict}
+use Rattle.std.specs.Prelude.{Ok, Err}
+use Rattle.sheet.specs.declared.Refusal.TheVariants.{NoRoom, TooLong, BadForm, BadName, BadCount, BadField}
+use Rattle.sheet.specs.Verdict.{Outcome, verdict}
 use Rattle.definition.specs.States.{Fault, sound, undefined, used_before, lengths, index_variable, Run, QuerySchedule}
 use Rattle.definition.specs.RustWay.{analyze_query_snippet}
 use Rattle.answer.specs.Call.{Result, refused, answered, fitting, finished, analysed, after_reading, result_of}
@@ -91,13 +91,13 @@ unfolding analysed
 analysed_told sheet room = finished_told _ room (analyze_query_snippet sheet) (analyze_query_snippet sheet).fault
 
 after_told : (s : List ℕ) (room : ℕ) (r : Outcome) → Told (after_reading s room r)
-after_told s room Read = analysed_told (sheet_in s) room
-after_told s room NoRoom = omega arith
-after_told s room TooLong = omega arith
-after_told s room (BadForm l) = omega arith
-after_told s room (BadName l) = omega arith
-after_told s room (BadCount l) = omega arith
-after_told s room (BadField l) = omega arith
+after_told s room (Ok x) = analysed_told (sheet_in s) room
+after_told s room (Err NoRoom) = omega arith
+after_told s room (Err TooLong) = omega arith
+after_told s room (Err (BadForm l)) = omega arith
+after_told s room (Err (BadName l)) = omega arith
+after_told s room (Err (BadCount l)) = omega arith
+after_told s room (Err (BadField l)) = omega arith
 
 pub result_told : (lim : Limits) (s : List ℕ) (tables work room : ℕ) → Told (result_of lim s tables work room)
 unfolding result_of

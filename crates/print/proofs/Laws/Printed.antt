@@ -14,7 +14,10 @@ use Rattle.base.proofs.Laws.Truth.{bool_cases, lt_cases, and_left, and_right}
 use Rattle.sheet.specs.Text.{newline, bytes}
 use Rattle.answer.specs.Text.{digits, row_line, section, refusal_text}
 use Rattle.answer_write.specs.Inner.Writes.{Puts}
-use Rattle.answer_write.proofs.Laws.Writes.{puts_then, starts, fits_whole}
+use Rattle.answer_write.specs.declared.Text.{Text}
+use Rattle.answer_write.specs.Inner.Texts.{Extends}
+use Rattle.answer_write.proofs.Laws.Texts.{extends_then}
+use Rattle.answer_write.proofs.Laws.Writes.{starts, fits_whole}
 use Rattle.io.specs.Counts.{IsPrefixLen}
 use Rattle.answer.specs.Call.{Result, refused, answered, result_of, Left, left_by, left, printed}
 use Rattle.call.specs.declared.replies.Reply.{Reply}
@@ -90,17 +93,19 @@ refusal-length n l c =
     let row = row_line (n ∷ l ∷ c ∷ []) in
     omega (arith, row-length n l c, length-append (row ++ []) (10 ∷ []), length-append row [])
 
--- The heading, the row and an empty line.
-pub put_refusal : (b : List ℕ) (n l k : ℕ) (c : List ℕ) (r : ℕ) (d : List ℕ) (s : ℕ) (e : List ℕ) (q : ℕ)
-    → Puts b 0 (bytes "refusal line col" ++ (newline ∷ [])) c r → Puts c r (row_line (n ∷ l ∷ k ∷ [])) d s → Puts d s (newline ∷ []) e q
-    → Puts b 0 (refusal_text n l k) e q
+-- The heading, the row and an empty line, in a text that is empty yet.
+pub put_refusal : (b : List ℕ) (n l k : ℕ) (t u v w : Text) → t.bytes.now ≡ b → t.end ≡ 0 → Extends t (bytes "refusal line col" ++ (newline ∷ [])) u
+    → Extends u (row_line (n ∷ l ∷ k ∷ [])) v → Extends v (newline ∷ []) w → Puts b 0 (refusal_text n l k) w.bytes.now w.end
 unfolding refusal_text section
-put_refusal b n l k c r d s e q heading row last =
+put_refusal b n l k t u v w is start heading row last =
     let h = bytes "refusal line col" in
     let m = row_line (n ∷ l ∷ k ∷ []) in
-    subst (λ (x : List ℕ). Puts b 0 x e q)
+    let all = extends_then t (h ++ (newline ∷ [])) u (m ++ (newline ∷ [])) w heading (extends_then u m v (newline ∷ []) w row last) in
+    subst (λ (x : List ℕ). Puts x 0 (refusal_text n l k) w.bytes.now w.end) is
+    (subst (λ (i : ℕ). Puts t.bytes.now i (refusal_text n l k) w.bytes.now w.end) start
+    (subst (λ (x : List ℕ). Puts t.bytes.now t.end x w.bytes.now w.end)
     (append_assoc h (newline ∷ []) (m ++ (newline ∷ [])) ∙ ap (λ (x : List ℕ). h ++ (newline ∷ (x ++ (newline ∷ [])))) (sym (append-nil m)))
-    (puts_then b 0 (h ++ (newline ∷ [])) c r (m ++ (newline ∷ [])) e q heading (puts_then c r m d s (newline ∷ []) e q row last))
+    all.puts))
 
 shows_refusal : (room n l c : ℕ) → 64 ≤ room → (b : List ℕ) (r : ℕ) → Puts (replicate room 0) 0 (refusal_text n l c) b r
     → Shows b r (refusal_text n l c)

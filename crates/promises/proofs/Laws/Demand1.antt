@@ -3,16 +3,13 @@ use mathlib.Core.Path.{◌≡◌, refl, sym, ap, ◌∙◌, subst}
 use mathlib.Core.List.{List}
 use Prim.Native.Nat.{ℕ, ◌≤◌}
 use native.Mathlib.Omega.{arith}
-use lib.ListN.{replicate}
 use Rattle.base.specs.Limits.{Limits}
-use Rattle.base.specs.Refusals as refusals
 use Rattle.names_width.specs.declared.Width.{Width}
 use Rattle.names_width.specs.Widths.{limits}
 use Rattle.order.specs.Call.{refusal}
-use Rattle.sheet.specs.declared.Outcome.{Outcome}
-use Rattle.sheet.specs.declared.Outcome.TheVariants.{Read, NoRoom, TooLong, BadForm, BadName, BadCount, BadField}
+use Rattle.std.specs.Prelude.{Ok, Err}
 use Rattle.sheet.specs.Verdict as read
-use Rattle.sheet.specs.Verdict.{left_tables, verdict}
+use Rattle.sheet.specs.Verdict.{Outcome, left_tables, verdict}
 use Rattle.sheet_read.proofs.Laws.LineBounds.{line-fits}
 use Rattle.answer.specs.Call.{Result, refused, answered, left_by, left, result_of}
 use Rattle.nokchbem.specs.Calls.{AnalyzeCall, ReadCall}
@@ -61,14 +58,8 @@ module _ (v : Width) {s : List ℕ} {tables work r : ℕ} {t w : List ℕ} (call
           (subst (λ (n : ℕ). Parts n (read.number (verdict (limits v) s tables work)) (read.fault_line (verdict (limits v) s tables work)) 0) (sym call.returned)
           (parts (read.number (verdict (limits v) s tables work)) (read.fault_line (verdict (limits v) s tables work)) 0 (line-fits v s tables work) (omega arith)))
 
-      refused-at : (o : Outcome) (n l : ℕ) → verdict (limits v) s tables work ≡ o → Parts r n l 0 → Outcomes 0 (refused n l 0) → left_tables s tables o ≡ replicate tables 0 → (HasRead v call)
-      refused-at o n l e p q z = refuses n l p (position_of q) (call.tabled ∙ ap (left_tables s tables) e ∙ z) call.worked
-
       go : (o : Outcome) → verdict (limits v) s tables work ≡ o → (HasRead v call)
-      go Read e = succeeds (call.returned ∙ rw e) e (call.tabled ∙ rw e) call.worked
-      go NoRoom e = refused-at NoRoom refusals.no_room 0 e (at NoRoom e) (rw e at (outcomes (limits v) s tables work 0)) refl
-      go TooLong e = refused-at TooLong refusals.too_long 0 e (at TooLong e) (rw e at (outcomes (limits v) s tables work 0)) refl
-      go (BadForm l) e = refused-at (BadForm l) refusals.bad_form l e (at (BadForm l) e) (rw e at (outcomes (limits v) s tables work 0)) refl
-      go (BadName l) e = refused-at (BadName l) refusals.bad_name l e (at (BadName l) e) (rw e at (outcomes (limits v) s tables work 0)) refl
-      go (BadCount l) e = refused-at (BadCount l) refusals.bad_count l e (at (BadCount l) e) (rw e at (outcomes (limits v) s tables work 0)) refl
-      go (BadField l) e = refused-at (BadField l) refusals.bad_field l e (at (BadField l) e) (rw e at (outcomes (limits v) s tables work 0)) refl
+      go (Ok x) e = succeeds (call.returned ∙ rw e) e (call.tabled ∙ rw e) call.worked
+      go (Err f) e =
+          refuses (read.refusal_number f) (read.refusal_line f) (at (Err f) e) (position_of (rw e at (outcomes (limits v) s tables work 0)))
+          (call.tabled ∙ ap (left_tables s tables) e) call.worked

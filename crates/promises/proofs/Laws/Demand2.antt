@@ -15,7 +15,7 @@ use Rattle.base.specs.Lists.{elem}
 use Rattle.base.proofs.Laws.Truth.{and_intro, and_left, and_right, not-both}
 use Rattle.sheet.specs.Questions.{short_enough, form_fault, names_fault, counts_fault}
 use Rattle.sheet.specs.Sheet.{sheet_in}
-use Rattle.sheet.specs.declared.Outcome.TheVariants.{Read}
+use Rattle.std.specs.Prelude.{Ok}
 use Rattle.sheet.specs.Verdict.{fields_fault, asked, left_tables, verdict}
 use Rattle.definition.specs.States.{Fault, sound, undefined, used_before, lengths, index_variable}
 use Rattle.definition.specs.RustWay.{analyze_query_snippet}
@@ -95,7 +95,7 @@ module _ {lim : Limits} {s : List ℕ} {tables work room r : ℕ} {t w a : List 
       (asked-in_turn lim s tables work room ∙ yes-text (questions lim s tables work room) (text s) (analyze-accepts.0 z))
 
   -- And the sheet is one that is read, and that the walk finishes without an error.
-  pub analyze-reads : r ≡ 0 → (verdict lim s tables work ≡ Read) × ((analyze_query_snippet (sheet_in s)).fault ≡ sound)
+  pub analyze-reads : r ≡ 0 → (verdict lim s tables work ≡ Ok tt) × ((analyze_query_snippet (sheet_in s)).fault ≡ sound)
   unfolding verdict asked
   analyze-reads z =
       let h1 = analyze-accepts.0 z in
@@ -123,9 +123,9 @@ module _ (v : Width) {s : List ℕ} {tables work r : ℕ} {t w : List ℕ} (call
   pub read_leaves : (r ≡ read_number (verdict (limits v) s tables work)) × (t ≡ left_tables s tables (verdict (limits v) s tables work)) × (w ≡ replicate work 0)
   read_leaves = (call.returned, call.tabled, call.worked)
 
-  pub read_accepts : (r ≡ 0) ↔ (verdict (limits v) s tables work ≡ Read)
+  pub read_accepts : (r ≡ 0) ↔ (verdict (limits v) s tables work ≡ Ok tt)
   read_accepts = (λ z. accepted z (read_refuses_or_succeeds v call), λ e. call.returned ∙ rw e)
     where
-      accepted : r ≡ 0 → one.HasRead v call → verdict (limits v) s tables work ≡ Read
+      accepted : r ≡ 0 → one.HasRead v call → verdict (limits v) s tables work ≡ Ok tt
       accepted z (one.succeeds rz is tz wz) = is
       accepted z (one.refuses n l p at tz wz) = absurd (some_number at (sym p.the_number ∙ ap number_in z))

@@ -9,7 +9,7 @@ use Rattle.names_width.specs.declared.Width.{Width}
 use Rattle.names_width.specs.Widths.{limits}
 use Rattle.base.specs.Limits.{nesting}
 use Rattle.sheet.specs.Sheet.{sheet_in}
-use Rattle.sheet.specs.declared.Outcome.TheVariants.{Read}
+use Rattle.std.specs.Prelude.{Ok}
 use Rattle.sheet.specs.Verdict.{verdict}
 use Rattle.definition.specs.States.{Fault, sound, undefined, used_before, lengths, index_variable, Run}
 use Rattle.definition.specs.RustWay.{analyze_query_snippet}
@@ -31,7 +31,7 @@ alike_finished n room r o (stopped e h) = ap (finished n room o) (sym e) ∙ sto
 alike_finished n room r o (same s e) = ap (λ (x : Run). finished n room x x.fault) (sym e)
 
 -- Of every sheet that is read: with more levels, the answer's text and the fault are the same.
-module _ (v : Width) (s : List ℕ) (tables work : ℕ) (read : verdict (limits v) s tables work ≡ Read) (more : ℕ) where
+module _ (v : Width) (s : List ℕ) (tables work : ℕ) (read : verdict (limits v) s tables work ≡ Ok tt) (more : ℕ) where
   pub levels_suffice : (room : ℕ) → analysed_to (nesting + more) (sheet_in s) room ≡ analysed (sheet_in s) room
   unfolding analysed analyze_query_snippet
   levels_suffice room = alike_finished (length (sheet_in s).queries) room _ _ (levels_alike v s tables work read more)

@@ -9,7 +9,8 @@ use Rattle.base.specs.Limits as limits
 use Rattle.base.specs.Limits.{Limits}
 use Rattle.base.specs.Refusals as refusals
 use Rattle.sheet.specs.Questions.{short_enough, form_fault, names_fault, counts_fault}
-use Rattle.sheet.specs.declared.Outcome.TheVariants.{Read, NoRoom, TooLong, BadForm, BadName, BadCount, BadField}
+use Rattle.std.specs.Prelude.{Ok, Err}
+use Rattle.sheet.specs.declared.Refusal.TheVariants.{NoRoom, TooLong, BadForm, BadName, BadCount, BadField}
 use Rattle.sheet.specs.Verdict.{fields_fault, asked, verdict}
 use Rattle.sheet.specs.Sheet.{sheet_in}
 use Rattle.definition.specs.States.{Fault, sound, undefined, used_before, lengths, index_variable}
@@ -38,8 +39,8 @@ module _ (lim : Limits) (s : List ℕ) (tables work room : ℕ) where
     where
       go : (a b c d e f : Bool)
           → after_reading s room
-          (cond a (cond b (cond c (cond d (cond e (cond f Read (BadField (fields_fault s))) (BadCount (counts_fault lim s))) (BadName (names_fault s))) (BadForm (form_fault s))) TooLong)
-          NoRoom)
+          (cond a (cond b (cond c (cond d (cond e (cond f (Ok tt) (Err (BadField (fields_fault s)))) (Err (BadCount (counts_fault lim s)))) (Err (BadName (names_fault s)))) (Err (BadForm (form_fault s)))) (Err TooLong))
+          (Err NoRoom))
           ≡ first_no
           (ask a refusals.no_room 0 0 ∷ ask b refusals.too_long 0 0 ∷ ask c refusals.bad_form (form_fault s) 0 ∷ ask d refusals.bad_name (names_fault s) 0 ∷ ask e refusals.bad_count (counts_fault lim s) 0 ∷ ask f refusals.bad_field (fields_fault s) 0
           ∷ finishes (analyze_query_snippet (sheet_in s)).fault ∷ ask (leb (length (text s)) room) refusals.text_too_long 0 0 ∷ [])

@@ -6,7 +6,7 @@ use Prim.Native.Nat.{ℕ, ◌+◌}
 use Rattle.names_width.specs.declared.Width.{Width}
 use Rattle.names_width.specs.Widths.{limits}
 use Rattle.sheet.specs.Sheet.{Sheet, sheet_in}
-use Rattle.sheet.specs.declared.Outcome.TheVariants.{Read}
+use Rattle.std.specs.Prelude.{Ok}
 use Rattle.sheet.specs.Verdict.{read_counts, read_special, read_tables, verdict}
 use Rattle.sheet_read.proofs.Laws.Passed.{verdict_read}
 use Rattle.definition.specs.States.{sound}
@@ -22,7 +22,7 @@ use Rattle.base.specs.Limits.{nesting}
 use Rattle.original.specs.Inner.MoreLevels.{Alike}
 use Rattle.original.proofs.Laws.LevelsSuffice as depth
 
-module _ (v : Width) (s : List ℕ) (tables work : ℕ) (read : verdict (limits v) s tables work ≡ Read) where
+module _ (v : Width) (s : List ℕ) (tables work : ℕ) (read : verdict (limits v) s tables work ≡ Ok tt) where
   pub read_names : NamesBelow (sheet_in s)
   read_names =
       let p = verdict_read v s tables work read in
@@ -41,14 +41,14 @@ module _ (v : Width) (s : List ℕ) (tables work : ℕ) (read : verdict (limits 
 
 -- The code analyses each query once, where the definition does so wherever it meets a comprehension: on every sheet that is read, both come to the
 -- same text and to the same fault.
-pub once_is_enough : (v : Width) (s : List ℕ) (tables work : ℕ) → verdict (limits v) s tables work ≡ Read → (room : ℕ) → analysed (sheet_in s) room ≡ analysed_once (sheet_in s) room
+pub once_is_enough : (v : Width) (s : List ℕ) (tables work : ℕ) → verdict (limits v) s tables work ≡ Ok tt → (room : ℕ) → analysed (sheet_in s) room ≡ analysed_once (sheet_in s) room
 once_is_enough v s tables work read room =
     let p = verdict_read v s tables work read in
     subst (λ (sheet : Sheet). analysed sheet room ≡ analysed_once sheet room) p.sheet-is
     (analysed-once (read_counts s) (read_special s) (read_tables s) p.few p.fine room)
 
 -- Of every sheet that is read: with more levels, the answer's text and the fault are the same, and so is what every query recorded.
-module _ (v : Width) (s : List ℕ) (tables work : ℕ) (read : verdict (limits v) s tables work ≡ Read) (more : ℕ) where
+module _ (v : Width) (s : List ℕ) (tables work : ℕ) (read : verdict (limits v) s tables work ≡ Ok tt) (more : ℕ) where
   pub levels_alike : Alike (analyze nesting (sheet_in s) [] 1 []) (analyze (nesting + more) (sheet_in s) [] 1 [])
   levels_alike =
       let p = verdict_read v s tables work read in

@@ -5,16 +5,17 @@ use mathlib.Core.List.{List, [], ◌∷◌, foldl, foldl-append}
 use mathlib.Core.Logic.{⊎_elim}
 use Prim.Native.Nat.{ℕ, zero, suc, ◌≤◌, ◌<◌}
 use native.Mathlib.Omega.{arith}
-use lib.Dec.{eqb}
 use lib.ListN.{get_or}
-use borrow.Author.Tests.{eqb-true}
+use Rattle.sheet.proofs.Laws.FieldSections.{is_section, section-is}
+use Rattle.std.specs.Prelude.{None}
 use Rattle.base.proofs.Laws.Truth.{and_left, and_right, or_cases}
 use Rattle.base.specs.Lists.{all}
 use Rattle.base.proofs.Laws.Members.{all_get_d}
 use Rattle.sheet.specs.declared.Statement.{Statement}
 use Rattle.sheet.specs.Inner.Records.{statement_row_at, first_at}
-use Rattle.sheet.specs.declared.Field.{Field}
-use Rattle.sheet.specs.Fields.{expr_section, limit_of, FormFields, no_form, forms, form_of}
+use Rattle.sheet.specs.declared.fields.Field.{Field}
+use Rattle.sheet.specs.declared.fields.FormFields.{FormFields}
+use Rattle.sheet.specs.Fields.{expr_section, limit_of, no_form, forms, form_of}
 use Rattle.sheet.specs.Inner.Sheet.{sheet_of}
 use Rattle.scope.specs.Trees.{tree_at, chain}
 use Rattle.scope.specs.Statements.{Stmt, literal_of, stmts_of}
@@ -38,11 +39,11 @@ expr_fields : FormFields → Bool
 expr_fields fs = part_field fs.first && (part_field fs.second && part_field fs.third)
 
 forms_have : all expr_fields forms ≡ true
-unfolding expr_fields part_field forms
+unfolding expr_fields part_field is_section forms
 forms_have = refl
 
 none_have : expr_fields no_form ≡ true
-unfolding expr_fields part_field
+unfolding expr_fields part_field is_section
 none_have = refl
 
 form-has : (form : ℕ) → expr_fields (form_of form) ≡ true
@@ -52,13 +53,13 @@ form-has form = all_get_d expr_fields forms no_form forms_have none_have form
 module _ (t : List ℕ) where
   expr-low : (f : Field) (v : ℕ) → part_field f ≡ true → v ≤ limit_of (counts_at t) f.section → v ≤ expr_count t
   unfolding part_field
-  expr-low f v p h = ⊎_elim none-low some-low (or_cases (eqb f.section 0) (eqb f.section expr_section) p)
+  expr-low f v p h = ⊎_elim none-low some-low (or_cases (is_section f.section None) (is_section f.section expr_section) p)
     where
-      none-low : eqb f.section 0 ≡ true → v ≤ expr_count t
-      none-low q = let low : v ≤ limit_of (counts_at t) 0 = rw (eqb-true f.section 0 q) at h in omega arith
+      none-low : is_section f.section None ≡ true → v ≤ expr_count t
+      none-low q = let low : v ≤ limit_of (counts_at t) None = rw (section-is f.section None q) at h in omega arith
 
-      some-low : eqb f.section expr_section ≡ true → v ≤ expr_count t
-      some-low q = let low : v ≤ limit_of (counts_at t) expr_section = rw (eqb-true f.section expr_section q) at h in low
+      some-low : is_section f.section expr_section ≡ true → v ≤ expr_count t
+      some-low q = let low : v ≤ limit_of (counts_at t) expr_section = rw (section-is f.section expr_section q) at h in low
 
   -- The statement at a row.
   abbrev pub stmt_at_row : ℕ → Stmt

@@ -4,9 +4,12 @@ use mathlib.Core.Bool.{Bool, true, false}
 use mathlib.Core.List.{List}
 use mathlib.Core.Logic.{◌⊎◌, inl, inr}
 use Prim.Native.Nat.{ℕ, ◌≤◌}
-use borrow.Author.Tests.{eq-eqb, ne_eqb}
+use borrow.Author.Tests.{ne_eqb}
 use Rattle.base.proofs.Laws.Truth.{eq_cases}
 use Rattle.sheet.specs.declared.Statement.{Statement}
+use Rattle.sheet.specs.declared.kinds.Form.{Form}
+use Rattle.sheet.specs.declared.kinds.Form.TheVariants as form
+use Rattle.sheet.specs.Inner.Kinds.{FormNumbered, NoArm}
 use Rattle.sheet.specs.declared.Row.{Row}
 use Rattle.sheet.specs.Inner.Sheet.{row_at}
 use Rattle.sheet.specs.Kinds.{is_assign}
@@ -64,30 +67,25 @@ module _ (t outer : List ℕ) where
   module _ (st : Statement) (k r : Scope) (l m : List ℕ) where
     pub of_vars : st.form ≡ 1 → LocalsEach t st.first k l r m → LiteralStep t outer st k l r m
     unfolding gather_literal literal_of
-    of_vars e h parents o s a = rw (eq-eqb st.form 1 e) (h s a)
+    of_vars e h parents o s a = rw e (h s a)
 
-    module _ (no-vars : st.form ≡ 1 → ⊥) where
-      pub of_in : st.form ≡ 2 → (s₀ s₁ : Scope) (l₀ l₁ : List ℕ) → VarsEach t outer st.first true k l s₀ l₀ → VarsEach t outer st.second true s₀ l₀ s₁ l₁
-          → ReadWalk t outer st.third true s₁ l₁ r m → LiteralStep t outer st k l r m
+    pub of_in : st.form ≡ 2 → (s₀ s₁ : Scope) (l₀ l₁ : List ℕ) → VarsEach t outer st.first true k l s₀ l₀ → VarsEach t outer st.second true s₀ l₀ s₁ l₁
+        → ReadWalk t outer st.third true s₁ l₁ r m → LiteralStep t outer st k l r m
+    unfolding gather_literal literal_of
+    of_in e s₀ s₁ l₀ l₁ h₀ h₁ h₂ parents o s a = rw e (h₂ parents o _ (h₁ parents o _ (h₀ parents o s a)))
+
+    module _ {f : Form} (is : FormNumbered st.form f) where
+      pub of_expr : (f ≡ form.Expr) ⊎ (f ≡ form.NotExpr) → ExprStep t outer st.first k l r m → LiteralStep t outer st k l r m
       unfolding gather_literal literal_of
-      of_in e s₀ s₁ l₀ l₁ h₀ h₁ h₂ parents o s a =
-          rw (ne_eqb st.form 1 no-vars, eq-eqb st.form 2 e) (h₂ parents o _ (h₁ parents o _ (h₀ parents o s a)))
+      of_expr (inl e) h parents o s a = let n : st.form ≡ 3 = subst (FormNumbered st.form) e is in rw n (h parents o s a)
+      of_expr (inr e) h parents o s a = let n : st.form ≡ 4 = subst (FormNumbered st.form) e is in rw n (h parents o s a)
 
-      module _ (no-in : st.form ≡ 2 → ⊥) where
-        pub of_expr : st.form ≡ 3 → ExprStep t outer st.first k l r m → LiteralStep t outer st k l r m
-        unfolding gather_literal literal_of
-        of_expr e h parents o s a = rw (ne_eqb st.form 1 no-vars, ne_eqb st.form 2 no-in, eq-eqb st.form 3 e) (h parents o s a)
-
-        module _ (no_expr : st.form ≡ 3 → ⊥) where
-          pub of_not : st.form ≡ 4 → ExprStep t outer st.first k l r m → LiteralStep t outer st k l r m
-          unfolding gather_literal literal_of
-          of_not e h parents o s a =
-              rw (ne_eqb st.form 1 no-vars, ne_eqb st.form 2 no-in, ne_eqb st.form 3 no_expr, eq-eqb st.form 4 e) (h parents o s a)
-
-          pub of_every : (st.form ≡ 4 → ⊥) → ReadWalk t outer st.third true k l r m → LiteralStep t outer st k l r m
-          unfolding gather_literal literal_of
-          of_every ne h parents o s a =
-              rw (ne_eqb st.form 1 no-vars, ne_eqb st.form 2 no-in, ne_eqb st.form 3 no_expr, ne_eqb st.form 4 ne) (h parents o s a)
+      pub of_every : (f ≡ form.Every) ⊎ (f ≡ form.Unknown) → ReadWalk t outer st.third true k l r m → LiteralStep t outer st k l r m
+      unfolding gather_literal literal_of
+      of_every (inl e) h parents o s a = let n : st.form ≡ 5 = subst (FormNumbered st.form) e is in rw n (h parents o s a)
+      of_every (inr e) h parents o s a =
+          let n : NoArm 5 st.form = subst (FormNumbered st.form) e is in
+          rw (ne_eqb st.form 1 n.0.0.0.0.1, ne_eqb st.form 2 n.0.0.0.1, ne_eqb st.form 3 n.0.0.1, ne_eqb st.form 4 n.0.1) (h parents o s a)
 
   pub of_stmt : (st : Statement) (k s₀ s₁ : Scope) (l l₀ l₁ : List ℕ) → ReadEach t outer st.with k l s₀ l₀ → LiteralStep t outer st s₀ l₀ s₁ l₁ → StmtStep t outer st k l s₁ l₁
   unfolding gather_stmt

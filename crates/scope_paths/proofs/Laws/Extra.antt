@@ -2,8 +2,10 @@
 use mathlib.Core.Path.{◌≡◌, refl, sym, ap, ◌∙◌}
 use mathlib.Core.Bool.{Bool, true, false, cond}
 use mathlib.Core.List.{List, [], ◌∷◌}
-use mathlib.Core.Option.{Option, none, some}
-use Prim.Native.Nat.{ℕ, ◌≤◌, ◌<◌}
+use mathlib.Core.Option as found
+use Rattle.std.proofs.Common.{None, Some, unwrap_or}
+use Rattle.std.specs.Bool.{then_some}
+use Prim.Native.Nat.{ℕ, ◌+◌, ◌≤◌, ◌<◌}
 use native.Mathlib.Omega.{arith}
 use lib.Dec.{eqb}
 use lib.ListN.{length}
@@ -22,20 +24,14 @@ use Rattle.scope_walk.proofs.Laws.Exprs.{none_is, row_is, first-is, second_is}
 use Rattle.scope_walk.specs.Inner.Walking.{remains}
 use Rattle.scope_state.specs.Inner.Chains.{chain_at}
 use Rattle.scope_state.proofs.Laws.Chains.{chain-none, chain-row}
-use Rattle.scope_paths.specs.Inner.Paths.{short_of, path_at}
-use Rattle.scope_paths.specs.Inner.Builtins.{arity_of, takes_from}
-use Rattle.scope_paths.proofs.Laws.Builtins.{takes_path}
+use Rattle.scope_paths.specs.Inner.Paths.{short_of, found_path, path_at}
+use Rattle.scope_paths.specs.Inner.Builtins.{arity_in, arity_with}
+use Rattle.scope_paths.proofs.Laws.Builtins.{arity_named}
 use Rattle.scope_paths.specs.Inner.Extra.{EndAt, end_after, some_at, CallExtra, ExtraAt}
 
-last_of : (x : Tree) (l : List Tree) (n : ℕ) → length l ≡ n → last (x ∷ l) ≡ cond (eqb n 0) (some x) (last l)
+last_of : (x : Tree) (l : List Tree) (n : ℕ) → length l ≡ n → last (x ∷ l) ≡ cond (eqb n 0) (found.some x) (last l)
 last_of x [] n h = rw (sym h)
 last_of x (y ∷ l) n h = rw (ne_eqb n 0 (λ z. omega arith))
-
--- Where there is no built-in, 0 stands for what it takes: a chain of no arguments has no last.
-beyond-is : (o : Option Builtin) (args : List Tree) → beyond o args ≡ cond (eqb (arity_of o) (length args)) (last args) none
-beyond-is none [] = refl
-beyond-is none (e ∷ args) = rw (ne_eqb 0 (length (e ∷ args)) (λ z. omega arith))
-beyond-is (some b) args = refl
 
 module _ (t : List ℕ) where
   module _ (ok : Accepted t) (row : ℕ) where
@@ -58,7 +54,7 @@ module _ (t : List ℕ) where
       few = let n = h.few in omega arith;
     }
       where
-        pick : (b : Bool) → cond b (some (expr_by t false row)) (some_at t e.last) ≡ some_at t (cond b row e.last)
+        pick : (b : Bool) → cond b (found.some (expr_by t false row)) (some_at t e.last) ≡ some_at t (cond b row e.last)
         pick true = rw (ne_eqb row 0 there)
         pick false = refl
 
@@ -68,18 +64,46 @@ module _ (t : List ℕ) where
 
   -- ---- the ways out of `call_extra`
 
-  module _ (w : Row) (path : Path) (p : path ≡ short_of (path_at t w.first)) (n : ℕ) (ns : n ≡ takes_from t 1 path) (e : End) (h : EndAt t w.second e) where
-    takes_is : arity_of (builtin_with (sheet_at t).builtins (path_at t w.first)) ≡ n
-    takes_is = sym (ns ∙ ap (takes_from t 1) p ∙ takes_path t (path_at t w.first))
+  module _ (w : Row) where
+    pub extra_no_path : None ≡ found_path (path_at t w.first) → CallExtra t w 0
+    extra_no_path k = (go (path_at t w.first) k, omega arith)
+      where
+        go : (o : found.Option (List ℕ)) → None ≡ found_path o → beyond (builtin_with (sheet_at t).builtins o) (chain_at t w.second) ≡ found.none
+        go found.none k = refl
+        go (found.some l) k = cc
 
-    beyond-at : beyond (builtin_with (sheet_at t).builtins (path_at t w.first)) (chain_at t w.second) ≡ cond (eqb n e.count) (some_at t e.last) none
-    beyond-at = beyond-is (builtin_with (sheet_at t).builtins (path_at t w.first)) (chain_at t w.second) ∙ rw (takes_is, h.count, h.last-is)
+    module _ (p : Path) (path-is : Some p ≡ found_path (path_at t w.first)) where
+      abbrev builtin : found.Option Builtin
+      builtin = builtin_with (sheet_at t).builtins (path_at t w.first)
 
-    pub extra_found : n ≡ e.count → CallExtra t w e.last
-    extra_found q = (beyond-at ∙ rw (eq-eqb n e.count q), h.low)
+      arity-is : arity_with t p ≡ arity_in builtin
+      arity-is = go (path_at t w.first) path-is
+        where
+          go : (o : found.Option (List ℕ)) → Some p ≡ found_path o → arity_with t p ≡ arity_in (builtin_with (sheet_at t).builtins o)
+          go found.none k = cc
+          go (found.some l) k = let at : p ≡ short_of l = cc in ap (arity_with t) at ∙ arity_named t l
 
-    pub extra_none : (n ≡ e.count → ⊥) → CallExtra t w 0
-    extra_none q = (beyond-at ∙ rw (ne_eqb n e.count q), omega arith)
+      pub extra_no_builtin : None ≡ arity_with t p → CallExtra t w 0
+      extra_no_builtin k = (go builtin (k ∙ arity-is), omega arith)
+        where
+          go : (o : found.Option Builtin) → None ≡ arity_in o → beyond o (chain_at t w.second) ≡ found.none
+          go found.none k = refl
+          go (found.some b) k = cc
+
+      module _ (n : ℕ) (takes : Some n ≡ arity_with t p) (e : End) (h : EndAt t w.second e) where
+        beyond-at : beyond builtin (chain_at t w.second) ≡ cond (eqb (n + 1) e.count) (some_at t e.last) found.none
+        beyond-at = go builtin (takes ∙ arity-is)
+          where
+            go : (o : found.Option Builtin) → Some n ≡ arity_in o → beyond o (chain_at t w.second) ≡ cond (eqb (n + 1) e.count) (some_at t e.last) found.none
+            go found.none k = cc
+            go (found.some b) k = let at : n ≡ b.arity = cc in rw (at, h.count, h.last-is)
+
+        pub extra_counted : CallExtra t w (unwrap_or (then_some (eqb (n + 1) e.count) e.last) 0)
+        extra_counted = go (eqb (n + 1) e.count) beyond-at
+          where
+            go : (b : Bool) → beyond builtin (chain_at t w.second) ≡ cond b (some_at t e.last) found.none → CallExtra t w (unwrap_or (then_some b e.last) 0)
+            go true k = (k, h.low)
+            go false k = (k, omega arith)
 
   -- ---- and of `get_extra_arg`
 

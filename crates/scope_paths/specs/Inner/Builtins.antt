@@ -1,6 +1,6 @@
 -- The built-in that a path names, as the code looks for it.
-use Rattle.std.specs.Prelude.{Bool, cond, List, map, ℕ, ◌+◌, ltb}
-use Rattle.std.proofs.Math.Option.{Option, none, some}
+use Rattle.std.specs.Prelude.{Bool, cond, List, map, ℕ, ◌+◌, ltb, Option, None, Some}
+use Rattle.std.proofs.Math.Option as found
 use Rattle.base.specs.Lists.{range, find}
 use Rattle.sheet.specs.declared.Builtin.{Builtin}
 use Rattle.sheet.specs.Inner.Records.{builtin_at}
@@ -20,16 +20,19 @@ parted p x = add_if (ltb 0 x) p x
 -- ---- the search
 
 abbrev pub has_path : Path → Builtin → Bool
-has_path p b = paths_agree (short_of (some (path_of b))) p
+has_path p b = paths_agree (short_of (path_of b)) p
 
--- One more than the arity; 0 for no built-in.
-abbrev pub arity_of : Option Builtin → ℕ
-arity_of none = 0
-arity_of (some b) = b.arity + 1
+abbrev pub arity_in : found.Option Builtin → Option ℕ
+arity_in found.none = None
+arity_in (found.some b) = Some b.arity
 
 module _ (t : List ℕ) where
   abbrev pub builtins_from : ℕ → List Builtin
   builtins_from row = map (builtin_at t) (range row (builtin_count t + 1))
 
-  unfoldable pub takes_from : ℕ → Path → ℕ
-  takes_from row p = arity_of (find (has_path p) (builtins_from row))
+  -- Of the first from a row on, and of the first of all.
+  unfoldable pub arity_from : ℕ → Path → Option ℕ
+  arity_from row p = arity_in (find (has_path p) (builtins_from row))
+
+  abbrev pub arity_with : Path → Option ℕ
+  arity_with p = arity_from 1 p

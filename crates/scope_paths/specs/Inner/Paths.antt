@@ -1,52 +1,51 @@
 -- Paths of at most three names as the code has them, and the path of a reference row by row.
-use Rattle.std.specs.Prelude.{◌≡◌, Bool, cond, ◌&&◌, List, [], ◌∷◌, ℕ, eqb}
-use Rattle.std.proofs.Math.Option.{Option, none, some}
+use Rattle.std.specs.Prelude.{◌≡◌, Bool, true, false, cond, ◌&&◌, List, [], ◌∷◌, ◌++◌, ℕ, eqb, Option, None, Some}
+use Rattle.std.proofs.Math.Option as found
 use Rattle.sheet.specs.declared.Row.{Row}
-use Rattle.sheet.specs.Kinds.{is_string, is_var, is_ref_dot, is_ref_brack}
+use Rattle.sheet.specs.Kinds.{is_string}
 use Rattle.scope.specs.Trees.{row_of, tree_at}
-use Rattle.scope.specs.Paths.{append, get_path_string}
+use Rattle.scope.specs.Paths.{get_path_string}
 use Rattle.scope_paths.specs.declared.paths.Path.{Path}
+use Rattle.scope_paths.specs.declared.paths.Path.TheVariants as path
 use Rattle.scope_walk.specs.Inner.Sheets.{sheet_at}
 
-abbrev pub sized : ℕ → ℕ → ℕ → ℕ → Path
-sized n a b c = record { size = n; first = a; second = b; third = c }
+abbrev pub short_of : List ℕ → Path
+short_of [] = path.Empty
+short_of (a ∷ []) = path.One a
+short_of (a ∷ (b ∷ [])) = path.Two a b
+short_of (a ∷ (b ∷ (c ∷ []))) = path.Three a b c
+short_of (a ∷ (b ∷ (c ∷ (d ∷ l)))) = path.Long
 
-unfoldable pub short_of : Option (List ℕ) → Path
-short_of none = sized 0 0 0 0
-short_of (some []) = sized 1 0 0 0
-short_of (some (a ∷ [])) = sized 2 a 0 0
-short_of (some (a ∷ (b ∷ []))) = sized 3 a b 0
-short_of (some (a ∷ (b ∷ (c ∷ [])))) = sized 4 a b c
-short_of (some (a ∷ (b ∷ (c ∷ (d ∷ l))))) = sized 5 0 0 0
+abbrev pub found_path : found.Option (List ℕ) → Option Path
+found_path found.none = None
+found_path (found.some l) = Some (short_of l)
 
 abbrev pub appended : Path → ℕ → Path
-appended p x =
-    cond (eqb p.size 0) p
-    (cond (eqb p.size 1) (sized 2 x 0 0)
-    (cond (eqb p.size 2) (sized 3 p.first x 0)
-    (cond (eqb p.size 3) (sized 4 p.first p.second x)
-    (sized 5 0 0 0))))
+appended path.Empty x = path.One x
+appended (path.One a) x = path.Two a x
+appended (path.Two a b) x = path.Three a b x
+appended (path.Three a b c) x = path.Long
+appended path.Long x = path.Long
 
 abbrev pub paths_agree : Path → Path → Bool
-paths_agree p q = eqb p.size q.size && (eqb p.first q.first && (eqb p.second q.second && eqb p.third q.third))
+paths_agree path.Empty path.Empty = true
+paths_agree (path.One a) (path.One x) = eqb a x
+paths_agree (path.Two a b) (path.Two x y) = eqb a x && eqb b y
+paths_agree (path.Three a b c) (path.Three x y z) = eqb a x && (eqb b y && eqb c z)
+paths_agree path.Long path.Long = true
+paths_agree p q = false
 
 -- ---- the path of a row
 
--- Over the index row b and the path o of the first part.
-abbrev index_path : Row → Option (List ℕ) → Option (List ℕ)
-index_path b o = cond (is_string b) (append o b.name) o
-
-abbrev path_by : Row → Row → Option (List ℕ) → Option (List ℕ)
-path_by w b o = cond (is_var w) (some (w.name ∷ [])) (cond (is_ref_dot w) (append o w.name) (cond (is_ref_brack w) (index_path b o) none))
+-- Over the index row b.
+abbrev pub with_index : Row → List ℕ → List ℕ
+with_index b l = cond (is_string b) (l ++ (b.name ∷ [])) l
 
 module _ (t : List ℕ) where
   abbrev pub IndexStep : ℕ → Path → Path → Type 0
-  IndexStep row p r = (o : Option (List ℕ)) → p ≡ short_of o → r ≡ short_of (index_path (row_of (tree_at (sheet_at t) row)) o)
-
-  abbrev pub PathStep : Row → Path → Path → Type 0
-  PathStep w p r = (o : Option (List ℕ)) → p ≡ short_of o → r ≡ short_of (path_by w (row_of (tree_at (sheet_at t) w.second)) o)
+  IndexStep row p r = (l : List ℕ) → p ≡ short_of l → r ≡ short_of (with_index (row_of (tree_at (sheet_at t) row)) l)
 
   -- ---- the path from a row on
 
-  abbrev pub path_at : ℕ → Option (List ℕ)
+  abbrev pub path_at : ℕ → found.Option (List ℕ)
   path_at row = get_path_string (tree_at (sheet_at t) row)

@@ -1,17 +1,17 @@
 -- Laws of `Enclosing`.
 use mathlib.Core.Path.{◌≡◌, refl, sym, ap, ◌∙◌}
 use mathlib.Core.Bool.{Bool, true, false, cond, ◌||◌}
-use mathlib.Core.List.{List, ◌∷◌}
+use mathlib.Core.List.{List, ◌∷◌, ◌++◌}
 use mathlib.Core.Logic.{◌⊎◌, inl, inr}
 use mathlib.Core.Option.{Option, none, some}
-use Prim.Native.Nat.{ℕ, ◌+◌, ◌/◌, ◌≤◌, ◌<◌, min}
+use Prim.Native.Nat.{ℕ, ◌/◌, ◌≤◌, ◌<◌, min}
 use native.Mathlib.Omega.{arith}
 use lib.Dec.{leb}
-use lib.ListN.{length, get_or, set}
-use lib.Seq.{get_or-set_same, get_or-set_other}
+use lib.ListN.{length, get_or, take}
+use Rattle.std.proofs.lemmas.List.{length-take-le, get_or_append_left, get_or-take}
 use borrow.Author.Tests.{le-leb, lt-leb}
 use Rattle.base.specs.Limits as limits
-use Rattle.base.proofs.Laws.Truth.{lt_cases, eq_cases}
+use Rattle.base.proofs.Laws.Truth.{lt_cases}
 use Rattle.base.specs.Sets.{member}
 use Rattle.sheet.specs.declared.Row.{Row}
 use Rattle.base.specs.Lists.{is_some}
@@ -31,18 +31,14 @@ least_line k x outer line = cond (member k.unscoped.words x) 0 (cond (member k.l
 abbrev LeastLines : List ℕ → Scope → List ℕ → List ℕ → Type 0
 LeastLines outer k spans inner = (x : ℕ) → x < limits.per_name → get_or inner x 0 ≡ least_line k x (get_or outer x 0) (get_or spans x 0 / 65536)
 
-pub copied_none : (outer inner : List ℕ) → Copied outer 0 inner
-copied_none outer inner = record { has = λ x low. absurd (omega arith) }
-
-pub copied_more : (outer inner : List ℕ) (n : ℕ) → n < length inner → Copied outer n inner → Copied outer (n + 1) (set inner n (get_or outer n 0))
-copied_more outer inner n room h = record { has = λ x low. go x low (eq_cases x n) }
-  where
-    go : (x : ℕ) → x < n + 1 → (x ≡ n) ⊎ (x ≡ n → ⊥) → get_or (set inner n (get_or outer n 0)) x 0 ≡ get_or outer x 0
-    go x low (inl e) = rw e (get_or-set_same inner n (get_or outer n 0) 0 room)
-    go x low (inr ne) = get_or-set_other inner n x (get_or outer n 0) 0 ne ∙ h.has x (omega arith)
-
-pub copied_all : (outer inner : List ℕ) (n : ℕ) → n ≤ limits.per_name → limits.per_name ≤ n → Copied outer n inner → Copied outer limits.per_name inner
-copied_all outer inner n high low h = record { has = λ x under. h.has x (omega arith) }
+-- The front of a list is the other's, whatever lies behind it.
+pub copied_front : (outer inner behind : List ℕ) → limits.per_name ≤ length outer → inner ≡ take limits.per_name outer
+    → Copied outer limits.per_name (inner ++ behind)
+copied_front outer inner behind room is = record {
+  has = λ x low.
+      rw is
+      (get_or_append_left (take limits.per_name outer) behind 0 x (omega (arith, length-take-le limits.per_name outer room)) ∙ get_or-take limits.per_name outer x 0 low);
+}
 
 least_lines : (outer : List ℕ) (k : Scope) (spans a b inner : List ℕ) → Copied outer limits.per_name a → Lowered k.locals.words spans a b
     → Cleared k.unscoped.words b inner → LeastLines outer k spans inner

@@ -2,7 +2,7 @@
 use Rattle.std.specs.Prelude.{◌≡◌, Bool, ℕ}
 use mathlib.Core.List.{List, map, foldl}
 use Rattle.base.specs.Sets.{member}
-use Rattle.names.specs.declared.Names.{Names}
+use Rattle.names.specs.Inner.Names.{Names}
 use Rattle.sheet.specs.declared.Row.{Row}
 use Rattle.scope.specs.Scopes.{contains, no_scope, add_local, add_unscoped, add_input, use_input, remove_shadowed, is_local}
 use Rattle.scope.specs.Scopes as spec

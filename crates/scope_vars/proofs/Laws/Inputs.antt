@@ -7,6 +7,8 @@ use borrow.Author.Tests.{eq-eqb, ne_eqb}
 use Rattle.base.specs.Sets.{member}
 use Rattle.base.proofs.Laws.Truth.{not-both}
 use Rattle.sheet.specs.declared.Row.{Row}
+use Rattle.sheet.specs.declared.kinds.Kind.{Kind}
+use Rattle.sheet.specs.Inner.Kinds.{KindNumbered}
 use Rattle.sheet.specs.Sheet.{Sheet, is_input}
 use Rattle.sheet.specs.Inner.Sheet.{row_at}
 use Rattle.sheet.specs.Kinds.{is_var}
@@ -16,7 +18,7 @@ use Rattle.scope.specs.Scopes as spec
 use Rattle.scope.specs.Gather.{input_var, gather_input_vars}
 use Rattle.scope_walk.specs.declared.Kids.{Kids}
 use Rattle.scope_walk.specs.Inner.Kids.{kids_of}
-use Rattle.scope_walk.proofs.Laws.Arms.{KidsTurn}
+use Rattle.scope_walk.proofs.Laws.Arms.{KidsTurn, Quiet, var_number, quiet_but_vars}
 use Rattle.scope_walk.specs.Inner.Walks.{alone, over_by}
 use Rattle.scope_state.specs.declared.Scope.{Scope}
 use Rattle.scope_walk.specs.Inner.Sheets.{counts_at, special_at, sheet_at, Accepted, expr_count}
@@ -102,12 +104,16 @@ module _ (t outer : List ℕ) where
 
 -- ---- what is done at a row, on the flag and the inputs
 
+abbrev InputDone : List ℕ → List ℕ → Row → List ℕ → List ℕ × Bool → List ℕ × Bool → Type 0
+InputDone t outer w u a b = InputStepIn t outer w u a.0 a.1 b.0 b.1
+
 abbrev pub InputTurn : List ℕ → List ℕ → Row → List ℕ → List ℕ × Bool → List ℕ × Bool → Kids → Type 0
-InputTurn t outer w u = KidsTurn (λ a b. InputStepIn t outer w u a.0 a.1 b.0 b.1) w
+InputTurn t outer w u = KidsTurn (InputDone t outer w u) w
 
 module _ (t outer : List ℕ) (w : Row) (u i : List ℕ) (f : Bool) where
-  pub input_still : is_var w ≡ false → InputStepIn t outer w u i f i f
-  input_still other = record { long = refl; done = λ l. input_step_other t outer w _ (λ e. not-both (eq-eqb w.kind 6 e) other) }
+  pub input_still : (kind : Kind) → KindNumbered w.kind kind → Quiet (InputDone t outer w u) w var_number kind (i, f)
+  input_still kind is =
+      quiet_but_vars is (λ other. record { long = refl; done = λ l. input_step_other t outer w _ (λ e. not-both (eq-eqb w.kind 6 e) other) })
 
   pub input_at-var : w.kind ≡ 6 → (j : List ℕ) (g : Bool) → InputVarIn t outer w u i f j g → InputStepIn t outer w u i f j g
   input_at-var e j g did = record { long = did.long; done = λ l. input_step_var t outer w _ e _ (did.done l) }

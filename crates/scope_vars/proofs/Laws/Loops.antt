@@ -2,11 +2,14 @@
 use mathlib.Core.Path.{◌≡◌, refl, sym, ap, ◌∙◌, subst}
 use mathlib.Core.Bool.{Bool, true, false, cond, ◌||◌}
 use mathlib.Core.List.{List, [], ◌∷◌, foldl}
+use native.Mathlib.Omega.{arith}
 use Prim.Native.Nat.{ℕ, ◌≤◌}
 use lib.Dec.{eqb}
 use lib.ListN.{length}
 use borrow.Author.Tests.{eq-eqb, ne_eqb}
 use Rattle.sheet.specs.declared.Row.{Row}
+use Rattle.sheet.specs.declared.kinds.Kind.{Kind}
+use Rattle.sheet.specs.Inner.Kinds.{KindNumbered}
 use Rattle.base.specs.Lists.{is_some}
 use Rattle.base.proofs.Laws.Truth.{not-both, or_left, or_right}
 use Rattle.sheet.specs.Sheet.{Sheet, is_input, is_special}
@@ -19,7 +22,7 @@ use Rattle.scope.specs.Scopes.{add_unscoped, add_input, use_input, var_exists}
 use Rattle.scope.specs.Gather.{assign_var, gather_assigned_vars, loop_var, gather_loop_vars}
 use Rattle.scope_walk.specs.declared.Kids.{Kids}
 use Rattle.scope_walk.specs.Inner.Kids.{kids_of}
-use Rattle.scope_walk.proofs.Laws.Arms.{KidsTurn}
+use Rattle.scope_walk.proofs.Laws.Arms.{KidsTurn, Quiet, no_such_kinds}
 use Rattle.scope_walk.proofs.Laws.Walks.{alone_at}
 use Rattle.scope_walk.specs.Inner.Walks.{over_by}
 use Rattle.scope_state.specs.declared.Scope.{Scope}
@@ -127,14 +130,19 @@ module _ (t outer : List ℕ) where
 abbrev pub LoopState : Type 0
 LoopState = Bool × List ℕ × List ℕ × List ℕ
 
+abbrev LoopDone : List ℕ → List ℕ → List ℕ → Row → LoopState → LoopState → Type 0
+LoopDone t outer o w a b = LoopStepIn t outer w o a.1 a.2 a.0 a.3 b.1 b.2 b.0 b.3 × (length b.3 ≡ length a.3)
+
 abbrev pub LoopTurn : List ℕ → List ℕ → List ℕ → Row → LoopState → LoopState → Kids → Type 0
-LoopTurn t outer o w =
-    KidsTurn (λ a b. LoopStepIn t outer w o a.1 a.2 a.0 a.3 b.1 b.2 b.0 b.3 × (length b.3 ≡ length a.3)) w
+LoopTurn t outer o w = KidsTurn (LoopDone t outer o w) w
+
+-- At a Var and at a RefBrack something is done.
+abbrev pub loop_number : ℕ → Bool
+loop_number n = eqb n 6 || eqb n 16
 
 module _ (t outer o : List ℕ) (w : Row) (a : LoopState) where
-  pub loop_still : (is_var w || is_ref_brack w) ≡ false
-      → LoopStepIn t outer w o a.1 a.2 a.0 a.3 a.1 a.2 a.0 a.3 × (length a.3 ≡ length a.3)
-  loop_still other = (
+  loop_done_still : (is_var w || is_ref_brack w) ≡ false → LoopDone t outer o w a a
+  loop_done_still other = (
     record {
       unscoped-long = refl;
       inputs_long = refl;
@@ -143,6 +151,10 @@ module _ (t outer o : List ℕ) (w : Row) (a : LoopState) where
     },
     refl,
   )
+
+  pub loop_still : (kind : Kind) → KindNumbered w.kind kind → Quiet (LoopDone t outer o w) w loop_number kind a
+  loop_still kind is =
+      record { numbered = is; past = no_such_kinds w 6 16 (omega arith) (omega arith) (omega arith) (omega arith); still = loop_done_still }
 
   pub loop_at_var : w.kind ≡ 6 → (f : Bool) → f ≡ (is_input (sheet_at t) w.name || a.0)
       → LoopStepIn t outer w o a.1 a.2 a.0 a.3 a.1 a.2 f a.3 × (length a.3 ≡ length a.3)

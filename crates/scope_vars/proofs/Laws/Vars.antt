@@ -60,11 +60,11 @@ module _ (t outer : List ℕ) where
     bound-none row z rest shadow k l parents o s a = rw (z, none_is t ok rest) a
 
     module _ (row : ℕ) (some : row ≡ 0 → ⊥) (high : row ≤ expr_count t) (rest shadow : Bool) (w : Row) (is : w ≡ row_at t row) where
-      pub bound_assign : (found : Bool) → found ≡ is_assign w → found ≡ true → (k s₀ s₁ : Scope) (l l₀ l₁ : List ℕ)
-          → AssignWalk t outer w.first true (is_col_eq w) k l s₀ l₀ → AssignWalk t outer w.second true false s₀ l₀ s₁ l₁
+      pub bound_assign : (found : Bool) → found ≡ is_assign w → found ≡ true → (shadows : Bool) → shadows ≡ is_col_eq w → (k s₀ s₁ : Scope) (l l₀ l₁ : List ℕ)
+          → AssignWalk t outer w.first true shadows k l s₀ l₀ → AssignWalk t outer w.second true false s₀ l₀ s₁ l₁
           → BoundWalk t outer row rest shadow k l s₁ l₁
-      bound_assign found e p k s₀ s₁ l l₀ l₁ h₀ h₁ parents o s a =
-          rw (row_is t ok row some high rest, first-is t ok row some high rest, second_is t ok row some high rest, sym is, sym e, p) (h₁ parents o _ (h₀ parents o s a))
+      bound_assign found e p shadows q k s₀ s₁ l l₀ l₁ h₀ h₁ parents o s a =
+          rw (row_is t ok row some high rest, first-is t ok row some high rest, second_is t ok row some high rest, sym is, sym e, p, sym q) (h₁ parents o _ (h₀ parents o s a))
 
       pub bound-other : (found : Bool) → found ≡ is_assign w → found ≡ false → (k s₀ : Scope) (l l₀ : List ℕ)
           → AssignWalk t outer row rest shadow k l s₀ l₀ → BoundWalk t outer row rest shadow k l s₀ l₀

@@ -11,7 +11,8 @@ use borrow.Author.Tests.{leb-true}
 use Rattle.base.proofs.Laws.Truth.{eq_cases, and_left, and_right}
 use Rattle.sheet.specs.declared.Row.{Row}
 use Rattle.sheet.specs.Kinds.{is_compr}
-use Rattle.sheet_fields.proofs.Laws.Tables.{NoArm, left_over}
+use Rattle.sheet.specs.Inner.Kinds.{NoArm}
+use Rattle.sheet_fields.proofs.Laws.Tables.{left_over}
 use Rattle.scope.specs.Traverse.{Child, children, children_of}
 use Rattle.scope_walk.specs.Inner.Kids.{kids_from, kids_by, kids_of}
 

@@ -5,6 +5,8 @@ use mathlib.Core.List.{List, []}
 use mathlib.Core.Logic.{◌⊎◌, inl, inr}
 use Prim.Native.Nat.{ℕ, zero, suc, ◌≤◌, ◌<◌}
 use native.Mathlib.Omega.{arith}
+use Rattle.sheet.specs.declared.fields.Section.{Section}
+use Rattle.std.specs.Prelude.{Option, None}
 use Rattle.base.specs.Limits as limits
 use Rattle.base.proofs.Laws.Truth.{bool_cases}
 use Rattle.sheet.specs.declared.Counts.{Counts}
@@ -74,13 +76,13 @@ module _ (n r : ℕ) (w : Row) (d : Descends n r w) where
 -- ---- names
 
 module _ (c : Counts) (t : List ℕ) (within : Within c) (facts : SheetFacts c (in_tables t)) where
-  low_by : (section v : ℕ) → v ≤ limit_of c section → (section ≡ name_section) ⊎ (section ≡ 0) → v < limits.per_name
-  low_by section v h (inl e) = let l : v ≤ limit_of c name_section = subst (λ (k : ℕ). v ≤ limit_of c k) e h in omega (arith, within.few-names)
-  low_by section v h (inr e) = let l : v ≤ limit_of c 0 = subst (λ (k : ℕ). v ≤ limit_of c k) e h in omega arith
+  low_by : (section : Option Section) (v : ℕ) → v ≤ limit_of c section → (section ≡ name_section) ⊎ (section ≡ None) → v < limits.per_name
+  low_by section v h (inl e) = let l : v ≤ limit_of c name_section = subst (λ (k : Option Section). v ≤ limit_of c k) e h in omega (arith, within.few-names)
+  low_by section v h (inr e) = let l : v ≤ limit_of c None = subst (λ (k : Option Section). v ≤ limit_of c k) e h in omega arith
 
-  counted-by : (section v : ℕ) → v ≤ limit_of c section → (section ≡ name_section) ⊎ (section ≡ 0) → v ≤ c.names
-  counted-by section v h (inl e) = let l : v ≤ limit_of c name_section = subst (λ (k : ℕ). v ≤ limit_of c k) e h in omega (arith, l)
-  counted-by section v h (inr e) = let l : v ≤ limit_of c 0 = subst (λ (k : ℕ). v ≤ limit_of c k) e h in omega (arith, l)
+  counted-by : (section : Option Section) (v : ℕ) → v ≤ limit_of c section → (section ≡ name_section) ⊎ (section ≡ None) → v ≤ c.names
+  counted-by section v h (inl e) = let l : v ≤ limit_of c name_section = subst (λ (k : Option Section). v ≤ limit_of c k) e h in omega (arith, l)
+  counted-by section v h (inr e) = let l : v ≤ limit_of c None = subst (λ (k : Option Section). v ≤ limit_of c k) e h in omega (arith, l)
 
   -- A row's name is one of the sheet's.
   pub name-counted : (r : ℕ) → 1 ≤ r → r ≤ c.exprs → (row_at t r).name ≤ c.names

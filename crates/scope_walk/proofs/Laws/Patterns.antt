@@ -8,12 +8,14 @@ use lib.Dec.{eqb}
 use lib.ListN.{length, get_or}
 use borrow.Author.Tests.{ne_eqb}
 use Rattle.sheet.specs.declared.Row.{Row}
+use Rattle.sheet.specs.declared.kinds.Kind.{Kind}
+use Rattle.sheet.specs.declared.kinds.Kind.TheVariants as kind
+use Rattle.sheet.specs.Inner.Kinds.{KindNumbered}
 use Rattle.sheet.specs.Kinds.{is_pattern, is_var}
 use Rattle.sheet_fields.proofs.Laws.Tables.{left_over}
 use Rattle.scope.specs.Traverse.{Child, first_field, child_of}
-use Rattle.scope_walk.specs.Inner.Kids.{kids_by}
 use Rattle.scope_walk.specs.Inner.Patterns.{pattern_children, pattern_children_of}
-use Rattle.scope_walk.proofs.Laws.Arms.{NoKind, no_such_kind}
+use Rattle.scope_walk.proofs.Laws.Numbers.{number_of, by_number, other_number, OneOf, same_of, patterns}
 use Rattle.scope_walk.proofs.Laws.Walking.{no_var}
 
 -- ---- the children that a pattern walk enters: the items of an Array, the fields of an Object, and none of the other twenty
@@ -40,25 +42,6 @@ by_kind = (refl, (refl, (refl, (refl, (refl, (refl, (refl, (refl, (refl, (refl, 
 pub pattern-enters : (w : Row) → pattern_children_of w ≡ cond (is_pattern w) (first_field ∷ []) []
 pattern-enters w = kept_at 0 pattern_children by_kind w.kind w.kind (omega arith)
 
-module _ (w : Row) where
-  pub pattern_kind : (n : ℕ) → w.kind ≡ n → is_pattern w ≡ (eqb n 7 || eqb n 9)
-  pattern_kind n e = ap (λ (k : ℕ). eqb k 7 || eqb k 9) e
-
-  -- The row that is entered, by kind; and past the last kind.
-  entered-first : (kids_by (pattern_children_of w) w).first ≡ cond (is_pattern w) w.first 0
-  entered-first = ap (λ (ks : List Child). (kids_by ks w).first) (pattern-enters w) ∙ go (is_pattern w)
-    where
-      go : (b : Bool) → (kids_by (cond b (first_field ∷ []) []) w).first ≡ cond b w.first 0
-      go true = refl
-      go false = refl
-
-  pub pattern-first : (n : ℕ) → w.kind ≡ n → (kids_by (get_or pattern_children n []) w).first ≡ cond (is_pattern w) w.first 0
-  pattern-first n e = ap (λ (k : ℕ). (kids_by (get_or pattern_children k []) w).first) (sym e) ∙ entered-first
-
-  pub pattern-past : NoKind w → 0 ≡ cond (is_pattern w) w.first 0
-  pattern-past other =
-      ap (λ (ks : List Child). (kids_by ks w).first) (left_over pattern_children [] 22 w.kind (omega arith) refl other) ∙ entered-first
-
 -- ---- a row's turn, but for the rest of its chain
 
 module _ {S : Type 0} (Step : S → S → Type 0) (Walk : ℕ → S → S → Type 0) (w : Row) where
@@ -82,26 +65,47 @@ module _ {S : Type 0} {Step : S → S → Type 0} {Walk : ℕ → S → S → Ty
         go true p did = record { own = s; step = still p s; parts = rw p did }
         go false p did = record { own = r; step = did; parts = rw p (none r) }
 
-    -- The arm of kind n, which enters what the table says; and the last arm.
-    pub entering_arm : {v : S} (n : ℕ) → w.kind ≡ n → Entering Step Walk w (get_or pattern_children n []) s v → r ≡ v → PatternTurn Step Walk w s r
-    entering_arm n e did is = by-pattern (rw (e, is) did)
+-- ---- the arms
 
-    pub last_entering : {v : S} → NoKind w → Step s v → r ≡ v → PatternTurn Step Walk w s r
-    last_entering other did is =
-        by-pattern (subst (λ (ks : List Child). Entering Step Walk w ks s r) (left_over pattern_children [] 22 w.kind (omega arith) refl other)
-        (subst (Step s) (sym is) did))
+abbrev pattern_by : Kind → List Child
+pattern_by k = get_or pattern_children (number_of k) []
 
-  -- Where something is done at a Var alone: an arm that does it or enters, that of another leaf, and the last.
-  module _ (quiet : is_var w ≡ false → (s : S) → Step s s) where
-    pub pattern_arm : {v : S} (n : ℕ) → w.kind ≡ n → Entering Step Walk w (get_or pattern_children n []) s v → r ≡ v → PatternTurn Step Walk w s r
-    pattern_arm = entering_arm (λ p. quiet (no_var w p))
+pattern-by : (w : Row) (k : Kind) → KindNumbered w.kind k → pattern_children_of w ≡ pattern_by k
+pattern-by w k e =
+    by_number (λ n. get_or pattern_children n []) w.kind k e (λ other. sym (left_over pattern_children [] 22 w.kind (omega arith) refl other))
 
-    pub leaf_arm : (n : ℕ) → w.kind ≡ n → eqb n 6 ≡ false → get_or pattern_children n [] ≡ [] → r ≡ s → PatternTurn Step Walk w s r
-    leaf_arm n e other leaf is = pattern_arm n e (rw leaf (quiet (ap (λ (k : ℕ). eqb k 6) e ∙ other) s)) is
+leaf-by : (k : Kind) → (k ≡ kind.Array → ⊥) → (k ≡ kind.Object → ⊥) → pattern_by k ≡ []
+leaf-by kind.Array a o = absurd (a refl)
+leaf-by kind.Object a o = absurd (o refl)
+leaf-by _ a o = refl
 
-    pub last_leaf : NoKind w → r ≡ s → PatternTurn Step Walk w s r
-    last_leaf other is =
-        last_entering (λ p. quiet (no_var w p)) other (quiet (no_such_kind w 6 (omega arith) (omega arith) other) s) is
+pub other_than_var : {k : Kind} (w : Row) → KindNumbered w.kind k → (k ≡ kind.Var → ⊥) → is_var w ≡ false
+other_than_var w e v = ne_eqb w.kind 6 (other_number w.kind e v)
+
+module _ {S : Type 0} {Step : S → S → Type 0} {Walk : ℕ → S → S → Type 0} {w : Row} (none : (s : S) → Walk 0 s s) {s r : S} where
+  module _ (still : is_pattern w ≡ true → (s : S) → Step s s) where
+    enters : (k : Kind) → KindNumbered w.kind k → (ks : List Child) → pattern_by k ≡ ks
+        → {v : S} → Entering Step Walk w ks s v → r ≡ v → PatternTurn Step Walk w s r
+    enters k e ks is did is-r = by-pattern none still (rw (pattern-by w k e, is, is-r) did)
+
+    module _ {k : Kind} (e : KindNumbered w.kind k) where
+      -- The arm of an Array and an Object, and that of a leaf.
+      pub items_turn : OneOf k patterns → {v : S} → Walk w.first s v → r ≡ v → PatternTurn Step Walk w s r
+      items_turn is did is-r = enters k e (first_field ∷ []) (same_of pattern_by (first_field ∷ []) k patterns refl is) did is-r
+
+      pub leaf_turn : (k ≡ kind.Array → ⊥) → (k ≡ kind.Object → ⊥) → {v : S} → Step s v → r ≡ v → PatternTurn Step Walk w s r
+      leaf_turn a o did is-r = enters k e [] (leaf-by k a o) did is-r
+
+  -- Where something is done at a Var alone.
+  module _ (quiet : is_var w ≡ false → (s : S) → Step s s) {k : Kind} (e : KindNumbered w.kind k) where
+    pub var_arm : k ≡ kind.Var → {v : S} → Step s v → r ≡ v → PatternTurn Step Walk w s r
+    var_arm is did is-r = enters (λ p. quiet (no_var w p)) k e [] (ap pattern_by is) did is-r
+
+    pub items_arm : OneOf k patterns → {v : S} → Walk w.first s v → r ≡ v → PatternTurn Step Walk w s r
+    items_arm is did is-r = items_turn (λ p. quiet (no_var w p)) e is did is-r
+
+    pub other_arm : (k ≡ kind.Var → ⊥) → (k ≡ kind.Array → ⊥) → (k ≡ kind.Object → ⊥) → r ≡ s → PatternTurn Step Walk w s r
+    other_arm v a o is-r = leaf_turn (λ p. quiet (no_var w p)) e a o (quiet (other_than_var w e v) s) is-r
 
 -- A step or a walk that also writes a list, whose length it keeps.
 abbrev pub Lengthwise : {S : Type 0} → (S → List ℕ → S → List ℕ → Type 0) → S × List ℕ → S × List ℕ → Type 0

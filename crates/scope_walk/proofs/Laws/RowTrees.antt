@@ -5,17 +5,19 @@ use mathlib.Core.List.{List, [], ◌∷◌, map}
 use mathlib.Core.Logic.{inl, inr, ⊎_elim, ◌⊎◌}
 use Prim.Native.Nat.{ℕ, zero, suc, ◌+◌, ◌-◌, ◌≤◌, ◌<◌}
 use native.Mathlib.Omega.{arith}
-use lib.Dec.{eqb, leb}
+use lib.Dec.{leb}
 use lib.ListN.{length, get_or, length-map}
-use borrow.Author.Tests.{eqb-true}
+use Rattle.sheet.proofs.Laws.FieldSections.{is_section, section-is}
+use Rattle.std.specs.Prelude.{None}
 use Rattle.base.proofs.Laws.Truth.{and_left, and_right, or_cases}
 use Rattle.base.specs.Lists.{counted, range}
 use Rattle.base.proofs.Laws.Ranges.{length-counted, counted-at}
 use Rattle.sheet.specs.declared.Counts.{Counts}
 use Rattle.sheet.specs.Inner.Records.{expr_at, statement_row_at}
 use Rattle.sheet.specs.declared.Special.{Special}
-use Rattle.sheet.specs.declared.Field.{Field}
-use Rattle.sheet.specs.Fields.{expr_section, limit_of, KindFields, no_kind, kinds, kind_of}
+use Rattle.sheet.specs.declared.fields.Field.{Field}
+use Rattle.sheet.specs.declared.fields.KindFields.{KindFields}
+use Rattle.sheet.specs.Fields.{expr_section, limit_of, no_kind, kinds, kind_of}
 use Rattle.sheet_facts.specs.Inner.Facts.{Part, SheetFacts}
 use Rattle.sheet.specs.declared.Row.{Row}
 use Rattle.sheet.specs.Inner.Sheet.{row_at, rows_to, sheet_of}
@@ -29,7 +31,7 @@ use Rattle.scope.proofs.Laws.StatementWalks.{statement_in, StatementsOnward}
 -- ---- what the table of kinds says: a part is an expression, and so is a third that is no comprehension's
 
 unfoldable pub part_field : Field → Bool
-part_field f = eqb f.section 0 || eqb f.section expr_section
+part_field f = is_section f.section None || is_section f.section expr_section
 
 parts : ℕ → KindFields → Bool
 parts kind fs =
@@ -47,7 +49,7 @@ parts_at (fs ∷ l) k (suc i) h low =
     let e : k + suc i ≡ suc k + i = omega arith in rw e (parts_at l (suc k) i (and_right (parts k fs) _ h) (omega arith))
 
 kinds_have : parts_from 0 kinds ≡ true
-unfolding parts_from parts part_field kinds
+unfolding parts_from parts part_field is_section kinds
 kinds_have = refl
 
 kinds-length : length kinds ≡ 23
@@ -63,10 +65,10 @@ parts_of_lem kind h = let e : 0 + kind ≡ kind = omega arith in rw e at (parts_
 module _ (c : Counts) (t : List ℕ) (facts : SheetFacts c (in_tables t)) where
   part_onward : (r : ℕ) (f : Field) (v : ℕ) → part_field f ≡ true → Part c (in_tables t) r f v → OnwardTo c.exprs r v
   unfolding part_field
-  part_onward r f v p k = ⊎_elim (λ q. none (eqb-true _ 0 q)) (λ q. some (eqb-true _ expr_section q)) (or_cases _ _ p)
+  part_onward r f v p k = ⊎_elim (λ q. none (section-is _ None q)) (λ q. some (section-is _ expr_section q)) (or_cases _ _ p)
     where
-      none : f.section ≡ 0 → OnwardTo c.exprs r v
-      none z = let low : v ≤ limit_of c 0 = rw z at k.fine.in_range in inl (omega arith)
+      none : f.section ≡ None → OnwardTo c.exprs r v
+      none z = let low : v ≤ limit_of c None = rw z at k.fine.in_range in inl (omega arith)
 
       some : f.section ≡ expr_section → OnwardTo c.exprs r v
       some z = let low : v ≤ limit_of c expr_section = rw z at k.fine.in_range in go v low (k.later z)

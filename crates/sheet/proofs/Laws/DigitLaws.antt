@@ -1,10 +1,9 @@
 -- Laws of `DigitLaws`.
 use mathlib.Core.Path.{◌≡◌, refl, ap}
-use mathlib.Core.Bool.{Bool, true, false, not, and-true, and-false}
+use mathlib.Core.Bool.{Bool, true, false, and-true, and-false}
 use mathlib.Core.List.{List, [], ◌∷◌, ◌++◌}
 use Prim.Native.Nat.{ℕ, ◌+◌, ◌-◌, ◌*◌, ◌≤◌, ◌<◌}
 use native.Mathlib.Omega.{arith}
-use lib.Dec.{eqb}
 use lib.ListN.{length, get_or, drop}
 use borrow.Author.Tests.{le-leb, lt-leb}
 use Rattle.base.specs.Limits as limits
@@ -42,10 +41,6 @@ digits_of-next = by_digits (λ s ds. digit (get_or s (length ds) 0) ≡ false) r
 pub digits_of_split : (s : List ℕ) → s ≡ digits_of s ++ drop (length (digits_of s)) s
 digits_of_split = by_digits (λ s ds. s ≡ ds ++ drop (length ds) s) refl (λ b s e. refl) (λ b s e h. ap (λ (l : List ℕ). b ∷ l) h)
 
-pub digits_of-first : (s : List ℕ) → 0 < length (digits_of s) → get_or (digits_of s) 0 0 ≡ get_or s 0 0
-digits_of-first =
-    by_digits (λ s ds. 0 < length ds → get_or ds 0 0 ≡ get_or s 0 0) (λ h. refl) (λ b s e h. absurd (omega arith)) (λ b s e h l. refl)
-
 -- ---- a number
 
 -- More digits make no smaller value.
@@ -65,17 +60,3 @@ number-plain w d h = rw (d, le-leb (value 0 w) limits.largest_value h) (and-true
 pub number_digits : (w : List ℕ) → all digit w ≡ false → is_number w ≡ false
 unfolding is_number
 number_digits w h = rw h
-
-pub plain-none : (w : List ℕ) → length w ≡ 0 → plain w ≡ false
-plain-none [] h = refl
-plain-none (b ∷ w) h = absurd (omega arith)
-
-pub plain-one : (w : List ℕ) → length w ≡ 1 → plain w ≡ true
-plain-one [] h = absurd (omega arith)
-plain-one (b ∷ []) h = refl
-plain-one (b ∷ c ∷ w) h = absurd (omega arith)
-
-pub plain_more : (w : List ℕ) → 2 ≤ length w → plain w ≡ not (eqb (get_or w 0 0) 48)
-plain_more [] h = absurd (omega arith)
-plain_more (b ∷ []) h = absurd (omega arith)
-plain_more (b ∷ c ∷ w) h = refl

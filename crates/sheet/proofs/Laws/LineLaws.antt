@@ -1,18 +1,18 @@
 -- Laws of `LineLaws`.
 use mathlib.Core.Path.{◌≡◌, refl, sym, ap, ◌∙◌}
-use mathlib.Core.Bool.{true, false, not}
+use mathlib.Core.Bool.{Bool, true, false, not, cond}
 use mathlib.Core.List.{List, [], ◌∷◌, ◌++◌}
 use mathlib.Core.Logic.{⊎_elim}
-use Prim.Native.Nat.{ℕ, suc, ◌+◌, ◌≤◌, ◌<◌}
+use Prim.Native.Nat.{ℕ, suc, ◌+◌, ◌-◌, ◌≤◌, ◌<◌}
 use native.Mathlib.Numerals.{add-one}
 use native.Mathlib.Omega.{arith}
 use lib.Dec.{eqb}
-use lib.ListN.{length, get_or, drop, drop_of_length-le}
-use lib.Seq.{drop-cons}
+use lib.ListN.{length, get_or, take, drop, drop_of_length-le, length-append, length-drop}
+use lib.Seq.{drop-cons, take_at}
 use borrow.Author.Tests.{eqb-true, ne_eqb, not-true}
 use Rattle.base.proofs.Laws.Truth.{bool_cases, lt_cases, not-both, and_left, and_right}
 use Rattle.sheet.specs.Text.{newline, Text, rest, line, push, lines}
-use Rattle.sheet.specs.Inner.Lines.{head_line, after, is_line}
+use Rattle.sheet.specs.Inner.Lines.{LineTo, head_line, after, is_line, line_at}
 use Rattle.sheet.specs.Inner.LineBytes.{no_newline}
 
 pub whole-line : (t : Text) → is_line t ≡ true → t ≡ line (head_line t) (after t)
@@ -106,3 +106,29 @@ module _ (s : List ℕ) (i : ℕ) where
         after = ap (λ (t : List ℕ). after (lines t)) (drop-next h) ∙ p.after;
         is_line = ap (λ (t : List ℕ). is_line (lines t)) (drop-next h) ∙ p.is_line;
       }
+
+-- ---- a line as a part of the bytes
+
+-- The bytes of a text.
+abbrev bytes_of : Text → List ℕ
+bytes_of (rest r) = r
+bytes_of (line l t) = l ++ (newline ∷ bytes_of t)
+
+bytes_of-lines : (s : List ℕ) → bytes_of (lines s) ≡ s
+unfolding lines
+bytes_of-lines [] = refl
+bytes_of-lines (b ∷ s) = go (eqb b newline) refl (lines s) (bytes_of-lines s)
+  where
+    go : (e : Bool) → eqb b newline ≡ e → (t : Text) → bytes_of t ≡ s → bytes_of (cond e (line [] t) (push b t)) ≡ b ∷ s
+    go true e t h = rw (eqb-true b newline e, h)
+    go false e (rest r) h = rw h
+    go false e (line l t) h = rw h
+
+pub line-part : (s : List ℕ) (at next : ℕ) → LineTo s at next → take (next - 1 - at) (drop at s) ≡ line_at s at
+line-part s at next l =
+    let is : drop at s ≡ line_at s at ++ (newline ∷ drop next s) =
+    sym (bytes_of-lines (drop at s)) ∙ ap bytes_of l.line ∙ ap (λ (u : List ℕ). line_at s at ++ (newline ∷ u)) (bytes_of-lines (drop next s)) in
+    let sizes : length s - at ≡ length (line_at s at) + suc (length s - next) =
+    omega (arith, ap length is, length-append (line_at s at) (newline ∷ drop next s), length-drop at s, length-drop next s) in
+    let n : length (line_at s at) ≡ next - 1 - at = omega (arith, sizes, l.inside.0, l.inside.1) in
+    ap (take (next - 1 - at)) is ∙ take_at (line_at s at) (newline ∷ drop next s) (next - 1 - at) n

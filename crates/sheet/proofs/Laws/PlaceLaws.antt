@@ -13,7 +13,7 @@ use Rattle.base.proofs.Laws.Truth.{bool_cases, and_right}
 use Rattle.sheet.specs.declared.Counts.{Counts}
 use Rattle.sheet.specs.Inner.Records.{Within}
 use Rattle.sheet.specs.Sheet.{Rows}
-use Rattle.sheet.specs.declared.Field.{Field}
+use Rattle.sheet.specs.declared.fields.Field.{Field}
 use Rattle.sheet.specs.Fields.{a_query}
 use Rattle.sheet.specs.Naming.{Entry, query_row, statement_row, expr_row, target, place_of, expr_entries, statement_entries, query_entries, Naming}
 use Rattle.sheet.proofs.Laws.Origins.{Origin, by-query, by-statement, by-expr}

@@ -20,8 +20,7 @@ use Rattle.sheet.specs.Naming.{target, place_of, expr_entries, statement_entries
 use Rattle.sheet.specs.Nesting.{grown, enclosing, parent, level_in, level, vars_in, ends_in, all_vars, ends_odd}
 use Rattle.sheet.specs.Faults.{field_fault, entries_fault, is_named_so, is_member, expr_fault, statement_fault, query_fault, path_before, builtin_fault, first_at_fault, first_line}
 use Rattle.sheet.specs.Sheet.{sheet_in}
-use Rattle.sheet.specs.declared.Outcome.{Outcome}
-use Rattle.sheet.specs.Verdict.{number, fault_line, empty_tables, read_tables, fields_fault, asked, verdict}
+use Rattle.sheet.specs.Verdict.{Outcome, number, fault_line, empty_tables, read_tables, fields_fault, asked, verdict}
 
 -- The outcome of a text, where there is room; opened so that it computes.
 unfoldable pub judged_by : Limits → String → Outcome

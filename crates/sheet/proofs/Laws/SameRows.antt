@@ -6,15 +6,18 @@ use Prim.Native.Nat.{ℕ, zero, suc, ◌+◌, ◌≤◌}
 use native.Mathlib.Omega.{arith}
 use lib.Dec.{eqb, leb, ltb}
 use lib.ListN.{get_or}
-use borrow.Author.Tests.{eqb-true, eqb-false, leb-true, ltb-true, ltb-false}
+use borrow.Author.Tests.{eqb-false, leb-true, ltb-true, ltb-false}
 use Rattle.base.proofs.Laws.Truth.{not-both, and_left, and_right, or_left, or_right, and_on, or_on}
 use Rattle.base.proofs.Laws.Members.{all_get_d}
 use Rattle.sheet.specs.declared.Counts.{Counts}
 use Rattle.sheet.specs.declared.Builtin.{Builtin}
 use Rattle.sheet.specs.declared.Row.{Row}
 use Rattle.sheet.specs.Sheet.{Rows}
-use Rattle.sheet.specs.declared.Field.{Field}
-use Rattle.sheet.specs.Fields.{expr_section, limit_of, KindFields, no_kind, kinds, kind_of, FormFields, no_form, forms, form_of}
+use Rattle.sheet.specs.declared.fields.Field.{Field}
+use Rattle.sheet.specs.declared.fields.KindFields.{KindFields}
+use Rattle.sheet.specs.declared.fields.FormFields.{FormFields}
+use Rattle.sheet.specs.Fields.{expr_section, limit_of, no_kind, kinds, kind_of, no_form, forms, form_of}
+use Rattle.sheet.proofs.Laws.FieldSections.{is_section, section-is}
 use Rattle.sheet.specs.Naming.{Entry, query_row, statement_row, expr_row, next_field, expr_entries, statement_entries, query_entries, Naming, namers, in_chain, row_namings, by_queries, by_statements, by_exprs, namings}
 use Rattle.sheet.specs.Nesting.{enclosing, parent, deeper, level_in, level, is_var_at, goes_on, vars_in, ends_in, all_vars, ends_odd}
 use Rattle.sheet.specs.Faults.{not_var, unpaired, misnested, field_fault, entries_fault, is_named_so, is_member, expr_fault, statement_fault, query_fault, path_before, builtin_fault, first_at_fault, first_line}
@@ -36,7 +39,7 @@ abbrev asks_vars : Field → Bool
 asks_vars f = f.var || f.pairs
 
 holds_expr : Field → Bool
-holds_expr f = not (asks_vars f) || eqb f.section expr_section
+holds_expr f = not (asks_vars f) || is_section f.section expr_section
 
 kind_holds_lem : KindFields → Bool
 kind_holds_lem k = holds_expr k.name && (holds_expr k.first && (holds_expr k.second && holds_expr k.third))
@@ -45,11 +48,11 @@ form_holds : FormFields → Bool
 form_holds f = holds_expr f.query && (holds_expr f.first && (holds_expr f.second && holds_expr f.third))
 
 kinds_hold : (k : ℕ) → kind_holds_lem (kind_of k) ≡ true
-unfolding kind_of kinds kind_holds_lem holds_expr
+unfolding kind_of kinds kind_holds_lem holds_expr is_section
 kinds_hold k = all_get_d kind_holds_lem kinds no_kind refl refl k
 
 forms_hold : (k : ℕ) → form_holds (form_of k) ≡ true
-unfolding form_of forms form_holds holds_expr
+unfolding form_of forms form_holds holds_expr is_section
 forms_hold k = all_get_d form_holds forms no_form refl refl k
 
 -- Fields of which that holds.
@@ -58,9 +61,9 @@ Hold f = asks_vars f ≡ true → f.section ≡ expr_section
 
 holds : (f : Field) → holds_expr f ≡ true → Hold f
 unfolding holds_expr
-holds f h v = eqb-true f.section expr_section (go (asks_vars f) v h)
+holds f h v = section-is f.section expr_section (go (asks_vars f) v h)
   where
-    go : (b : Bool) → b ≡ true → (not b || eqb f.section expr_section) ≡ true → eqb f.section expr_section ≡ true
+    go : (b : Bool) → b ≡ true → (not b || is_section f.section expr_section) ≡ true → is_section f.section expr_section ≡ true
     go true p q = q
     go false p q = absurd (not-both p refl)
 

@@ -1,5 +1,5 @@
 -- A text as lines.
-use Rattle.std.specs.Prelude.{Bool, true, false, List, [], ℕ, drop}
+use Rattle.std.specs.Prelude.{◌≡◌, Bool, true, false, List, [], ℕ, ◌≤◌, ◌<◌, length, drop}
 use Rattle.sheet.specs.Text.{Text, rest, line, lines}
 
 -- What a text starts with: its first line, or what stands behind the last newline.
@@ -20,3 +20,8 @@ is_line (line l t) = true
 -- The line at a place.
 abbrev pub line_at : List ℕ → ℕ → List ℕ
 line_at s at = head_line (lines (drop at s))
+
+-- The line at a place ends in front of another.
+pub record LineTo (s : List ℕ) (at next : ℕ) : Type 0 where
+  pub inside : (at < next) × (next ≤ length s)
+  pub line : lines (drop at s) ≡ line (line_at s at) (lines (drop next s))

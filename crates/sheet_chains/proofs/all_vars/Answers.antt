@@ -1,8 +1,10 @@
--- By what the number says.
-use Rattle.sheet_chains.proofs.Laws.Numbers.{number-vars}
+-- By what the chain says.
+use mathlib.Core.Path.{ap, ◌∙◌}
+use Rattle.sheet_chains.specs.declared.chain.Chain.{Chain}
+use Rattle.sheet_chains.proofs.Laws.Numbers.{chain-vars}
 use Rattle.sheet_chains.proofs.all_vars.Goals as goal
 
 pub returns : goal.returns
 returns c =
     let a = c.args in
-    number-vars a.counts a.tables.now a.work.now c.requires.chained a.row c.number_of.result c.number_of.ensures
+    ap (λ (x : Chain). x.vars) c.chain_from.ensures ∙ chain-vars a.counts a.tables.now a.work.now c.requires.chained a.row

@@ -8,7 +8,7 @@ use native.Mathlib.Omega.{arith}
 use Rattle.sheet.specs.declared.Counts.{Counts}
 use Rattle.sheet.specs.Inner.Records.{Within}
 use Rattle.sheet.specs.Sheet.{Rows}
-use Rattle.sheet.specs.declared.Field.{Field}
+use Rattle.sheet.specs.declared.fields.Field.{Field}
 use Rattle.sheet.specs.Fields.{expr_section, limit_of, a_chain, a_statement, or0}
 use Rattle.sheet.specs.Naming.{Entry, query_row, statement_row, expr_row, next_field, expr_entry, statement_entry, expr_entries, statement_entries, query_entries}
 use Rattle.sheet.specs.Faults.{is_member, first_line}

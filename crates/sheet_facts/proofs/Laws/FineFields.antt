@@ -7,12 +7,12 @@ use mathlib.Core.Logic.{◌⊎◌, inl, inr, ⊎_elim}
 use Prim.Native.Nat.{ℕ}
 use native.Mathlib.Omega.{arith}
 use lib.Dec.{eqb, leb, ltb}
-use borrow.Author.Tests.{eqb-true, eqb-false, eq-eqb, leb-false, ltb-false, not-false}
+use borrow.Author.Tests.{eqb-true, eqb-false, leb-false, ltb-false, not-false}
 use Rattle.base.proofs.Laws.Truth.{bool_cases, not-both, neither_left, neither_right}
 use Rattle.sheet.specs.declared.Counts.{Counts}
 use Rattle.base.specs.Limits.{nesting}
 use Rattle.sheet.specs.Sheet.{Rows}
-use Rattle.sheet.specs.Fields.{query_section, limit_of}
+use Rattle.sheet.specs.Fields.{limit_of, for_queries}
 use Rattle.sheet.specs.Naming.{Entry}
 use Rattle.sheet.specs.Nesting.{level}
 use Rattle.sheet.specs.Faults.{not_var, unpaired, misnested, field_fault, entries_fault}
@@ -44,7 +44,7 @@ module _ (c : Counts) (t : Rows) (q : ℕ) where
         in_range = ltb-false (limit_of c f.section) v within;
         is-var = λ p s. not-false _ (not-second f.var _ (neither_left (not_var c t f v) _ rest) s);
         paired = λ p s. not-second f.pairs _ (neither_left (unpaired c t f v) _ rest2) s;
-        nests = λ p s. nested v (not-second (eqb f.section query_section) _ nest (eq-eqb f.section query_section s));
+        nests = λ p s. nested v (not-second (for_queries f.section) _ nest (ap for_queries s));
       }
     where
       nested : (v : ℕ) → (leb v q || (eqb v 1 || leb nesting (level c t q))) ≡ false → Nests c t q v

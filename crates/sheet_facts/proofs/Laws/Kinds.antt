@@ -2,29 +2,29 @@
 use mathlib.Core.Path.{◌≡◌, refl, ap}
 use mathlib.Core.Bool.{Bool, true, false, not, ◌&&◌, ◌||◌}
 use Prim.Native.Nat.{ℕ}
-use lib.Dec.{eqb}
-use borrow.Author.Tests.{eq-eqb}
+use Rattle.sheet.proofs.Laws.FieldSections.{is_section}
 use Rattle.base.proofs.Laws.Truth.{not-both, and_left, and_right}
 use Rattle.base.specs.Lists.{all}
 use Rattle.base.proofs.Laws.Members.{all_get_d}
-use Rattle.sheet.specs.declared.Field.{Field}
-use Rattle.sheet.specs.Fields.{query_section, KindFields, no_kind, kinds, kind_of}
+use Rattle.sheet.specs.declared.fields.Field.{Field}
+use Rattle.sheet.specs.declared.fields.KindFields.{KindFields}
+use Rattle.sheet.specs.Fields.{query_section, for_queries, no_kind, kinds, kind_of}
 use Rattle.sheet_fields.proofs.Laws.Tables.{HoldsQuery, holds_query, holds-query}
 
 -- A term is no query, and stands in a row whose third is one.
 term_with : KindFields → Field → Bool
-term_with k f = not f.term || (not (eqb f.section query_section) && holds_query k.third)
+term_with k f = not f.term || (not (for_queries f.section) && holds_query k.third)
 
 terms : KindFields → Bool
 terms k = term_with k k.name && (term_with k k.first && (term_with k k.second && term_with k k.third))
 
 terms_in_kinds : all terms kinds ≡ true
-unfolding kinds terms term_with
+unfolding kinds terms term_with is_section
 terms_in_kinds = refl
 
 module _ (kind : ℕ) where
   terms_in_kind : terms (kind_of kind) ≡ true
-  unfolding kind_of terms term_with
+  unfolding kind_of terms term_with is_section
   terms_in_kind = all_get_d terms kinds no_kind terms_in_kinds refl kind
 
   -- What holds of a field of the kind.
@@ -39,11 +39,11 @@ module _ (kind : ℕ) where
       go : (b : Bool) → f.term ≡ b → Termed f
       go false p = record { third-is_query = λ q. absurd (not-both q p); query_is_no_term = λ q. p }
       go true p =
-          let both : (not (eqb f.section query_section) && holds_query (kind_of kind).third) ≡ true = rw p at h in
+          let both : (not (for_queries f.section) && holds_query (kind_of kind).third) ≡ true = rw p at h in
           record {
-            third-is_query = λ q. holds-query (kind_of kind).third (and_right (not (eqb f.section query_section)) _ both);
+            third-is_query = λ q. holds-query (kind_of kind).third (and_right (not (for_queries f.section)) _ both);
             query_is_no_term = λ q.
-                absurd (not-both (and_left (not (eqb f.section query_section)) _ both) (ap not (eq-eqb f.section query_section q)));
+                absurd (not-both (and_left (not (for_queries f.section)) _ both) (ap not (ap for_queries q)));
           }
 
   pub termed_name : Termed (kind_of kind).name

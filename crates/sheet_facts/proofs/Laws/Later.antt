@@ -6,6 +6,8 @@ use Prim.Native.Nat.{ℕ, zero, suc, ◌≤◌, ◌<◌}
 use native.Mathlib.Omega.{arith}
 use lib.Dec.{eqb}
 use borrow.Author.Tests.{eq-eqb, le-leb, lt-ltb}
+use Rattle.sheet.specs.declared.fields.Section.{Section}
+use Rattle.std.specs.Prelude.{Option}
 use Rattle.base.specs.Limits as limits
 use Rattle.base.proofs.Laws.Members.{mem_filter}
 use Rattle.sheet.specs.declared.Counts.{Counts}
@@ -38,8 +40,8 @@ module _ (c : Counts) (t : Rows) (few : Within c) (ok : FineRows c t) where
       → e.field.section ≡ expr_section → 1 ≤ e.value → r < e.value
   expr-later r a b {e} m s v =
       let row = fine-expr_row c t r (ok.fine-expr r a b) in
-      let high : e.value ≤ c.exprs = subst (λ (k : ℕ). e.value ≤ limit_of c k) s (row.fields m).in_range in
-      let to : target_of c e ≡ expr_row e.value = target_in c e v (row.fields m).in_range ∙ ap (λ (k : ℕ). row_in k e.value) s in
+      let high : e.value ≤ c.exprs = subst (λ (k : Option Section). e.value ≤ limit_of c k) s (row.fields m).in_range in
+      let to : target_of c e ≡ expr_row e.value = target_in c e v (row.fields m).in_range ∙ ap (λ (k : Option Section). row_in k e.value) s in
       let named : Memᴰ (naming_of c (expr_row r) e) (namings c t) = at_suc r a b m (λ z. omega arith) in
       let so = (fine-expr_row c t e.value (ok.fine-expr e.value v high)).named in
       let l = larger (expr_row r) (expr_row e.value) (naming_of c (expr_row r) e) refl to (omega arith) named so in
@@ -54,8 +56,8 @@ module _ (c : Counts) (t : Rows) (few : Within c) (ok : FineRows c t) where
       → e.field.section ≡ statement_section → 1 ≤ e.value → s < e.value
   statement-later s a b {e} m sec v =
       let row = fine-statement_row c t s (ok.fine-statement s a b) in
-      let high : e.value ≤ c.statements = subst (λ (k : ℕ). e.value ≤ limit_of c k) sec (row.fields m).in_range in
-      let to : target_of c e ≡ statement_row e.value = target_in c e v (row.fields m).in_range ∙ ap (λ (k : ℕ). row_in k e.value) sec in
+      let high : e.value ≤ c.statements = subst (λ (k : Option Section). e.value ≤ limit_of c k) sec (row.fields m).in_range in
+      let to : target_of c e ≡ statement_row e.value = target_in c e v (row.fields m).in_range ∙ ap (λ (k : Option Section). row_in k e.value) sec in
       let named : Memᴰ (naming_of c (statement_row s) e) (namings c t) = at_suc s a b m (λ z. omega arith) in
       let so = (fine-statement_row c t e.value (ok.fine-statement e.value v high)).named in
       let l = larger (statement_row s) (statement_row e.value) (naming_of c (statement_row s) e) refl to (omega arith) named so in

@@ -5,15 +5,18 @@ use mathlib.Core.List.{Memᴰ}
 use mathlib.Core.Logic.{◌⊎◌, inl, inr}
 use Prim.Native.Nat.{ℕ, zero, suc, ◌+◌, ◌-◌, ◌≤◌, ◌<◌}
 use native.Mathlib.Omega.{arith}
-use lib.Dec.{eqb, ltb}
-use borrow.Author.Tests.{eqb-true, eq-eqb, ne_eqb, ltb-true}
+use lib.Dec.{ltb}
+use borrow.Author.Tests.{eq-eqb, ne_eqb, ltb-true}
+use Rattle.std.specs.Prelude.{Option, Some, None}
+use Rattle.sheet.specs.declared.fields.Section.{Section}
+use Rattle.sheet.specs.declared.fields.Section.TheVariants as section
 use Rattle.base.specs.Limits as limits
-use Rattle.base.proofs.Laws.Truth.{bool_cases, eq_cases, and_left}
+use Rattle.base.proofs.Laws.Truth.{bool_cases, eq_cases, not-both, and_left}
 use Rattle.sheet.specs.declared.Counts.{Counts}
 use Rattle.sheet.specs.Inner.Records.{Within}
 use Rattle.base.specs.Limits.{nesting}
 use Rattle.sheet.specs.Sheet.{Rows}
-use Rattle.sheet.specs.Fields.{expr_section, statement_section, query_section}
+use Rattle.sheet.specs.Fields.{statement_section, query_section, for_queries}
 use Rattle.sheet.specs.Naming.{Entry, statement_row, expr_row, row_in, in_range, target, query_entries, Naming, namings}
 use Rattle.sheet.specs.Nesting.{parent, level_in, level, deeper}
 use Rattle.sheet.specs.Faults.{is_named_so}
@@ -30,15 +33,12 @@ use Rattle.sheet_facts.specs.Inner.Levels.{NestedIn}
 -- ---- a field that names a query
 
 module _ (c : Counts) where
-  row_of-query : (s v : ℕ) → 0 < v → (row_in s v ≡ 0 → ⊥) → row_in s v ≤ limits.most_queries → (s ≡ query_section) × (row_in s v ≡ v)
-  row_of-query s v p n l = go (bool_cases (eqb s expr_section)) (bool_cases (eqb s statement_section)) (bool_cases (eqb s query_section))
-    where
-      go : (eqb s expr_section ≡ true) ⊎ (eqb s expr_section ≡ false) → (eqb s statement_section ≡ true) ⊎ (eqb s statement_section ≡ false)
-          → (eqb s query_section ≡ true) ⊎ (eqb s query_section ≡ false) → (s ≡ query_section) × (row_in s v ≡ v)
-      go (inl a) b d = let w : expr_row v ≤ limits.most_queries = rw a at l in absurd (omega arith)
-      go (inr a) (inl b) d = let w : statement_row v ≤ limits.most_queries = rw (a, b) at l in absurd (omega arith)
-      go (inr a) (inr b) (inl d) = (eqb-true s query_section d, rw (a, b, d))
-      go (inr a) (inr b) (inr d) = absurd (n (rw (a, b, d)))
+  row_of-query : (s : Option Section) (v : ℕ) → 0 < v → (row_in s v ≡ 0 → ⊥) → row_in s v ≤ limits.most_queries → (s ≡ query_section) × (row_in s v ≡ v)
+  row_of-query None v p n l = absurd (n refl)
+  row_of-query (Some section.Name) v p n l = absurd (n refl)
+  row_of-query (Some section.Expression) v p n l = absurd (omega arith)
+  row_of-query (Some section.Statement) v p n l = absurd (omega arith)
+  row_of-query (Some section.Query) v p n l = (refl, refl)
 
   target_of-query : (e : Entry) (q : ℕ) → (target_of c e ≡ 0 → ⊥) → target_of c e ≡ q → q ≤ limits.most_queries
       → (e.field.section ≡ query_section) × (e.value ≡ q)
@@ -92,7 +92,7 @@ module _ (c : Counts) (t : Rows) (few : Within c) (ok : FineRows c t) where
             let to : target_of c e ≡ q = sym (ap (λ (y : Naming). y.to) d.same) ∙ the_naming.to_row in
             let s = (target_of-query c e q d.names to (omega arith)).0 in
             let z = statement-section c t p m in
-            absurd (omega arith)
+            absurd (not-both (ap for_queries s) (ap for_queries z))
         go (by-statement s e a b m d) =
             let small = few.few-queries in
             let to : target_of c e ≡ q = sym (ap (λ (y : Naming). y.to) d.same) ∙ the_naming.to_row in

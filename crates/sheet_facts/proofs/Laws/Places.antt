@@ -4,10 +4,12 @@ use mathlib.Core.Bool.{Bool, true, false}
 use mathlib.Core.List.{Memᴰ}
 use Prim.Native.Nat.{ℕ, ◌≤◌}
 use borrow.Author.Tests.{le-leb, lt-ltb}
+use Rattle.sheet.specs.declared.fields.Section.{Section}
+use Rattle.std.specs.Prelude.{Option}
 use Rattle.base.proofs.Laws.Truth.{not-both}
 use Rattle.sheet.specs.declared.Counts.{Counts}
 use Rattle.sheet.specs.Sheet.{Rows}
-use Rattle.sheet.specs.declared.Field.{Field}
+use Rattle.sheet.specs.declared.fields.Field.{Field}
 use Rattle.sheet.specs.Fields.{query_section, limit_of, a_query, kind_of}
 use Rattle.sheet_fields.proofs.Laws.Tables.{HoldsQuery}
 use Rattle.sheet.specs.Naming.{Entry, expr_row, target, place_of, next_field, expr_entry, expr_entries}
@@ -38,7 +40,7 @@ module _ (c : Counts) (t : Rows) where
     third-set e =
         let f = x.fields {e = expr_entry c t r (kind_of kind).third (t.expr r).third}
         (Memᴰ.tail (Memᴰ.tail (Memᴰ.tail (Memᴰ.head refl)))) in
-        (f.is_set e.1, subst (λ (s : ℕ). (t.expr r).third ≤ limit_of c s) e.0 f.in_range)
+        (f.is_set e.1, subst (λ (s : Option Section). (t.expr r).third ≤ limit_of c s) e.0 f.in_range)
 
     lies : (f : Field) (v : ℕ) → Termed kind f → LiesAt r (expr_entry c t r f v)
     unfolding place_of

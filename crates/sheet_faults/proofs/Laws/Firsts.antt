@@ -10,9 +10,6 @@ use Rattle.sheet.specs.Form.{line_of, line_or}
 use Rattle.sheet.specs.Faults.{first_at_fault, listed}
 
 module _ (f : ℕ → Bool) (n : ℕ) where
-  pub first-start : first_at_fault f 1 (n + 1 - 1) ≡ first_at_fault f 1 n
-  first-start = let e : n + 1 - 1 ≡ n = omega arith in ap (first_at_fault f 1) e
-
   module _ (r : ℕ) where
     first-at : r ≤ n → cond (f r) r (first_at_fault f (r + 1) (n + 1 - (r + 1))) ≡ first_at_fault f r (n + 1 - r)
     unfolding first_at_fault

@@ -14,22 +14,9 @@ use Rattle.sheet.specs.Nesting.{enclosing}
 use Rattle.sheet_marks.specs.Inner.Codes.{code_of}
 use Rattle.sheet_marks.proofs.Laws.Codes.{code_so, code-member}
 use Rattle.sheet_marks.specs.Inner.Homes.{SettledHomes}
-use Rattle.sheet_marks.proofs.Laws.Homes.{settled_same}
 use Rattle.sheet_chains.specs.Inner.Numbers.{Followed}
 use Rattle.sheet.specs.Inner.Rows.{in_tables}
 use Rattle.sheet_faults.specs.Inner.Known.{Known}
-
--- The chains are followed when the rows are marked.
-pub known_so : (c : Counts) (t w u : List ℕ) → limits.table_entries ≤ length t → Within c → SettledHomes (namings c (in_tables t)) (expr_row c.exprs) w
-    → Followed c t w u → Known c t u
-known_so c t w u tables within marks followed = record {
-  tables = tables;
-  within = within;
-  marks =
-      settled_same (namings c (in_tables t)) (expr_row c.exprs) w u (omega (arith, followed.chains.room)) followed.marks
-      (omega (arith, within.few-exprs)) marks;
-  chains = followed.chains;
-}
 
 module _ (c : Counts) (t w : List ℕ) (known : Known c t w) (k : ℕ) where
   pub so_is : k < sizes.per_row → eqb (get_or w k 0 % 4) 1 ≡ named_so k (namers k (namings c (in_tables t)))

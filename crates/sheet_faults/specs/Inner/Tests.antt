@@ -1,20 +1,19 @@
 -- The tests of a row as the code makes them: of a row that is in hand, and its mark.
-use Rattle.std.specs.Prelude.{Bool, false, not, cond, ◌&&◌, ◌||◌, List, ℕ, zero, suc, ◌/◌, ◌%◌, eqb, leb, ltb}
+use Rattle.std.specs.Prelude.{Bool, false, not, ◌&&◌, ◌||◌, List, ℕ, zero, suc, eqb, ltb}
 use Rattle.base.specs.Limits.{most_arity}
 use Rattle.sheet.specs.declared.Counts.{Counts}
 use Rattle.sheet.specs.declared.Builtin.{Builtin}
 use Rattle.sheet.specs.declared.Row.{Row}
 use Rattle.sheet.specs.declared.Statement.{Statement}
 use Rattle.sheet.specs.Inner.Records.{builtin_at}
-use Rattle.sheet.specs.declared.Field.{Field}
-use Rattle.sheet_fields.specs.Inner.Packed.{field_from, first, second, third, kind_fields, form_fields, chain_or_none, statement_or_none}
-use Rattle.sheet.specs.Naming.{expr_row}
+use Rattle.sheet.specs.declared.fields.Field.{Field}
+use Rattle.sheet.specs.declared.fields.KindFields.{KindFields}
+use Rattle.sheet.specs.declared.fields.FormFields.{FormFields}
+use Rattle.sheet.specs.Fields.{a_chain, a_statement, or0, kind_of, form_of}
+use Rattle.sheet.specs.Naming.{next_field}
 use Rattle.sheet.specs.Faults.{field_fault}
-use Rattle.sheet_levels.specs.Inner.Levels.{level_by}
+use Rattle.sheet_marks.specs.Inner.Codes.{code_so, code_member, code_place}
 use Rattle.sheet.specs.Inner.Rows.{in_tables}
-
-unfoldable pub misnested_by : Counts → List ℕ → Field → ℕ → ℕ → Bool
-misnested_by c w f v q = eqb f.section 4 && (leb v q || (eqb v 1 || leb 8 (level_by (expr_row c.exprs) w c.queries q)))
 
 -- Has a row a part?
 abbrev pub parts_in : Row → Bool
@@ -25,34 +24,32 @@ module _ (c : Counts) (t : List ℕ) where
   abbrev pub fault_in : ℕ → Field → ℕ → Bool
   fault_in q f v = field_fault c (in_tables t) q (record { field = f; value = v; place = 0 })
 
-  abbrev pub fault_by : ℕ → ℕ → ℕ → Bool
-  fault_by q holds v = fault_in q (field_from holds) v
-
   -- ---- the fields of a row
 
-  unfoldable pub parts_by : ℕ → ℕ → ℕ → Row → Bool
-  parts_by q fs next x =
-      fault_by q fs x.name || (fault_by q (fs / first) x.first || (fault_by q (fs / second) x.second
-      || (fault_by q (fs / third) x.third || (fault_by q next x.next || false))))
+  unfoldable pub parts_by : ℕ → KindFields → Row → Bool
+  parts_by q fs x = fault_in q fs.first x.first || (fault_in q fs.second x.second || fault_in q fs.third x.third)
 
-  unfoldable pub fields_by : ℕ → ℕ → Statement → Bool
-  fields_by q fs x =
-      fault_by q fs x.query || (fault_by q (fs / first) x.first || (fault_by q (fs / second) x.second
-      || (fault_by q (fs / third) x.third || (fault_by q chain_or_none x.with || (fault_by q statement_or_none x.next || false)))))
+  unfoldable pub expr_fields_by : ℕ → Bool → Row → Bool
+  expr_fields_by q member x =
+      let fs = kind_of x.kind in fault_in q fs.name x.name || (parts_by q fs x || fault_in q (next_field member) x.next)
+
+  unfoldable pub statement_fields_by : ℕ → FormFields → Statement → Bool
+  statement_fields_by q fs x =
+      fault_in q fs.query x.query || (fault_in q fs.first x.first || (fault_in q fs.second x.second
+      || (fault_in q fs.third x.third || (fault_in q (or0 a_chain) x.with || fault_in q (or0 a_statement) x.next))))
 
   -- ---- a row with mark v
 
   unfoldable pub expr_fault_by : ℕ → Row → Bool
   expr_fault_by v x =
-      not (eqb (v % 4) 1) || ((eqb x.kind 0 || ltb 22 x.kind)
-      || parts_by (v / 8) (kind_fields x.kind) (cond (eqb (v / 4 % 2) 1) chain_or_none 0) x)
+      not (code_so v) || ((eqb x.kind 0 || ltb 22 x.kind) || expr_fields_by (code_place v) (code_member v) x)
 
-  unfoldable pub statement_by : ℕ → Statement → Bool
-  statement_by v x =
-      not (eqb (v % 4) 1) || ((eqb x.form 0 || ltb 5 x.form) || fields_by (v / 8) (form_fields x.form) x)
+  unfoldable pub statement_fault_by : ℕ → Statement → Bool
+  statement_fault_by v x =
+      not (code_so v) || ((eqb x.form 0 || ltb 5 x.form) || statement_fields_by (code_place v) (form_of x.form) x)
 
-  unfoldable pub query_by : ℕ → ℕ → ℕ → Bool
-  query_by v q s = (not (eqb q 1) && not (eqb (v % 4) 1)) || (fault_by q statement_or_none s || false)
+  unfoldable pub query_fault_by : ℕ → ℕ → ℕ → Bool
+  query_fault_by v q s = (not (eqb q 1) && not (code_so v)) || fault_in q (or0 a_statement) s
 
 -- ---- built-ins
 

@@ -5,21 +5,18 @@ use mathlib.Core.List.{List}
 use mathlib.Core.Logic.{◌⊎◌, inl, inr, ⊎_elim}
 use Prim.Native.Nat.{ℕ, zero, suc, ◌≤◌}
 use native.Mathlib.Omega.{arith}
-use lib.Dec.{eqb}
 use lib.ListN.{length, get_or, get_or-eq_default}
-use borrow.Author.Tests.{eqb-true}
+use Rattle.std.specs.Prelude.{None}
 use Rattle.base.proofs.Laws.Truth.{and_left, and_right, or_cases}
 use Rattle.base.specs.Lists.{all}
 use Rattle.base.proofs.Laws.Members.{all_get_d}
-use Rattle.sheet.specs.declared.Field.{Field}
-use Rattle.sheet.specs.Fields.{name_section, query_section, KindFields, no_kind, kinds, kind_of}
+use Rattle.sheet.specs.declared.fields.Field.{Field}
+use Rattle.sheet.specs.declared.fields.KindFields.{KindFields}
+use Rattle.sheet.specs.Inner.Kinds.{NoArm}
+use Rattle.sheet.proofs.Laws.FieldSections.{is_section, section-is}
+use Rattle.sheet.specs.Fields.{name_section, query_section, no_kind, kinds, kind_of}
 
--- ---- a `match` that has an arm for each number of a table from 1 on
-
--- The number `k` is none from 1 to `n`, as the last arm knows it.
-abbrev pub NoArm : ℕ → ℕ → Type 0
-NoArm zero k = Unit
-NoArm (suc n) k = NoArm n k × (k ≡ suc n → ⊥)
+-- ---- a number that is none from 1 on to the end of a table
 
 past : (n k : ℕ) → NoArm n (suc k) → n ≤ k
 past zero k h = omega arith
@@ -38,19 +35,19 @@ left_over l d n (suc k) short z h =
 -- ---- what all numbers of a table have in common
 
 name_or_nothing : KindFields → Bool
-name_or_nothing k = eqb k.name.section name_section || eqb k.name.section 0
+name_or_nothing k = is_section k.name.section name_section || is_section k.name.section None
 
 names_in_kinds : all name_or_nothing kinds ≡ true
-unfolding name_or_nothing kinds
+unfolding name_or_nothing kinds is_section
 names_in_kinds = refl
 
 -- The `name` of a row is a name, or nothing.
-pub name_in_kind : (kind : ℕ) → ((kind_of kind).name.section ≡ name_section) ⊎ ((kind_of kind).name.section ≡ 0)
-unfolding kind_of name_or_nothing
+pub name_in_kind : (kind : ℕ) → ((kind_of kind).name.section ≡ name_section) ⊎ ((kind_of kind).name.section ≡ None)
+unfolding kind_of name_or_nothing is_section
 name_in_kind kind =
     let section = (kind_of kind).name.section in
-    ⊎_elim (λ p. inl (eqb-true section name_section p)) (λ p. inr (eqb-true section 0 p))
-    (or_cases (eqb section name_section) (eqb section 0) (all_get_d name_or_nothing kinds no_kind names_in_kinds refl kind))
+    ⊎_elim (λ p. inl (section-is section name_section p)) (λ p. inr (section-is section None p))
+    (or_cases (is_section section name_section) (is_section section None) (all_get_d name_or_nothing kinds no_kind names_in_kinds refl kind))
 
 -- ---- a query, and set
 
@@ -58,7 +55,7 @@ abbrev pub HoldsQuery : Field → Type 0
 HoldsQuery f = (f.section ≡ query_section) × (f.set ≡ true)
 
 abbrev pub holds_query : Field → Bool
-holds_query f = eqb f.section query_section && f.set
+holds_query f = is_section f.section query_section && f.set
 
 pub holds-query : (f : Field) → holds_query f ≡ true → HoldsQuery f
-holds-query f h = (eqb-true f.section query_section (and_left (eqb f.section query_section) _ h), and_right (eqb f.section query_section) _ h)
+holds-query f h = (section-is f.section query_section (and_left (is_section f.section query_section) _ h), and_right (is_section f.section query_section) _ h)

@@ -1,36 +1,32 @@
--- In each arm the number is known, and the definition computes; past the table's end a form lists nothing.
-use mathlib.Core.Path.{◌≡◌, refl, sym, ap}
-use mathlib.Core.List.{map}
+-- In each arm the number is known, and the table computes; past its end a form lists nothing.
+use mathlib.Core.Path.{◌≡◌, refl, sym, ap, subst}
+use mathlib.Core.Logic.{⊎_elim}
 use Prim.Native.Nat.{ℕ}
 use native.Mathlib.Omega.{arith}
+use Rattle.sheet.specs.Inner.Kinds.{FormNumbered}
+use Rattle.sheet.specs.Fields.{forms, form_of}
 use Rattle.sheet_fields.proofs.Laws.Tables.{left_over}
-use Rattle.sheet.specs.Fields.{forms}
-use Rattle.sheet_fields.specs.Inner.Packed.{packed_form, form_fields}
 use Rattle.sheet_fields.proofs.of_form.Goals as goal
 
-known : {k n : ℕ} → k ≡ n → form_fields n ≡ form_fields k
-known e = ap form_fields (sym e)
+known : {n k : ℕ} → n ≡ k → form_of k ≡ form_of n
+known e = ap form_of (sym e)
 
-pub returns-in_default : goal.returns-in_default
-unfolding forms form_fields
-returns-in_default c = left_over (map packed_form forms) 0 5 c.args.form (omega arith) refl c.in_default.in_default-own.rest
+pub returns-in-SomeVars : goal.returns-in-SomeVars
+unfolding forms form_of
+returns-in-SomeVars c = λ number h. known (subst (FormNumbered number) c.in-SomeVars.is h)
 
-pub returns-in-1 : goal.returns-in-1
-unfolding forms form_fields
-returns-in-1 c = known c.in-1.is
+pub returns-in-SomeIn : goal.returns-in-SomeIn
+unfolding forms form_of
+returns-in-SomeIn c = λ number h. known (subst (FormNumbered number) c.in-SomeIn.is h)
 
-pub returns-in-2 : goal.returns-in-2
-unfolding forms form_fields
-returns-in-2 c = known c.in-2.is
+pub returns-in-Expr : goal.returns-in-Expr
+unfolding forms form_of
+returns-in-Expr c = λ number h. ⊎_elim (λ is. known (subst (FormNumbered number) is h)) (λ is. known (subst (FormNumbered number) is h)) c.in-Expr.is
 
-pub returns-in-3 : goal.returns-in-3
-unfolding forms form_fields
-returns-in-3 c = known c.in-3.is
+pub returns-in-Every : goal.returns-in-Every
+unfolding forms form_of
+returns-in-Every c = λ number h. known (subst (FormNumbered number) c.in-Every.is h)
 
-pub returns-in-4 : goal.returns-in-4
-unfolding forms form_fields
-returns-in-4 c = known c.in-4.is
-
-pub returns-in-5 : goal.returns-in-5
-unfolding forms form_fields
-returns-in-5 c = known c.in-5.is
+pub returns-in-Unknown : goal.returns-in-Unknown
+unfolding forms form_of
+returns-in-Unknown c = λ number h. left_over forms _ 5 number (omega arith) refl (subst (FormNumbered number) c.in-Unknown.is h)

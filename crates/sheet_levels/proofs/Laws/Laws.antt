@@ -110,16 +110,7 @@ after-deeper : (s l : ℕ) → level_after s (deeper l) ≡ level_after (s + 1) 
 after-deeper s zero = refl
 after-deeper s (suc l) = omega arith
 
-after_none : (l : ℕ) → level_after 0 l ≡ l
-after_none zero = refl
-after_none (suc l) = omega arith
-
 module _ (last : ℕ) (w : List ℕ) (n s q : ℕ) where
-  pub walk_start : level_after 0 (level_by last w (n - 0) q) ≡ level_by last w n q
-  walk_start =
-      let e : n - 0 ≡ n = omega arith in
-      ap (λ (k : ℕ). level_after 0 (level_by last w k q)) e ∙ after_none (level_by last w n q)
-
   pub walk-found : s < n → q ≡ 1 → s + 1 ≡ level_after s (level_by last w (n - s) q)
   unfolding level_by
   walk-found h e =

@@ -1,25 +1,19 @@
 -- The level of q is that of the query that the loop came to, some steps up.
-use borrow.Author.Rules.{rules}
 use mathlib.Core.Path.{ap, ◌∙◌}
 use Prim.Native.Nat.{ℕ, ◌+◌, ◌-◌}
-use native.Mathlib.Omega.{arith}
 use Rattle.sheet_levels.specs.Inner.Levels.{level_by}
 use Rattle.sheet_levels.proofs.Laws.Levels.{level_after}
-use Rattle.sheet_levels.proofs.Laws.Laws.{walk_start, walk-found, walk_on, walk-done}
+use Rattle.sheet_levels.proofs.Laws.Laws.{walk-found, walk_on, walk-done}
 use Rattle.sheet_levels.proofs.level.Goals as goal
-
-pub loop-steps-init : goal.loop-steps-init
-loop-steps-init c =
-    let a = c.args in (search rules, walk_start a.last a.work.now a.n 0 a.q)
 
 pub returns-then-at-eq1 : goal.returns-then-at-eq1
 returns-then-at-eq1 c =
-    let a = c.args in let l = c.loop-steps in walk-found a.last a.work.now a.n l.steps l.at c.loop-steps-test.true c.if-at-eq1.true ∙ l.invariant.1
+    let a = c.args in let l = c.loop-steps in walk-found a.last a.work.now a.n l.steps l.at c.loop-steps-test.true c.if-at-eq1.true ∙ l.invariant
 
 pub loop-steps-preserved : goal.loop-steps-preserved
 loop-steps-preserved c =
-    let a = c.args in let l = c.loop-steps in (omega arith, ap (λ (p : ℕ). level_after (l.steps + 1) (level_by a.last a.work.now (a.n - (l.steps + 1)) p)) c.parent-at.ensures ∙ walk_on a.last a.work.now a.n l.steps l.at c.loop-steps-test.true c.if-at-eq1.false ∙ l.invariant.1)
+    let a = c.args in let l = c.loop-steps in ap (λ (p : ℕ). level_after (l.steps + 1) (level_by a.last a.work.now (a.n - (l.steps + 1)) p)) c.parent-at.ensures ∙ walk_on a.last a.work.now a.n l.steps l.at c.loop-steps-test.true c.if-at-eq1.false ∙ l.invariant
 
 pub returns : goal.returns
 returns c =
-    let a = c.args in let l = c.loop-steps in walk-done a.last a.work.now a.n l.steps l.at c.loop-steps-test.false ∙ l.invariant.1
+    let a = c.args in let l = c.loop-steps in walk-done a.last a.work.now a.n l.steps l.at c.loop-steps-test.false ∙ l.invariant

@@ -58,13 +58,6 @@ many-some : (b : Bool) → eqb (cond b 6 2) 0 ≡ false
 many-some true = refl
 many-some false = refl
 
-or-code : (a up chain : Bool) → ◌≡◌ {A = ℕ} (cond (a || (chain && up)) 6 2) (cond a 6 (cond up (cond chain 6 2) 2))
-or-code true up chain = refl
-or-code false true true = refl
-or-code false true false = refl
-or-code false false true = refl
-or-code false false false = refl
-
 pub code-snoc : (k : ℕ) (xs : List Naming) (x : Naming)
     → code_of k (xs ++ (x ∷ [])) ≡ next_code (code_of k xs) (upwards x.by k) x.chain x.place
 unfolding next_code
@@ -73,10 +66,8 @@ code-snoc k (y ∷ []) x =
     ap (λ (b : Bool). cond b 6 2)
     (in_chain-append k (y ∷ []) (x ∷ []) ∙ ap (λ (b : Bool). b || in_chain k (x ∷ [])) (chain-one k y)
     ∙ ap (λ (b : Bool). (y.chain && upwards y.by k) || b) (chain-one k x))
-    ∙ or-code (y.chain && upwards y.by k) (upwards x.by k) x.chain
     ∙ sym (rw (once-some (upwards y.by k) y.chain y.place, once-member (upwards y.by k) y.chain y.place))
 code-snoc k (y ∷ z ∷ ys) x =
     ap (λ (b : Bool). cond b 6 2)
     (in_chain-append k (y ∷ z ∷ ys) (x ∷ []) ∙ ap (λ (b : Bool). in_chain k (y ∷ z ∷ ys) || b) (chain-one k x))
-    ∙ or-code (in_chain k (y ∷ z ∷ ys)) (upwards x.by k) x.chain
     ∙ sym (rw (many-some (in_chain k (y ∷ z ∷ ys)), many-member (in_chain k (y ∷ z ∷ ys))))

@@ -29,17 +29,6 @@ settled-start ns w m = record {
   homes = λ j h l. absurd (omega arith);
 }
 
--- Only the first numbers are marks.
-pub settled_same : (ns : List Naming) (n : ℕ) (w u : List ℕ) → sizes.per_row ≤ length u → ((j : ℕ) → j < sizes.per_row → get_or u j 0 ≡ get_or w j 0)
-    → n < sizes.per_row → SettledHomes ns n w → SettledHomes ns n u
-settled_same ns n w u room same small s = record {
-  room = room;
-  low = λ j h. ap (λ (v : ℕ). v % 8) (same j h) ∙ s.low j h;
-  queries = λ j h. same j (omega arith) ∙ s.queries j h;
-  later = λ j h l. same j h ∙ s.later j h l;
-  homes = λ j h l. ap (λ (v : ℕ). v / 8) (same j (omega arith)) ∙ s.homes j h l;
-}
-
 -- ---- what a mark becomes
 
 once_home : (up chain : Bool) (p h : ℕ) → settled (once_of up chain p) h / 8 ≡ cond up h 0

@@ -9,11 +9,14 @@ use lib.Dec.{eqb, ltb}
 use lib.ListN.{get_or, set, length-set}
 use lib.Seq.{get_or-set_same, get_or-set_other}
 use borrow.Author.Tests.{eqb-true, eqb-false, eq-eqb, ne_eqb, leb-true}
+use Rattle.std.specs.Prelude.{Option, Some, None}
 use Rattle.base.specs.Inner.Sizes as sizes
 use Rattle.base.proofs.Laws.Truth.{bool_cases, and_right}
 use Rattle.sheet.specs.declared.Counts.{Counts}
 use Rattle.sheet.specs.Inner.Records.{Within}
-use Rattle.sheet.specs.declared.Field.{Field}
+use Rattle.sheet.specs.declared.fields.Section.{Section}
+use Rattle.sheet.specs.declared.fields.Section.TheVariants as section
+use Rattle.sheet.specs.declared.fields.Field.{Field}
 use Rattle.sheet.specs.Fields.{limit_of}
 use Rattle.sheet.specs.Naming.{Entry, row_in, in_range, target, Naming, namers, upwards, entry_naming, row_namings}
 use Rattle.sheet.proofs.Laws.Laws.{namers-append}
@@ -24,15 +27,12 @@ use Rattle.sheet_marks.specs.Inner.Marks.{Marks, name_work, row_work}
 -- ---- the row that a field names is one of them
 
 module _ (c : Counts) (within : Within c) where
-  row-bound : (s v : ℕ) → v ≤ limit_of c s → row_in s v ≤ sizes.named_rows
-  row-bound s v h = go (bool_cases (eqb s 2)) (bool_cases (eqb s 3)) (bool_cases (eqb s 4))
-    where
-      go : (eqb s 2 ≡ true) ⊎ (eqb s 2 ≡ false) → (eqb s 3 ≡ true) ⊎ (eqb s 3 ≡ false) → (eqb s 4 ≡ true) ⊎ (eqb s 4 ≡ false)
-          → row_in s v ≤ sizes.named_rows
-      go (inl p) q r = let l : v ≤ c.exprs = subst (λ (k : ℕ). v ≤ limit_of c k) (eqb-true s 2 p) h in rw p (omega arith)
-      go (inr p) (inl q) r = let l : v ≤ c.statements = subst (λ (k : ℕ). v ≤ limit_of c k) (eqb-true s 3 q) h in rw (p, q) (omega arith)
-      go (inr p) (inr q) (inl r) = let l : v ≤ c.queries = subst (λ (k : ℕ). v ≤ limit_of c k) (eqb-true s 4 r) h in rw (p, q, r) (omega arith)
-      go (inr p) (inr q) (inr r) = rw (p, q, r) (omega arith)
+  row-bound : (s : Option Section) (v : ℕ) → v ≤ limit_of c s → row_in s v ≤ sizes.named_rows
+  row-bound None v h = omega arith
+  row-bound (Some section.Name) v h = omega arith
+  row-bound (Some section.Expression) v h = omega (arith, within.few-exprs)
+  row-bound (Some section.Statement) v h = omega (arith, within.few-statements)
+  row-bound (Some section.Query) v h = omega (arith, within.few-queries)
 
   pub target-bound : (f : Field) (v : ℕ) → target c f v ≤ sizes.named_rows
   unfolding target

@@ -3,7 +3,7 @@ use Rattle.std.specs.Prelude.{Bool, List, [], ◌∷◌, ℕ}
 use Rattle.sheet.specs.declared.Counts.{Counts}
 use Rattle.sheet.specs.declared.Row.{Row}
 use Rattle.sheet.specs.declared.Statement.{Statement}
-use Rattle.sheet.specs.declared.Field.{Field}
+use Rattle.sheet.specs.declared.fields.Field.{Field}
 use Rattle.sheet.specs.Fields.{a_chain, a_statement, or0, kind_of, form_of}
 use Rattle.sheet.specs.Naming.{Entry, statement_row, place_of, next_field}
 

@@ -72,19 +72,25 @@ ends_some (line (c ∷ m) t) b l ls u e h = go (block 0 t) refl h
     go (ends ms v) q h = record { more = ms; is = cc; follow = cc }
 
 -- The names ls, and then an empty line, stand from a place on.
-pub record Names (s : List ℕ) (at : ℕ) (ls : List (List ℕ)) : Type 0 where
+pub record NameLines (s : List ℕ) (at : ℕ) (ls : List (List ℕ)) : Type 0 where
   pub behind : Text
   pub follow : block 0 (lines (drop at s)) ≡ ends ls behind
 
-module _ {s : List ℕ} {at : ℕ} {ls : List (List ℕ)} (n : Names s at ls) where
+module _ {s : List ℕ} {at : ℕ} {ls : List (List ℕ)} (n : NameLines s at ls) where
   pub names-line : is_line (lines (drop at s)) ≡ true
   names-line = ends-line _ _ _ n.follow
 
   pub names-inside : at < length s
   names-inside = line-inside s at names-line
 
+  pub names-empty : line_at s at ≡ [] → ls ≡ []
+  names-empty e = ends-none _ _ _ n.follow e
+
+  pub line-none : get_or s at 0 ≡ newline → line_at s at ≡ []
+  line-none e = ap head_line (text-newline s at names-inside e)
+
   pub names-end : get_or s at 0 ≡ newline → ls ≡ []
-  names-end e = ends-none _ _ _ n.follow (ap head_line (text-newline s at names-inside e))
+  names-end e = names-empty (line-none e)
 
   module _ (ne : get_or s at 0 ≡ newline → ⊥) where
     split : Split (lines (drop at s)) ls n.behind
@@ -98,7 +104,7 @@ module _ {s : List ℕ} {at : ℕ} {ls : List (List ℕ)} (n : Names s at ls) wh
     unfolding others
     names-first = split.is
 
-    pub names-next : (next : ℕ) → after (lines (drop at s)) ≡ lines (drop next s) → Names s next others
+    pub names-next : (next : ℕ) → after (lines (drop at s)) ≡ lines (drop next s) → NameLines s next others
     unfolding others
     names-next next e = record { behind = n.behind; follow = rw e at split.follow }
 
@@ -106,7 +112,7 @@ module _ {s : List ℕ} {at : ℕ} {ls : List (List ℕ)} (n : Names s at ls) wh
 pub record Headed (s : List ℕ) : Type 0 where
   pub inside : 4 < length s
   pub ends : get_or s 4 0 ≡ newline
-  pub names : Names s 5 (sheet_names s)
+  pub names : NameLines s 5 (sheet_names s)
 
 pub headed : (s : List ℕ) → form_fault s ≡ 0 → Headed s
 unfolding form_fault section_rows sections bytes

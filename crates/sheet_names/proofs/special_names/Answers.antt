@@ -1,54 +1,29 @@
-use mathlib.Core.Path.{refl}
+use mathlib.Core.Path.{sym, ◌∙◌}
 use native.Mathlib.Omega.{arith}
+use borrow.Author.Tests.{eqb-true, eqb-false}
 use Rattle.sheet.specs.Text.{bytes}
+use Rattle.sheet.proofs.Laws.LineLaws.{line-part}
 use Rattle.sheet_names.proofs.Laws.FirstSection.{names-inside}
-use Rattle.sheet_names.proofs.Laws.Finding.{finding_first, finding_less, finding_next, finding_end}
+use Rattle.sheet_names.proofs.Laws.Finding.{finding_first, finding_line, finding_next, finding_end}
 use Rattle.sheet_names.proofs.special_names.Goals as goal
 
-pub loop-at-init : goal.loop-at-init
-loop-at-init c = finding_first _ c.requires
+pub loop-next-init : goal.loop-next-init
+loop-next-init c = finding_first _ c.requires
 
-pub bounds-s-at : goal.bounds-s-at
-bounds-s-at c = names-inside c.loop-at.invariant.follow
+pub skip_line-requires : goal.skip_line-requires
+skip_line-requires c = let inside = names-inside c.loop-next.invariant.follow in omega arith
 
-pub find-blank-requires : goal.find-blank-requires
-find-blank-requires c =
-    let inside = names-inside c.loop-at.invariant.follow in
-    (omega arith, refl)
-
-pub find-input-requires : goal.find-input-requires
-find-input-requires c =
-    let inside = names-inside c.loop-at.invariant.follow in
-    (omega arith, refl)
-
-pub find-data-requires : goal.find-data-requires
-find-data-requires c =
-    let inside = names-inside c.loop-at.invariant.follow in
-    (omega arith, refl)
-
-pub skip_line-line-requires : goal.skip_line-line-requires
-skip_line-line-requires c =
-    let inside = names-inside c.loop-at.invariant.follow in
-    omega arith
-
-pub overflow_add-row : goal.overflow_add-row
-overflow_add-row c =
-    let loop = c.loop-at in
-    let inside = names-inside loop.invariant.follow in
-    omega (arith, loop.invariant.few)
-
-pub loop-at-smaller : goal.loop-at-smaller
-loop-at-smaller c =
-    let loop = c.loop-at in
-    let inside = names-inside loop.invariant.follow in
-    omega (arith, finding_less _ loop.invariant c.loop-at-test.true _ c.skip_line-line.ensures)
-
-pub loop-at-preserved : goal.loop-at-preserved
+pub loop-next-preserved : goal.loop-next-preserved
 unfolding bytes
-loop-at-preserved c =
-    finding_next _ c.loop-at.invariant c.loop-at-test.true _ c.skip_line-line.ensures _ _ _ c.find-blank.ensures
-    c.find-input.ensures
-    c.find-data.ensures
+loop-next-preserved c =
+    let part = line-part c.args.s.now c.loop-next.at c.in-Some.next c.in-Some.ensures in
+    finding_next _ c.loop-next.invariant (eqb-false _ 0 (rw part at (sym c.is_empty.ensures ∙ c.if-is_empty.false))) _ c.in-Some.ensures _ _ _ (rw part at c.find-blank.ensures)
+    (rw part at c.find-input.ensures) (rw part at c.find-data.ensures)
 
-pub returns : goal.returns
-returns c = finding_end _ c.loop-at.invariant c.loop-at-test.false _ refl refl refl
+pub returns-then-is_empty : goal.returns-then-is_empty
+returns-then-is_empty c =
+    let part = line-part c.args.s.now c.loop-next.at c.in-Some.next c.in-Some.ensures in
+    finding_end _ c.loop-next.invariant (eqb-true _ 0 (rw part at (sym c.is_empty.ensures ∙ c.if-is_empty.true)))
+
+pub returns-in_default : goal.returns-in_default
+returns-in_default c = absurd (finding_line _ c.loop-next.invariant c.in_default.ensures)

@@ -4,8 +4,8 @@ use lib.ListN.{length}
 use Rattle.sheet_names.proofs.Laws.Finding.{Finding}
 use Rattle.sheet_names.proofs.special_names.Given as goal
 
-abbrev pub invariant-loop-at : goal.invariant-loop-at
-invariant-loop-at l = Finding l.s l.at l.row l.blank l.input l.«data»
+abbrev pub invariant-loop-next : goal.invariant-loop-next
+invariant-loop-next l = Finding l.s l.at l.row l.blank l.input l.«data»
 
-abbrev pub decreases-loop-at : goal.decreases-loop-at
-decreases-loop-at l = length l.s - l.at
+abbrev pub decreases-loop-next : goal.decreases-loop-next
+decreases-loop-next l = length l.s - l.at

@@ -1,16 +1,18 @@
 -- What reading a name gives, and looking for some.
-use Rattle.std.specs.Prelude.{◌≡◌, Bool, true, cond, List, ℕ, ◌≤◌, ◌<◌, eqb, length, drop}
-use Rattle.sheet.specs.Text.{bytes, lines}
-use Rattle.sheet.specs.Inner.Lines.{after, line_at}
+use Rattle.std.specs.Prelude.{◌≡◌, Bool, true, false, cond, List, ℕ, eqb, Option, Some, None}
+use Rattle.sheet.specs.Text.{bytes}
+use Rattle.sheet.specs.Inner.Lines.{LineTo, line_at}
 use Rattle.sheet.specs.Questions.{is_name, row_of_name}
-use Rattle.sheet_values.specs.declared.Line.{Line}
 use Rattle.sheet.specs.declared.Special.{Special}
 
--- The line at a place is a name, which ends where r says.
-pub record NameRead (s : List ℕ) (at : ℕ) (r : Line) : Type 0 where
-  pub good : r.good ≡ is_name (line_at s at)
-  pub next : r.good ≡ true → (at < r.next) × (r.next ≤ length s)
-  pub behind : r.good ≡ true → after (lines (drop at s)) ≡ lines (drop r.next s)
+-- The line at a place is a name, up to the next place; or it is none.
+pub record NameTo (s : List ℕ) (at next : ℕ) : Type 0 where
+  pub is : is_name (line_at s at) ≡ true
+  pub ends : LineTo s at next
+
+abbrev pub NameRead : List ℕ → ℕ → Option ℕ → Type 0
+NameRead s at None = is_name (line_at s at) ≡ false
+NameRead s at (Some next) = NameTo s at next
 
 -- The row where a name has been found earlier, or row n, if it is found there; else 0.
 abbrev pub found : ℕ → Bool → ℕ → ℕ

@@ -1,38 +1,35 @@
 -- Laws of `Asked`.
-use mathlib.Core.Path.{◌≡◌, refl, sym, ap, ap₂, ◌∙◌}
+use mathlib.Core.Path.{◌≡◌, refl, ap, ap₂, ◌∙◌}
 use mathlib.Core.Bool.{true, false, cond}
 use mathlib.Core.List.{List, [], ◌∷◌, map}
 use mathlib.Core.Logic.{◌⊎◌, inl, inr}
-use Prim.Native.Nat.{ℕ, suc, ◌+◌, ◌≤◌, ◌<◌}
+use Prim.Native.Nat.{ℕ, suc, ◌+◌, ◌≤◌}
 use native.Mathlib.Omega.{arith}
 use lib.Dec.{eqb, ltb}
 use lib.ListN.{length, get_or, length-replicate}
 use lib.Seq.{sets}
-use borrow.Author.Tests.{ltb-false, eqb-true, eqb-false, lt-leb, le-leb, ne_eqb}
+use borrow.Author.Tests.{ltb-false, eqb-true, eqb-false}
 use Rattle.base.specs.Limits as limit
 use Rattle.base.specs.Limits.{Limits}
-use Rattle.base.proofs.Laws.Truth.{bool_cases, not-both}
+use Rattle.base.proofs.Laws.Truth.{bool_cases}
 use Rattle.names_width.specs.declared.Width.{Width}
 use Rattle.names_width.specs.Widths.{limits}
 use Rattle.names_width.proofs.Laws.Laws as widths
 use Rattle.sheet.specs.Text.{bytes}
 use Rattle.sheet.specs.Form.{line_of, same}
 use Rattle.sheet.proofs.Laws.SectionLaws.{line-some}
-use Rattle.sheet.specs.Questions.{name_row, most_rows, over_line, no_query_line, count_fault, form_fault, names_fault, counts_fault, section_rows, row_counts, row_of_name, sheet_names}
+use Rattle.sheet.specs.Questions.{name_row, most_rows, over_line, no_query_line, count_fault, form_fault, counts_fault, section_rows, row_counts, row_of_name, sheet_names}
 use Rattle.sheet.specs.Tables.{tables}
-use Rattle.sheet_form.specs.declared.Read as Read-of
-use Rattle.sheet_form.specs.Inner.Reads.{counts, SheetRead}
+use Rattle.sheet_form.specs.Inner.Reads.{SheetIs}
 use Rattle.sheet.specs.declared.Counts.{Counts}
 use Rattle.sheet.specs.Inner.Records.{Within}
 use Rattle.sheet.specs.declared.Special.{Special}
 use Rattle.sheet_names.specs.Inner.Names.{SpecialRead}
 use Rattle.sheet.specs.Inner.Rows.{in_tables}
-use Rattle.sheet.specs.Faults.{first_line}
-use Rattle.sheet.specs.declared.Outcome.{Outcome}
-use Rattle.sheet.specs.declared.Outcome.TheVariants.{Read, TooLong, BadForm, BadName, BadCount, BadField}
-use Rattle.sheet.specs.Verdict.{empty_tables, read_counts, fields_fault, asked, head_of, read_special, read_tables}
+use Rattle.sheet.specs.Faults.{listed, first_line}
+use Rattle.sheet.specs.Verdict.{empty_tables, read_counts, fields_fault, head_of, read_special, read_tables}
 use Rattle.sheet_read.proofs.Laws.ReadRows.{fields-in_tables}
-use Rattle.sheet_read.specs.Inner.Asked.{Small, is_read, Asked}
+use Rattle.sheet_read.specs.Inner.Asked.{Small}
 
 -- ---- counts in bounds
 
@@ -126,83 +123,29 @@ pub blank-room : (d : List ℕ) → d ≡ empty_tables → limit.table_entries �
 unfolding empty_tables
 blank-room d is = let n : length d ≡ limit.table_entries = ap length is ∙ length-replicate {A = ℕ} limit.table_entries 0 in omega arith
 
--- The counts of a sheet that has the form, as the reader gives them.
-abbrev pub counts_in : Read-of.Read → Counts
-counts_in r = record {
-  names = r.names;
-  builtins = r.built_ins;
-  exprs = r.expressions;
-  statements = r.statements;
-  queries = r.queries;
-}
+module _ (s d : List ℕ) (c : Counts) (e : List ℕ) (is : d ≡ empty_tables) (k : SheetIs s d c e) where
+  pub counts_are : c ≡ read_counts s
+  counts_are = ap as_counts k.count
 
-module _ (s d : List ℕ) (r : Read-of.Read) (e : List ℕ) (is : d ≡ empty_tables) (k : SheetRead s d r e) (good : r.fault ≡ 0) where
-  pub counts_are : counts_in r ≡ read_counts s
-  counts_are = ap as_counts (k.count good)
-
-  pub asked_few_names : r.names ≤ (limit.library).names → get_or (row_counts s) 0 0 ≤ (limit.library).names
-  asked_few_names h = let n : r.names ≡ get_or (row_counts s) 0 0 = ap (λ (ks : List ℕ). get_or ks 0 0) (k.count good) in omega arith
+  pub asked_few_names : c.names ≤ (limit.library).names → get_or (row_counts s) 0 0 ≤ (limit.library).names
+  asked_few_names h = let n : c.names ≡ get_or (row_counts s) 0 0 = ap (λ (ks : List ℕ). get_or ks 0 0) k.count in omega arith
 
   rows_are : e ≡ tables s empty_tables
-  rows_are = k.table good ∙ ap (tables s) is
+  rows_are = k.table ∙ ap (tables s) is
 
-  pub counts_fault-is : (lim : Limits) → count_fault lim (counts r) ≡ counts_fault lim s
+  pub counts_fault-is : (lim : Limits) → count_fault lim (listed c) ≡ counts_fault lim s
   unfolding counts_fault
-  counts_fault-is lim = ap (count_fault lim) (k.count good)
+  counts_fault-is lim = ap (count_fault lim) k.count
 
   -- With the head in front.
-  module _ (x : Special) (special : SpecialRead s x) (t : List ℕ) (headed : t ≡ sets e 0 (head_of (counts_in r) x)) where
+  module _ (x : Special) (special : SpecialRead s x) (t : List ℕ) (headed : t ≡ sets e 0 (head_of c x)) where
     pub tables_are : t ≡ read_tables s
     unfolding read_tables
     tables_are =
         headed
         ∙ rw (special.blank, special.input, special.«data») (ap₂ (λ (l : List ℕ) (c : Counts). sets l 0 (head_of c (read_special s))) rows_are counts_are)
 
-    pub fields_fault-is : (w : Width) → form_fault s ≡ 0 → counts_fault (limits w) s ≡ 0 → first_line (counts_in r) (in_tables t) ≡ fields_fault s
+    pub fields_fault-is : (w : Width) → form_fault s ≡ 0 → counts_fault (limits w) s ≡ 0 → first_line c (in_tables t) ≡ fields_fault s
     unfolding counts_fault
     fields_fault-is w formed counted =
         ap₂ (λ (c : Counts) (d : List ℕ). first_line c (in_tables d)) counts_are tables_are ∙ fields-in_tables s formed (counts-within w (row_counts s) counted)
-
--- ---- each way out
-
-refused : (lim : Limits) (s : List ℕ) (r : Outcome) (e : List ℕ) → r ≡ asked lim s → is_read r ≡ false → Asked lim s r e
-refused lim s r e is not-read = record { came-to = is; tabled = λ is_read_lem. absurd (not-both is_read_lem not-read) }
-
-module _ (lim : Limits) (s e : List ℕ) where
-  pub too_long_lem : 32768 < length s → Asked lim s TooLong e
-  unfolding asked
-  too_long_lem h = refused lim s TooLong e (sym (rw (lt-leb (length s) 32768 h))) refl
-
-  module _ (short : length s ≤ 32768) where
-    pub bad-form : (l : ℕ) → l ≡ form_fault s → (l ≡ 0 → ⊥) → Asked lim s (BadForm l) e
-    unfolding asked
-    bad-form l is some =
-        refused lim s (BadForm l) e (sym (rw (le-leb (length s) 32768 short, ne_eqb (form_fault s) 0 (λ z. some (is ∙ z)), sym is))) refl
-
-    module _ (formed : form_fault s ≡ 0) where
-      pub bad-name : (l : ℕ) → l ≡ names_fault s → (l ≡ 0 → ⊥) → Asked lim s (BadName l) e
-      unfolding asked
-      bad-name l is some =
-          refused lim s (BadName l) e
-          (sym (rw (le-leb (length s) 32768 short, formed, ne_eqb (names_fault s) 0 (λ z. some (is ∙ z)), sym is))) refl
-
-      module _ (named : names_fault s ≡ 0) where
-        pub bad-count : (l : ℕ) → l ≡ counts_fault lim s → (l ≡ 0 → ⊥) → Asked lim s (BadCount l) e
-        unfolding asked
-        bad-count l is some =
-            refused lim s (BadCount l) e
-            (sym (rw (le-leb (length s) 32768 short, formed, named, ne_eqb (counts_fault lim s) 0 (λ z. some (is ∙ z)), sym is))) refl
-
-        module _ (counted : counts_fault lim s ≡ 0) where
-          pub bad-field : (l : ℕ) → l ≡ fields_fault s → (l ≡ 0 → ⊥) → Asked lim s (BadField l) e
-          unfolding asked
-          bad-field l is some =
-              refused lim s (BadField l) e
-              (sym (rw (le-leb (length s) 32768 short, formed, named, counted, ne_eqb (fields_fault s) 0 (λ z. some (is ∙ z)), sym is))) refl
-
-          pub all_read : fields_fault s ≡ 0 → e ≡ read_tables s → Asked lim s Read e
-          unfolding asked
-          all_read held is = record {
-            came-to = sym (rw (le-leb (length s) 32768 short, formed, named, counted, held));
-            tabled = λ is_read_lem. is;
-          }

@@ -10,11 +10,11 @@ use lib.Seq.{take_at, drop_at}
 use Rattle.base.specs.Limits as limits
 use Rattle.base.specs.Limits.{Limits}
 use Rattle.base.proofs.Laws.Truth.{not-both}
-use Rattle.sheet.specs.declared.Outcome.{Outcome}
-use Rattle.sheet.specs.declared.Outcome.TheVariants.{Read, NoRoom, TooLong, BadForm, BadName, BadCount, BadField}
-use Rattle.sheet.specs.Verdict.{empty_tables, verdict, read_tables, left_tables}
+use Rattle.std.specs.Prelude.{Ok, Err, is_ok}
+use Rattle.sheet.specs.declared.Refusal.TheVariants.{NoRoom}
+use Rattle.sheet.specs.Verdict.{Outcome, empty_tables, verdict, read_tables, left_tables}
 use Rattle.sheet_read.specs.Inner.Verdict.{SheetLeft}
-use Rattle.sheet_read.specs.Inner.Asked.{is_read, Asked, SheetTaken}
+use Rattle.sheet_read.specs.Inner.Asked.{Asked, SheetTaken}
 
 -- ---- zeros, the first n of which are lent
 
@@ -41,29 +41,19 @@ module _ (t : List ℕ) (room : ℕ) (zeroed : t ≡ replicate room 0) (enough :
 
 -- ---- what the tables hold
 
-rows_left_lem : (s : List ℕ) (room : ℕ) (r : Outcome) → is_read r ≡ true → read_tables s ++ replicate (room - limits.table_entries) 0 ≡ left_tables s room r
-rows_left_lem s room Read p = refl
-rows_left_lem s room NoRoom p = absurd (not-both p refl)
-rows_left_lem s room TooLong p = absurd (not-both p refl)
-rows_left_lem s room (BadForm l) p = absurd (not-both p refl)
-rows_left_lem s room (BadName l) p = absurd (not-both p refl)
-rows_left_lem s room (BadCount l) p = absurd (not-both p refl)
-rows_left_lem s room (BadField l) p = absurd (not-both p refl)
+rows_left_lem : (s : List ℕ) (room : ℕ) (r : Outcome) → is_ok r ≡ true → read_tables s ++ replicate (room - limits.table_entries) 0 ≡ left_tables s room r
+rows_left_lem s room (Ok x) p = refl
+rows_left_lem s room (Err r) p = absurd (not-both p refl)
 
-zeros-left : (s : List ℕ) (room : ℕ) (r : Outcome) → is_read r ≡ false → replicate room 0 ≡ left_tables s room r
-zeros-left s room Read p = absurd (not-both refl p)
-zeros-left s room NoRoom p = refl
-zeros-left s room TooLong p = refl
-zeros-left s room (BadForm l) p = refl
-zeros-left s room (BadName l) p = refl
-zeros-left s room (BadCount l) p = refl
-zeros-left s room (BadField l) p = refl
+zeros-left : (s : List ℕ) (room : ℕ) (r : Outcome) → is_ok r ≡ false → replicate room 0 ≡ left_tables s room r
+zeros-left s room (Ok x) p = absurd (not-both refl p)
+zeros-left s room (Err r) p = refl
 
 -- ---- the ways out
 
 -- Of the questions.
 module _ (lim : Limits) (s : List ℕ) (room long : ℕ) (t : List ℕ) where
-  pub no_room_lem : (leb limits.table_entries room && leb lim.work long) ≡ false → SheetTaken lim s room long NoRoom t
+  pub no_room_lem : (leb limits.table_entries room && leb lim.work long) ≡ false → SheetTaken lim s room long (Err NoRoom) t
   unfolding verdict
   no_room_lem few = record { came-to = sym (rw few); tabled = λ p. absurd (not-both p refl) }
 
@@ -77,8 +67,8 @@ module _ (lim : Limits) (s : List ℕ) (room long : ℕ) (t : List ℕ) where
 
 -- Of the reader.
 module _ (lim : Limits) (s : List ℕ) (room long : ℕ) (r : Outcome) (t : List ℕ) (k : SheetTaken lim s room long r t) (w : List ℕ) (worked : w ≡ replicate long 0) where
-  pub read_leaves_rows : is_read r ≡ true → SheetLeft lim s room long r t w
+  pub read_leaves_rows : is_ok r ≡ true → SheetLeft lim s room long r t w
   read_leaves_rows p = record { came-to = k.came-to; tabled = k.tabled p; worked = worked }
 
-  pub leaves-zeros : is_read r ≡ false → (u : List ℕ) → u ≡ replicate room 0 → SheetLeft lim s room long r u w
+  pub leaves-zeros : is_ok r ≡ false → (u : List ℕ) → u ≡ replicate room 0 → SheetLeft lim s room long r u w
   leaves-zeros p u is = record { came-to = k.came-to; tabled = is ∙ zeros-left s room r p; worked = worked }

@@ -21,8 +21,9 @@ use Rattle.sheet.specs.declared.Counts.{Counts}
 use Rattle.sheet.specs.Inner.Records.{Within}
 use Rattle.sheet.specs.Sheet.{Rows}
 use Rattle.sheet.specs.Faults.{builtin_fault, expr_fault, statement_fault, query_fault, first_at_fault, listed, first_line}
-use Rattle.sheet.specs.declared.Outcome.{Outcome}
-use Rattle.sheet.specs.declared.Outcome.TheVariants.{Read, NoRoom, TooLong, BadForm, BadName, BadCount, BadField}
+use Rattle.std.specs.Prelude.{Ok, Err}
+use Rattle.sheet.specs.declared.Refusal.{Refusal}
+use Rattle.sheet.specs.declared.Refusal.TheVariants.{NoRoom, TooLong, BadForm, BadName, BadCount, BadField}
 use Rattle.sheet.specs.Verdict as Verdict
 use Rattle.sheet.specs.Verdict.{fields_fault, asked, verdict}
 use Rattle.sheet_read.proofs.Laws.ReadRows.{counts_same}
@@ -130,7 +131,7 @@ fields-low c t w =
 
 -- ---- all of them
 
-either_low : (b : Bool) (x y : Outcome) → (b ≡ true → Verdict.fault_line x ≤ 65535) → (b ≡ false → Verdict.fault_line y ≤ 65535)
+either_low : (b : Bool) (x y : Verdict.Outcome) → (b ≡ true → Verdict.fault_line x ≤ 65535) → (b ≡ false → Verdict.fault_line y ≤ 65535)
     → Verdict.fault_line (cond b x y) ≤ 65535
 either_low true x y f g = f refl
 either_low false x y f g = g refl
@@ -148,12 +149,12 @@ module _ (w : Width) (s : List ℕ) where
   asked_low : Verdict.fault_line (asked (limits w) s) ≤ 65535
   unfolding asked
   asked_low =
-      either_low (short_enough s) _ TooLong (λ short.
+      either_low (short_enough s) _ (Err TooLong) (λ short.
       let few = leb-true (length s) 32768 short in
-      either_low (eqb (form_fault s) 0) _ (BadForm (form_fault s)) (λ formed.
-      either_low (eqb (names_fault s) 0) _ (BadName (names_fault s)) (λ named.
-      either_low (eqb (counts_fault (limits w) s) 0) _ (BadCount (counts_fault (limits w) s)) (λ counted.
-      either_low (eqb (fields_fault s) 0) Read (BadField (fields_fault s)) (λ held. omega arith)
+      either_low (eqb (form_fault s) 0) _ (Err (BadForm (form_fault s))) (λ formed.
+      either_low (eqb (names_fault s) 0) _ (Err (BadName (names_fault s))) (λ named.
+      either_low (eqb (counts_fault (limits w) s) 0) _ (Err (BadCount (counts_fault (limits w) s))) (λ counted.
+      either_low (eqb (fields_fault s) 0) (Ok tt) (Err (BadField (fields_fault s))) (λ held. omega arith)
       (λ some. let low = fields_fault-low (eqb-true _ 0 counted) in omega arith))
       (λ some. let low = counts_fault-low in omega arith))
       (λ some. let low = names_fault-low s in omega arith))
@@ -163,11 +164,10 @@ module _ (w : Width) (s : List ℕ) where
   pub line-fits : (room long : ℕ) → Verdict.fault_line (verdict (limits w) s room long) ≤ 65535
   unfolding verdict
   line-fits room long =
-      either_low (leb limit.table_entries room && leb (work w) long) (asked (limits w) s) NoRoom (λ enough. asked_low) (λ few. omega arith)
+      either_low (leb limit.table_entries room && leb (work w) long) (asked (limits w) s) (Err NoRoom) (λ enough. asked_low) (λ few. omega arith)
 
--- The number of an outcome fits as well.
-pub number_fits : (r : Outcome) → Verdict.number r ≤ 6
-number_fits Read = omega arith
+-- The number of a refusal fits as well.
+pub number_fits : (r : Refusal) → Verdict.refusal_number r ≤ 6
 number_fits NoRoom = omega arith
 number_fits TooLong = omega arith
 number_fits (BadForm l) = omega arith

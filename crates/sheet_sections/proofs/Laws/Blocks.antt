@@ -1,21 +1,18 @@
--- Laws of `Blocks`.
-use mathlib.Core.Path.{◌≡◌, refl, sym, ap, ◌∙◌}
+-- The loop of `rows_at`.
+use mathlib.Core.Path.{◌≡◌, refl, ap, ◌∙◌}
 use mathlib.Core.Bool.{true, false}
 use mathlib.Core.List.{List, [], ◌∷◌, ◌++◌}
 use Prim.Native.Nat.{ℕ, suc, ◌+◌, ◌≤◌, ◌<◌}
 use native.Mathlib.Omega.{arith}
 use lib.ListN.{length, get_or, drop, length-append}
-use Rattle.base.proofs.Laws.Truth.{not-both}
 use Rattle.sheet.specs.Text.{newline, Text, rest, line, lines}
 use Rattle.sheet.specs.Inner.Lines.{head_line, line_at}
 use Rattle.sheet.proofs.Laws.LineLaws.{text-end, text-newline, passes-byte}
 use Rattle.sheet.specs.Form.{Block, stops, ends, more, block}
 use Rattle.sheet.specs.declared.Area.{Area}
 use Rattle.sheet.specs.Tables.{put_row, put_rows}
-use Rattle.sheet_values.specs.declared.Line.{Line}
-use Rattle.sheet_sections.specs.declared.Rows.{Rows}
-use Rattle.sheet_sections.specs.Inner.Lines.{has_row, LinePut}
-use Rattle.sheet_sections.specs.Inner.Blocks.{RowsRead}
+use Rattle.sheet_sections.specs.Inner.Lines.{has_row, RowStored}
+use Rattle.sheet_sections.specs.Inner.Blocks.{BlockRead, BlockStops}
 
 -- Rows in front of a block.
 abbrev before : List (List ℕ) → Block → Block
@@ -78,63 +75,50 @@ module _ (s : List ℕ) (at : ℕ) (a : Area) (d : List ℕ) where
 
   module _ {i n : ℕ} {e : List ℕ} (g : ReadingBlock s at a d i n e) where
     -- The empty line.
-    pub reading-ended : i < length s → get_or s i 0 ≡ newline → (r : Rows) → r.good ≡ true → r.next ≡ i + 1 → r.rows ≡ n
-        → RowsRead s at a d r e
+    pub reading-ended : i < length s → get_or s i 0 ≡ newline → BlockRead s at a d (record { next = i + 1; rows = n }) e
     unfolding block
-    reading-ended h b r y x m = record {
+    reading-ended h b = record {
       done = g.done;
-      count = g.count ∙ sym m;
-      fault = λ t. absurd (not-both y t);
-      ended = λ t. rw x (g.so_far ∙ ap (λ (u : Text). before g.done (block a.width u)) (text-newline s i h b)
-          ∙ before-ends g.done (lines (drop (i + 1) s)));
-      table = λ t. g.table;
-      next = λ t. (omega (arith, g.low), omega arith);
-      few = omega (arith, g.low);
+      count = g.count;
+      ended = g.so_far ∙ ap (λ (u : Text). before g.done (block a.width u)) (text-newline s i h b) ∙ before-ends g.done (lines (drop (i + 1) s));
+      table = g.table;
+      next = (omega (arith, g.low), omega arith);
     }
 
     -- A line at fault, or none.
-    fails : block a.width (lines (drop i s)) ≡ stops 0 → (r : Rows) → r.good ≡ false → r.rows ≡ n → (e' : List ℕ)
-        → RowsRead s at a d r e'
-    fails none r y m e' = record {
-      done = g.done;
-      count = g.count ∙ sym m;
-      fault = λ t. g.so_far ∙ ap (before g.done) none ∙ before-stops g.done ∙ ap stops (g.count ∙ sym m);
-      ended = λ t. absurd (not-both t y);
-      table = λ t. absurd (not-both t y);
-      next = λ t. absurd (not-both t y);
+    stopped : block a.width (lines (drop i s)) ≡ stops 0 → BlockStops s at a n
+    stopped none = record {
+      fault = g.so_far ∙ ap (before g.done) none ∙ before-stops g.done ∙ ap stops g.count;
       few = omega (arith, g.low, g.high);
     }
 
-    pub reading-end : length s ≤ i → (r : Rows) → r.good ≡ false → r.rows ≡ n → RowsRead s at a d r e
+    pub reading-end : length s ≤ i → BlockStops s at a n
     unfolding block
-    reading-end h r y m = fails (ap (block a.width) (text-end s i h)) r y m e
+    reading-end h = stopped (ap (block a.width) (text-end s i h))
 
-    module _ (h : i < length s) (b : get_or s i 0 ≡ newline → ⊥) (r : Line) (e' : List ℕ) (l : LinePut s i a (n + 1) e r e') where
+    module _ (h : i < length s) (b : get_or s i 0 ≡ newline → ⊥) where
       head : line_at s i ≡ get_or s i 0 ∷ line_at s (i + 1)
       head = (passes-byte s i h b).first
 
-      pub reading-fault : r.good ≡ false → (w : Rows) → w.good ≡ false → w.rows ≡ n → RowsRead s at a d w e'
-      reading-fault f w y m =
-          fails (block_none a.width (lines (drop i s)) (get_or s i 0) (line_at s (i + 1)) head (sym l.row.good ∙ f)) w y m e'
+      pub reading-fault : has_row a.width (lines (drop i s)) ≡ false → BlockStops s at a n
+      reading-fault f = stopped (block_none a.width (lines (drop i s)) (get_or s i 0) (line_at s (i + 1)) head f)
 
-      row : r.good ≡ true → block a.width (lines (drop i s)) ≡ more (line_at s i) (block a.width (lines (drop r.next s)))
-      row y =
-          let q = l.row.line y in
-          let has : has_row a.width (line (line_at s i) (lines (drop r.next s))) ≡ true = rw q at (sym l.row.good ∙ y) in
-          ap (block a.width) q
-          ∙ rw head (block_row a.width (get_or s i 0) (line_at s (i + 1)) (lines (drop r.next s)) (rw head at has))
+      module _ (next : ℕ) (e' : List ℕ) (l : RowStored s i a (n + 1) e next e') where
+        row : block a.width (lines (drop i s)) ≡ more (line_at s i) (block a.width (lines (drop next s)))
+        row =
+            let q = l.ends.line in
+            let has : has_row a.width (line (line_at s i) (lines (drop next s))) ≡ true = rw q at l.is in
+            ap (block a.width) q ∙ rw head (block_row a.width (get_or s i 0) (line_at s (i + 1)) (lines (drop next s)) (rw head at has))
 
-      pub block_reading_next : r.good ≡ true → length e' ≡ length e → ReadingBlock s at a d r.next (n + 1) e'
-      block_reading_next y z =
-          let m = l.row.next y in
-          let c : n + 1 ≡ 1 + length g.done = omega (arith, g.count) in
-          record {
-            done = g.done ++ (line_at s i ∷ []);
-            count = length-append g.done (line_at s i ∷ []) ∙ omega (arith, g.count);
-            low = omega (arith, g.low);
-            high = m.1;
-            so_far = g.so_far ∙ ap (before g.done) (row y)
-                ∙ before_more g.done (line_at s i) (block a.width (lines (drop r.next s)));
-            table = l.table y ∙ ap (λ (k : ℕ). put_row a k (line_at s i) e) c ∙ rw g.table (put_rows-snoc a 1 g.done (line_at s i) d);
-            size = z ∙ g.size;
-          }
+        pub block_reading_next : length e' ≡ length e → ReadingBlock s at a d next (n + 1) e'
+        block_reading_next z =
+            let c : n + 1 ≡ 1 + length g.done = omega (arith, g.count) in
+            record {
+              done = g.done ++ (line_at s i ∷ []);
+              count = length-append g.done (line_at s i ∷ []) ∙ omega (arith, g.count);
+              low = omega (arith, g.low, l.ends.inside.0);
+              high = l.ends.inside.1;
+              so_far = g.so_far ∙ ap (before g.done) row ∙ before_more g.done (line_at s i) (block a.width (lines (drop next s)));
+              table = l.table ∙ ap (λ (k : ℕ). put_row a k (line_at s i) e) c ∙ rw g.table (put_rows-snoc a 1 g.done (line_at s i) d);
+              size = z ∙ g.size;
+            }

@@ -1,22 +1,16 @@
-use Rattle.sheet_sections.proofs.Laws.Headings.{agreed_heading_first, agreed_past, agreed_differs, agreed_heading_next, agreed_whole}
+-- The line starts otherwise; or the byte behind the heading decides.
+use mathlib.Core.Path.{◌∙◌}
+use Rattle.sheet_sections.proofs.Laws.Lines.{tail-is}
+use Rattle.sheet_sections.proofs.Laws.Headings.{heading-none, heading-is}
 use Rattle.sheet_sections.proofs.line_is.Goals as goal
 
-pub loop-i-init : goal.loop-i-init
-loop-i-init c = agreed_heading_first _ _ _ c.requires.1
-
-pub returns-then-s-j : goal.returns-then-s-j
-returns-then-s-j c = agreed_past _ _ _ c.loop-i.invariant c.if-s-j.true
-
-pub returns-then-s-j-2 : goal.returns-then-s-j-2
-returns-then-s-j-2 c =
-    agreed_differs _ _ _ c.loop-i.invariant c.loop-i-test.true c.if-s-j.false c.if-s-j-2.true
-
-pub loop-i-preserved : goal.loop-i-preserved
-loop-i-preserved c =
-    agreed_heading_next _ _ _ c.loop-i.invariant c.loop-i-test.true c.if-s-j.false c.if-s-j-2.false
-
-pub returns-then-s-end : goal.returns-then-s-end
-returns-then-s-end c = agreed_past _ _ _ c.loop-i.invariant c.if-s-end.true
+pub returns-in_default : goal.returns-in_default
+returns-in_default c =
+    let start = c.args in
+    heading-none start.heading.now _ c.requires.1 (rw (tail-is start.s.now start.at) at c.in_default.ensures.cases)
 
 pub returns : goal.returns
-returns c = agreed_whole _ _ _ c.loop-i.invariant c.loop-i-test.false c.if-s-end.false
+returns c =
+    let start = c.args in
+    let stripped = rw (tail-is start.s.now start.at) at c.in-Some.ensures.cases in
+    c.starts_with.ensures.value ∙ rw stripped.1 (heading-is start.heading.now _ c.requires.1 stripped.0)

@@ -1,15 +1,22 @@
-use mathlib.Core.Path.{refl}
-use Rattle.sheet_sections.proofs.Laws.Lines.{passed_first, passed_next, passed_line, passed_end}
+-- `position` finds the first newline.
+use mathlib.Core.Path.{◌≡◌, ◌∙◌}
+use Rattle.std.proofs.Common.{rules, tests}
+use Rattle.std.proofs.lemmas.Iterator.{YieldsList-from_slice}
+use Rattle.std.proofs.lemmas.Iterator.Search.{position_from_yields_List}
+use Rattle.std.specs.Prelude.{None}
+use lib.ListN.{drop}
+use Rattle.sheet_sections.proofs.Laws.Lines.{tail-is, ends_line, newline_found, skip-none, skip-line}
 use Rattle.sheet_sections.proofs.skip_line.Goals as goal
 
-pub loop-i-init : goal.loop-i-init
-loop-i-init c = passed_first _ _ c.requires
-
-pub returns-then-s-i-eq10 : goal.returns-then-s-i-eq10
-returns-then-s-i-eq10 c = passed_line _ _ c.loop-i.invariant c.loop-i-test.true c.if-s-i-eq10.true _ refl refl
-
-pub loop-i-preserved : goal.loop-i-preserved
-loop-i-preserved c = passed_next _ _ c.loop-i.invariant c.loop-i-test.true c.if-s-i-eq10.false
+pub returns-in_err-length : goal.returns-in_err-length
+returns-in_err-length c =
+    let start = c.args in
+    let none : None ≡ newline_found start.s.now start.at =
+    position_from_yields_List ends_line _ _ _ c.in_err-length.ensures.ran (YieldsList-from_slice (drop start.at start.s.now) (c.iter.ensures.rest ∙ tail-is start.s.now start.at)) (λ x b q k. search (rules, tests)) in
+    rw c.from_residual.ensures (skip-none start.s.now start.at none)
 
 pub returns : goal.returns
-returns c = passed_end _ _ c.loop-i.invariant c.loop-i-test.false _ refl
+returns c =
+    let start = c.args in
+    skip-line start.s.now start.at c.requires _
+    (position_from_yields_List ends_line _ _ _ c.in_ok-length.ensures.ran (YieldsList-from_slice (drop start.at start.s.now) (c.iter.ensures.rest ∙ tail-is start.s.now start.at)) (λ x b q k. search (rules, tests)))

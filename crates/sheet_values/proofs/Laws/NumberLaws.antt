@@ -1,69 +1,54 @@
--- The ways through `digit_at`, `number_at` and `check_digits`.
-use mathlib.Core.Path.{◌≡◌, refl, sym, ap, ◌∙◌, subst}
+-- The loop of `number_at`.
+use mathlib.Core.Path.{◌≡◌, refl, sym, ap, ◌∙◌}
 use mathlib.Core.Bool.{Bool, true, false, cond}
 use mathlib.Core.List.{List, [], ◌∷◌}
-use Prim.Native.Nat.{ℕ, zero, suc, ◌+◌, ◌-◌, ◌*◌, ◌≤◌, ◌<◌}
+use Prim.Native.Nat.{ℕ, suc, ◌+◌, ◌-◌, ◌*◌, ◌≤◌, ◌<◌}
 use native.Mathlib.Omega.{arith}
-use lib.Dec.{leb}
-use lib.ListN.{length, get_or, drop, length-drop}
-use lib.Seq.{drop-length, get_or-drop, drop-drop}
-use borrow.Author.Tests.{lt-leb, le-leb, leb-true, ne_eqb}
+use lib.ListN.{length, get_or, take, drop, length-drop}
+use lib.Seq.{get_or-drop, drop-drop, take_at}
+use borrow.Author.Tests.{lt-leb}
+use Rattle.std.specs.Prelude.{Some, None}
 use Rattle.base.specs.Limits as limits
-use Rattle.base.proofs.Laws.Truth.{not-both, and_right}
-use Rattle.sheet.specs.Text.{digit, plain, value}
-use Rattle.sheet.proofs.Laws.LineLaws.{drop-next}
+use Rattle.sheet.specs.Text.{digit, plain, value, is_number}
 use Rattle.sheet.specs.Inner.Digits.{digits_of}
-use Rattle.sheet.proofs.Laws.DigitLaws.{digits_of-yes, digits_of_no, digits_of-digits, digits_of-first, value_le, number_big, number-plain, plain-none, plain-one, plain_more}
-use Rattle.sheet_values.specs.declared.Number.{Number}
-use Rattle.sheet_values.specs.Inner.Numbers.{digit_at, NumberRead, Checked}
+use Rattle.sheet.proofs.Laws.LineLaws.{drop-next}
+use Rattle.sheet.proofs.Laws.DigitLaws.{digits_of-yes, digits_of_no, digits_of-digits, digits_of_split, value_le, number_big, number-plain}
+use Rattle.sheet_values.specs.Inner.Numbers.{digit_at, NumberIs}
 
--- ---- `digit_at`
+-- ---- the byte that decides whether a digit stands first
 
-pub digit-end : (s : List ℕ) (i : ℕ) → i ≡ length s → digit_at (drop i s) ≡ 10
-digit-end s i h = ap (λ (k : ℕ). digit_at (drop k s)) h ∙ ap digit_at (drop-length s)
-
--- The code has the byte at the place as b.
-module _ (s : List ℕ) (i b : ℕ) (h : i < length s) (e : b ≡ get_or s i 0) where
-  at_byte : digit_at (drop i s) ≡ cond (digit b) (b - 48) 10
-  at_byte = ap digit_at (drop-next s i h) ∙ ap (λ (x : ℕ). cond (digit x) (x - 48) 10) (sym e)
-
-  pub digit_low : b < 48 → digit_at (drop i s) ≡ 10
-  digit_low l = at_byte ∙ rw (lt-leb 48 b l)
-
-  pub digit-high : 48 ≤ b → 57 < b → digit_at (drop i s) ≡ 10
-  digit-high l g = at_byte ∙ rw (le-leb 48 b l, lt-leb b 57 g)
-
-  pub digit-is : 48 ≤ b → b ≤ 57 → digit_at (drop i s) ≡ b - 48
-  digit-is l g = at_byte ∙ rw (le-leb 48 b l, le-leb b 57 g)
-
--- ---- the loop of `number_at`
-
--- A digit stands first; or none does.
-starts : (t : List ℕ) → digit_at t < 10
-    → (0 < length t) × (digits_of t ≡ get_or t 0 0 ∷ digits_of (drop 1 t)) × (digit_at t ≡ get_or t 0 0 - 48)
-starts [] h = absurd (omega arith)
-starts (b ∷ t) h = go (digit b) refl h
+-- A digit does.
+starts : (t : List ℕ) (d : ℕ) → Some d ≡ digit_at t
+    → (0 < length t) × (digits_of t ≡ get_or t 0 0 ∷ digits_of (drop 1 t)) × (d ≡ get_or t 0 0 - 48)
+starts [] d h = absurd cc
+starts (b ∷ t) d h = go (digit b) refl h
   where
-    go : (d : Bool) → digit b ≡ d → cond d (b - 48) 10 < 10
-        → (0 < suc (length t)) × (digits_of (b ∷ t) ≡ b ∷ digits_of t) × (cond (digit b) (b - 48) 10 ≡ b - 48)
-    go true e g = (omega arith, digits_of-yes b t e, rw e)
-    go false e g = absurd (omega arith)
+    go : (y : Bool) → digit b ≡ y → Some d ≡ cond y (Some (b - 48)) None
+        → (0 < suc (length t)) × (digits_of (b ∷ t) ≡ b ∷ digits_of t) × (d ≡ b - 48)
+    go true e g = (omega arith, digits_of-yes b t e, cc)
+    go false e g = absurd cc
 
-starts_not : (t : List ℕ) → 10 ≤ digit_at t → digits_of t ≡ []
+-- None does.
+starts_not : (t : List ℕ) → None ≡ digit_at t → digits_of t ≡ []
 unfolding digits_of
 starts_not [] h = refl
 starts_not (b ∷ t) h = go (digit b) refl h
   where
-    go : (d : Bool) → digit b ≡ d → 10 ≤ cond d (b - 48) 10 → digits_of (b ∷ t) ≡ []
-    go true e g = let u = leb-true b 57 (and_right (leb 48 b) (leb b 57) e) in absurd (omega arith)
+    go : (y : Bool) → digit b ≡ y → None ≡ cond y (Some (b - 48)) None → digits_of (b ∷ t) ≡ []
+    go true e g = absurd cc
     go false e g = digits_of_no b t e
 
--- The digits up to place i are read: their value is v, and d is the digit at i.
-pub record ReadingNumber (s : List ℕ) (at v i d : ℕ) : Type 0 where
+-- A byte below the digits is none.
+pub digit_low : (s : List ℕ) (i : ℕ) → i < length s → get_or s i 0 < 48 → None ≡ digit_at (drop i s)
+digit_low s i h l = sym (ap digit_at (drop-next s i h) ∙ rw (lt-leb 48 (get_or s i 0) l))
+
+-- ---- the loop
+
+-- The digits up to place i are read, and their value is v.
+pub record ReadingNumber (s : List ℕ) (at v i : ℕ) : Type 0 where
   pub low : at ≤ i
   pub high : i ≤ length s
   pub small : v ≤ limits.largest_value
-  pub digit : d ≡ digit_at (drop i s)
   pub value : value v (digits_of (drop i s)) ≡ value 0 (digits_of (drop at s))
   pub count : i + length (digits_of (drop i s)) ≡ at + length (digits_of (drop at s))
 
@@ -71,16 +56,16 @@ module _ (s : List ℕ) (at : ℕ) where
   abbrev ds : List ℕ
   ds = digits_of (drop at s)
 
-  pub number_reading_first : (d : ℕ) → at ≤ length s → d ≡ digit_at (drop at s) → ReadingNumber s at 0 at d
-  number_reading_first d h e = record { low = omega arith; high = h; small = omega arith; digit = e; value = refl; count = refl }
+  pub number_reading_first : at ≤ length s → ReadingNumber s at 0 at
+  number_reading_first h = record { low = omega arith; high = h; small = omega arith; value = refl; count = refl }
 
-  module _ {v i d : ℕ} (r : ReadingNumber s at v i d) (h : d < 10) where
+  module _ {v i d : ℕ} (r : ReadingNumber s at v i) (h : Some d ≡ digit_at (drop i s)) where
     here : (0 < length (drop i s)) × (digits_of (drop i s) ≡ get_or s i 0 ∷ digits_of (drop (i + 1) s)) × (d ≡ get_or s i 0 - 48)
     here =
-        let t = starts (drop i s) (subst (λ (x : ℕ). x < 10) r.digit h) in
+        let t = starts (drop i s) d h in
         let z : i + 0 ≡ i = omega arith in
         let b : get_or (drop i s) 0 0 ≡ get_or s i 0 = get_or-drop i s 0 0 ∙ ap (λ (k : ℕ). get_or s k 0) z in
-        (t.0, rw (b, drop-drop 1 i s) at t.1, r.digit ∙ (rw b at t.2))
+        (t.0, rw (b, drop-drop 1 i s) at t.1, t.2 ∙ ap (λ (x : ℕ). x - 48) b)
 
     pub reading_in : i < length s
     reading_in = let a = here.0 in omega (arith, length-drop i s)
@@ -89,82 +74,49 @@ module _ (s : List ℕ) (at : ℕ) where
     unfolding value
     step = ap (value v) here.1 ∙ ap (λ (x : ℕ). value (v * 10 + x) (digits_of (drop (i + 1) s))) (sym here.2)
 
-    pub number_reading_next : (e : ℕ) → v * 10 + d ≤ limits.largest_value → e ≡ digit_at (drop (i + 1) s) → ReadingNumber s at (v * 10 + d) (i + 1) e
-    number_reading_next e g q = record {
+    pub number_reading_next : v * 10 + d ≤ limits.largest_value → ReadingNumber s at (v * 10 + d) (i + 1)
+    number_reading_next g = record {
       low = omega (arith, r.low);
       high = omega (arith, reading_in);
       small = g;
-      digit = q;
       value = sym step ∙ r.value;
       count = omega (arith, r.count, ap length here.1);
     }
 
     -- The value is too large already.
-    pub reading-over : (n : Number) → n.good ≡ false → limits.largest_value < v * 10 + d → NumberRead (drop at s) at n
-    reading-over n e g = record {
-      good = e ∙ sym (number_big ds (omega (arith, r.value, step, value_le (v * 10 + d) (digits_of (drop (i + 1) s)))));
-      value = λ t. absurd (not-both t e);
-      end = λ t. absurd (not-both t e);
-    }
+    pub reading-over : limits.largest_value < v * 10 + d → is_number ds ≡ false
+    reading-over g = number_big ds (omega (arith, r.value, step, value_le (v * 10 + d) (digits_of (drop (i + 1) s))))
 
-  -- All digits are read, and checked.
-  pub reading-done : {v i d : ℕ} → ReadingNumber s at v i d → 10 ≤ d → (n : Number) → Checked s at i v n → NumberRead (drop at s) at n
-  unfolding value
-  reading-done {v} {i} {d} r h n f =
-      let none : digits_of (drop i s) ≡ [] = starts_not (drop i s) (subst (λ (x : ℕ). 10 ≤ x) r.digit h) in
-      let v-is : v ≡ value 0 ds = sym (ap (value v) none) ∙ r.value in
-      let i-is : i ≡ at + length ds = omega (arith, r.count, ap length none) in
-      record {
-        good = goods (length ds) refl i-is ∙ sym (number-plain ds (digits_of-digits (drop at s)) (omega (arith, r.small)));
-        value = λ t. f.value t ∙ v-is;
-        end = λ t. f.end t ∙ i-is;
-      }
-    where
-      goods : (k : ℕ) → length ds ≡ k → i ≡ at + length ds → n.good ≡ plain ds
-      goods zero e l = f.none (omega arith) ∙ sym (plain-none ds e)
-      goods (suc zero) e l = f.one (omega arith) ∙ sym (plain-one ds e)
-      goods (suc (suc k)) e l =
-          let z : at + 0 ≡ at = omega arith in
-          let b : get_or ds 0 0 ≡ get_or s at 0 =
-          digits_of-first (drop at s) (omega arith) ∙ get_or-drop at s 0 0 ∙ ap (λ (j : ℕ). get_or s j 0) z in
-          f.more (omega arith) ∙ sym (rw b at (plain_more ds (omega arith)))
+  -- All digits are read.
+  module _ {v i : ℕ} (r : ReadingNumber s at v i) (h : None ≡ digit_at (drop i s)) where
+    none : digits_of (drop i s) ≡ []
+    none = starts_not (drop i s) h
 
--- ---- the ways out of `check_digits`
+    value-is : v ≡ value 0 ds
+    unfolding value
+    value-is = sym (ap (value v) none) ∙ r.value
 
-module _ (s : List ℕ) (at stop v : ℕ) (r : Number) where
-  pub refused_none : stop ≡ at → r.good ≡ false → Checked s at stop v r
-  refused_none h g = record {
-    none = λ q. g;
-    one = λ q. absurd (omega arith);
-    more = λ q. absurd (omega arith);
-    value = λ t. absurd (not-both t g);
-    end = λ t. absurd (not-both t g);
-  }
+    next-is : i ≡ at + length ds
+    next-is = omega (arith, r.count, ap length none)
 
-  pub refused-zero : at + 1 < stop → get_or s at 0 ≡ 48 → r.good ≡ false → Checked s at stop v r
-  refused-zero h z g = record {
-    none = λ q. g;
-    one = λ q. absurd (omega arith);
-    more = λ q. g ∙ sym (rw z);
-    value = λ t. absurd (not-both t g);
-    end = λ t. absurd (not-both t g);
-  }
+    -- Those are the bytes read.
+    digits-read : take (i - at) (drop at s) ≡ ds
+    digits-read =
+        let n : i - at ≡ length ds = omega (arith, next-is) in
+        ap (λ (k : ℕ). take k (drop at s)) n ∙ ap (take (length ds)) (digits_of_split (drop at s))
+        ∙ take_at ds (drop (length ds) (drop at s)) (length ds) refl
 
-  module _ (g : r.good ≡ true) (x : r.value ≡ v) (y : r.end ≡ stop) where
-    pub taken-one : stop ≡ at + 1 → Checked s at stop v r
-    taken-one h = record {
-      none = λ q. absurd (omega arith);
-      one = λ q. g;
-      more = λ q. absurd (omega arith);
-      value = λ t. x;
-      end = λ t. y;
-    }
+    plain-is : plain (take (i - at) (drop at s)) ≡ is_number ds
+    plain-is =
+        ap plain digits-read ∙ sym (number-plain ds (digits_of-digits (drop at s)) (omega (arith, r.small, value-is)))
 
-    pub taken_more : at + 1 < stop → (get_or s at 0 ≡ 48 → ⊥) → Checked s at stop v r
-    taken_more h z = record {
-      none = λ q. absurd (omega arith);
-      one = λ q. g;
-      more = λ q. g ∙ sym (rw (ne_eqb (get_or s at 0) 48 z));
-      value = λ t. x;
-      end = λ t. y;
-    }
+    pub reading-unfit : plain (take (i - at) (drop at s)) ≡ false → is_number ds ≡ false
+    reading-unfit f = sym plain-is ∙ f
+
+    pub reading-done : plain (take (i - at) (drop at s)) ≡ true → NumberIs (drop at s) at (record { value = v; next = i })
+    reading-done y = record { is = sym plain-is ∙ y; value = value-is; next = next-is }
+
+pub one_digit : (s : List ℕ) (at : ℕ) → at < length s → plain (take (at + 1 - at) (drop at s)) ≡ true
+one_digit s at h =
+    let n : at + 1 - at ≡ 1 = omega arith in
+    rw (n, drop-next s at h)

@@ -1,20 +1,19 @@
--- Laws of `Rows`.
+-- The loop of `row_at`.
 use mathlib.Core.Path.{◌≡◌, refl, sym, ap, ◌∙◌}
 use mathlib.Core.Bool.{true, false}
-use mathlib.Core.List.{List, [], ◌∷◌, ◌++◌, append_assoc}
+use mathlib.Core.List.{List, [], ◌∷◌, ◌++◌, append_assoc, append-nil}
 use Prim.Native.Nat.{ℕ, suc, ◌+◌, ◌-◌, ◌≤◌, ◌<◌}
 use native.Mathlib.Omega.{arith}
-use lib.ListN.{length, drop, set, length-append}
-use lib.Seq.{sets}
-use Rattle.base.proofs.Laws.Truth.{not-both, and_left}
+use lib.ListN.{length, drop, set, length-append, length-set, drop_of_length-le}
+use lib.Seq.{sets, sets-eq}
+use Rattle.base.proofs.Laws.Truth.{and_left}
 use Rattle.sheet.specs.Text.{newline, space, Text, line, lines, values}
 use Rattle.sheet.specs.Inner.Lines.{head_line, after}
 use Rattle.sheet.proofs.Laws.LineLaws.{whole-line}
 use Rattle.sheet.specs.Inner.RowLines.{line_fits}
-use Rattle.sheet_values.specs.declared.Field.{Field}
-use Rattle.sheet_values.specs.declared.Line.{Line}
-use Rattle.sheet_values.specs.Inner.Fields.{FieldRead}
-use Rattle.sheet_values.specs.Inner.Rows.{RowRead}
+use Rattle.sheet_values.specs.declared.Number.{Number}
+use Rattle.sheet_values.specs.Inner.Fields.{NoField, FieldIs}
+use Rattle.sheet_values.specs.Inner.Rows.{RowIs}
 
 sets-snoc : (d : List ℕ) (to : ℕ) (vs : List ℕ) (v : ℕ) → set (sets d to vs) (to + length vs) v ≡ sets d to (vs ++ (v ∷ []))
 sets-snoc d to [] v = let z : to + 0 ≡ to = omega arith in ap (λ (i : ℕ). set d i v) z
@@ -22,23 +21,28 @@ sets-snoc d to (w ∷ vs) v =
     let z : to + suc (length vs) ≡ suc to + length vs = omega arith in
     ap (λ (i : ℕ). set (sets (set d to w) (suc to) vs) i v) z ∙ sets-snoc (set d to w) (suc to) vs v
 
--- j values are read, up to place i, and the table e has them.
-pub record Fields (s : List ℕ) (at k : ℕ) (d : List ℕ) (to i j : ℕ) (e : List ℕ) : Type 0 where
+-- As many values as a list has entries take the place of all.
+sets-all : (d vs : List ℕ) → length vs ≡ length d → sets d 0 vs ≡ vs
+sets-all d vs n =
+    sets-eq vs d 0 (omega arith) ∙ ap (λ (l : List ℕ). vs ++ l) (drop_of_length-le d {i = 0 + length vs} (omega arith)) ∙ append-nil vs
+
+-- i values are read, up to place `next`, and the row e, which held d, has them.
+pub record Fields (s : List ℕ) (at : ℕ) (d : List ℕ) (next i : ℕ) (e : List ℕ) : Type 0 where
   pub done : List ℕ
-  pub count : length done ≡ j
-  pub low : at ≤ i
-  pub high : i ≤ length s
-  pub below : j < k
-  pub fit : line_fits k (lines (drop at s)) ≡ line_fits (k - j) (lines (drop i s))
-  pub read : values (head_line (lines (drop at s))) ≡ done ++ values (head_line (lines (drop i s)))
-  pub behind : after (lines (drop at s)) ≡ after (lines (drop i s))
-  pub table : e ≡ sets d to done
+  pub count : length done ≡ i
+  pub low : at ≤ next
+  pub high : next ≤ length s
+  pub below : i < length d
+  pub fit : line_fits (length d) (lines (drop at s)) ≡ line_fits (length d - i) (lines (drop next s))
+  pub read : values (head_line (lines (drop at s))) ≡ done ++ values (head_line (lines (drop next s)))
+  pub behind : after (lines (drop at s)) ≡ after (lines (drop next s))
+  pub row : e ≡ sets d 0 done
   pub size : length e ≡ length d
 
-module _ (s : List ℕ) (at k : ℕ) (d : List ℕ) (to : ℕ) where
-  pub fields-first : at ≤ length s → 0 < k → Fields s at k d to at 0 d
+module _ (s : List ℕ) (at : ℕ) (d : List ℕ) where
+  pub fields-first : at ≤ length s → 0 < length d → Fields s at d at 0 d
   fields-first h z =
-      let q : k ≡ k - 0 = omega arith in
+      let q : length d ≡ length d - 0 = omega arith in
       record {
         done = [];
         count = refl;
@@ -48,68 +52,61 @@ module _ (s : List ℕ) (at k : ℕ) (d : List ℕ) (to : ℕ) where
         fit = ap (λ (n : ℕ). line_fits n (lines (drop at s))) q;
         read = refl;
         behind = refl;
-        table = refl;
+        row = refl;
         size = refl;
       }
 
-  refused : (w : Line) → w.good ≡ false → line_fits k (lines (drop at s)) ≡ false → (e : List ℕ) → RowRead s at k d to w e
-  refused w n none e = record {
-    good = n ∙ sym none;
-    next = λ t. absurd (not-both t n);
-    line = λ t. absurd (not-both t n);
-    table = λ t. absurd (not-both t n);
-  }
-
-  module _ {i j : ℕ} {e : List ℕ} (f : Fields s at k d to i j e) (r : Field) where
+  module _ {next i : ℕ} {e : List ℕ} (f : Fields s at d next i e) where
     -- One value more.
-    stored : set e (to + j) r.value ≡ sets d to (f.done ++ (r.value ∷ []))
-    stored = rw (f.table, ← f.count) (sets-snoc d to f.done r.value)
+    stored : (v : ℕ) → set e i v ≡ sets d 0 (f.done ++ (v ∷ []))
+    stored v = rw (f.row, ← f.count) (let z : 0 + length f.done ≡ length f.done = omega arith in rw z at (sets-snoc d 0 f.done v))
 
-    module _ (g : FieldRead s i space r) (h : j < k - 1) where
-      pub fields_stop : r.good ≡ false → (w : Line) → w.good ≡ false → (e' : List ℕ) → RowRead s at k d to w e'
-      fields_stop f' w n =
-          let q : k - j ≡ suc (suc (k - j - 2)) = omega arith in
-          refused w n (f.fit ∙ ap (λ (m : ℕ). line_fits m (lines (drop i s))) q ∙ g.no_space f' refl (k - j - 2))
+    counted : (v : ℕ) → length (f.done ++ (v ∷ [])) ≡ i + 1
+    counted v = length-append f.done (v ∷ []) ∙ omega (arith, f.count)
 
-      pub fields-next : r.good ≡ true → length (set e (to + j) r.value) ≡ length d
-          → Fields s at k d to r.next (j + 1) (set e (to + j) r.value)
-      fields-next y l =
-          let n = g.next y in
-          let w = g.spaced y refl in
-          let q : k - j ≡ suc (k - (j + 1)) = omega arith in
-          record {
-            done = f.done ++ (r.value ∷ []);
-            count = length-append f.done (r.value ∷ []) ∙ omega (arith, f.count);
-            low = omega (arith, f.low);
-            high = n.1;
-            below = omega arith;
-            fit = f.fit ∙ ap (λ (m : ℕ). line_fits m (lines (drop i s))) q ∙ w.fit (k - (j + 1));
-            read = f.read ∙ ap (λ (l : List ℕ). f.done ++ l) w.vals
-                ∙ sym (append_assoc f.done (r.value ∷ []) (values (head_line (lines (drop r.next s)))));
-            behind = f.behind ∙ w.behind;
-            table = stored;
-            size = l;
-          }
+    pub fields_stop : i < length d - 1 → NoField s next space → line_fits (length d) (lines (drop at s)) ≡ false
+    fields_stop h g =
+        let q : length d - i ≡ suc (suc (length d - i - 2)) = omega arith in
+        f.fit ∙ ap (λ (m : ℕ). line_fits m (lines (drop next s))) q ∙ g.no_space refl (length d - i - 2)
 
-    module _ (g : FieldRead s i newline r) (h : k - 1 ≤ j) where
-      one : k - j ≡ 1
+    pub fields-next : i < length d - 1 → (n : Number) → FieldIs s next space n → Fields s at d n.next (i + 1) (set e i n.value)
+    fields-next h n g =
+        let w = g.spaced refl in
+        let q : length d - i ≡ suc (length d - (i + 1)) = omega arith in
+        record {
+          done = f.done ++ (n.value ∷ []);
+          count = counted n.value;
+          low = omega (arith, f.low, g.next.0);
+          high = g.next.1;
+          below = omega arith;
+          fit = f.fit ∙ ap (λ (m : ℕ). line_fits m (lines (drop next s))) q ∙ w.fit (length d - (i + 1));
+          read = f.read ∙ ap (λ (l : List ℕ). f.done ++ l) w.vals
+              ∙ sym (append_assoc f.done (n.value ∷ []) (values (head_line (lines (drop n.next s)))));
+          behind = f.behind ∙ w.behind;
+          row = stored n.value;
+          size = length-set e _ _ ∙ f.size;
+        }
+
+    module _ (h : length d - 1 ≤ i) where
+      one : length d - i ≡ 1
       one = omega (arith, f.below)
 
-      pub fields-fault : r.good ≡ false → (w : Line) → w.good ≡ false → (e' : List ℕ) → RowRead s at k d to w e'
-      fields-fault f' w n = refused w n (f.fit ∙ ap (λ (m : ℕ). line_fits m (lines (drop i s))) one ∙ g.no_newline f' refl)
+      pub fields-fault : NoField s next newline → line_fits (length d) (lines (drop at s)) ≡ false
+      fields-fault g = f.fit ∙ ap (λ (m : ℕ). line_fits m (lines (drop next s))) one ∙ g.no_newline refl
 
-      pub fields-last : r.good ≡ true → (w : Line) → w.good ≡ true → w.next ≡ r.next
-          → RowRead s at k d to w (set e (to + (k - 1)) r.value)
+      pub fields-last : (n : Number) → FieldIs s next newline n → RowIs s at (length d) n.next (set e (length d - 1) n.value)
       unfolding line_fits
-      fields-last y w n x =
-          let m = g.next y in
-          let t = g.ended y refl in
-          let last : k - 1 ≡ j = omega (arith, f.below) in
-          let fit : line_fits k (lines (drop at s)) ≡ true = f.fit ∙ ap (λ (c : ℕ). line_fits c (lines (drop i s))) one ∙ t.fit in
+      fields-last n g =
+          let t = g.ended refl in
+          let last : length d - 1 ≡ i = omega (arith, f.below) in
+          let fit : line_fits (length d) (lines (drop at s)) ≡ true = f.fit ∙ ap (λ (c : ℕ). line_fits c (lines (drop next s))) one ∙ t.fit in
           record {
-            good = n ∙ sym fit;
-            next = λ z. (omega (arith, f.low), omega arith);
-            line = λ z. whole-line (lines (drop at s)) (and_left _ _ fit)
-                ∙ ap (λ (u : Text). line (head_line (lines (drop at s))) u) (f.behind ∙ t.behind ∙ ap (λ (c : ℕ). lines (drop c s)) (sym x));
-            table = λ z. rw last (stored ∙ ap (sets d to) (sym (f.read ∙ ap (λ (l : List ℕ). f.done ++ l) t.vals)));
+            fits = fit;
+            ends = record {
+              inside = (omega (arith, f.low, g.next.0), g.next.1);
+              line = whole-line (lines (drop at s)) (and_left _ _ fit)
+                  ∙ ap (λ (u : Text). line (head_line (lines (drop at s))) u) (f.behind ∙ t.behind);
+            };
+            values = rw last (stored n.value ∙ sets-all d (f.done ++ (n.value ∷ [])) (counted n.value ∙ omega (arith, f.below))
+                ∙ sym (f.read ∙ ap (λ (l : List ℕ). f.done ++ l) t.vals));
           }

@@ -1,33 +1,16 @@
-use mathlib.Core.Path.{refl, ◌∙◌}
-use lib.ListN.{length-set}
-use borrow.Author.Tests.{not-true, not-false}
-use Rattle.sheet_values.proofs.Laws.Rows.{fields-first, fields_stop, fields-next, fields-fault, fields-last}
+use Rattle.sheet_values.proofs.Laws.Rows.{fields_stop, fields-next, fields-fault, fields-last}
 use Rattle.sheet_values.proofs.row_at.Goals as goal
 
-pub loop-j-init : goal.loop-j-init
-loop-j-init c =
-    fields-first _ _ _ _ _ c.requires.0 c.requires.1
+pub returns-in_err-field : goal.returns-in_err-field
+returns-in_err-field c =
+    rw c.from_residual.ensures (fields_stop _ _ _ c.loop-i.invariant c.loop-i-test.true c.in_err-field.ensures)
 
-pub returns-then-not-f : goal.returns-then-not-f
-returns-then-not-f c =
-    let loop = c.loop-j in
-    fields_stop _ _ _ _ _ loop.invariant _ c.field_at-f.ensures c.loop-j-test.true (not-true _ c.if-not-f.true)
-    _ refl _
+pub loop-i-preserved : goal.loop-i-preserved
+loop-i-preserved c = fields-next _ _ _ c.loop-i.invariant c.loop-i-test.true _ c.in_ok-field.ensures
 
-pub loop-j-preserved : goal.loop-j-preserved
-loop-j-preserved c =
-    let loop = c.loop-j in
-    fields-next _ _ _ _ _ loop.invariant _ c.field_at-f.ensures c.loop-j-test.true (not-false _ c.if-not-f.false)
-    (length-set loop.table _ _ ∙ loop.invariant.size)
-
-pub returns-then-not-f-2 : goal.returns-then-not-f-2
-returns-then-not-f-2 c =
-    let loop = c.loop-j in
-    fields-fault _ _ _ _ _ loop.invariant _ c.field_at-f-2.ensures c.loop-j-test.false (not-true _ c.if-not-f-2.true)
-    _ refl _
+pub returns-in_err-field-2 : goal.returns-in_err-field-2
+returns-in_err-field-2 c =
+    rw c.from_residual-in_err-field-2.ensures (fields-fault _ _ _ c.loop-i.invariant c.loop-i-test.false c.in_err-field-2.ensures)
 
 pub returns : goal.returns
-returns c =
-    let loop = c.loop-j in
-    fields-last _ _ _ _ _ loop.invariant _ c.field_at-f-2.ensures c.loop-j-test.false (not-false _ c.if-not-f-2.false)
-    _ refl refl
+returns c = fields-last _ _ _ c.loop-i.invariant c.loop-i-test.false _ c.in_ok-field-2.ensures

@@ -1,13 +1,21 @@
--- What reading a field gives, and the ways out of `long_field_at` and `field_at`.
-use Rattle.std.specs.Prelude.{◌≡◌, true, false, List, ℕ, suc, ◌≤◌, ◌<◌, length, drop}
+-- What reading a field gives.
+use Rattle.std.specs.Prelude.{◌≡◌, false, List, ℕ, suc, ◌≤◌, ◌<◌, length, drop, Option, Some, None}
 use Rattle.sheet.specs.Text.{newline, space, lines}
 use Rattle.sheet.specs.Inner.RowLines.{line_fits, Spaced, LineEnded}
-use Rattle.sheet_values.specs.declared.Field.{Field}
+use Rattle.sheet_values.specs.declared.Number.{Number}
 
--- At a place stands a value and its separator; or no row of numbers goes on so there.
-pub record FieldRead (s : List ℕ) (at separator : ℕ) (r : Field) : Type 0 where
-  pub next : r.good ≡ true → (at < r.next) × (r.next ≤ length s)
-  pub spaced : r.good ≡ true → separator ≡ space → Spaced (drop at s) r.value (drop r.next s)
-  pub ended : r.good ≡ true → separator ≡ newline → LineEnded (drop at s) r.value (drop r.next s)
-  pub no_space : r.good ≡ false → separator ≡ space → (k : ℕ) → line_fits (suc (suc k)) (lines (drop at s)) ≡ false
-  pub no_newline : r.good ≡ false → separator ≡ newline → line_fits 1 (lines (drop at s)) ≡ false
+-- At a place stand a value and its separator.
+pub record FieldIs (s : List ℕ) (at separator : ℕ) (n : Number) : Type 0 where
+  pub next : (at < n.next) × (n.next ≤ length s)
+  pub spaced : separator ≡ space → Spaced (drop at s) n.value (drop n.next s)
+  pub ended : separator ≡ newline → LineEnded (drop at s) n.value (drop n.next s)
+
+-- No row of numbers goes on so there.
+pub record NoField (s : List ℕ) (at separator : ℕ) : Type 0 where
+  pub no_space : separator ≡ space → (k : ℕ) → line_fits (suc (suc k)) (lines (drop at s)) ≡ false
+  pub no_newline : separator ≡ newline → line_fits 1 (lines (drop at s)) ≡ false
+
+-- The one or the other.
+abbrev pub FieldRead : List ℕ → ℕ → ℕ → Option Number → Type 0
+FieldRead s at separator None = NoField s at separator
+FieldRead s at separator (Some n) = FieldIs s at separator n

@@ -1,24 +1,21 @@
 -- What reading a number gives.
-use Rattle.std.specs.Prelude.{◌≡◌, true, false, not, cond, List, [], ◌∷◌, ℕ, ◌+◌, ◌-◌, ◌<◌, eqb, length, get_or}
+use Rattle.std.specs.Prelude.{◌≡◌, true, false, cond, List, [], ◌∷◌, ℕ, ◌+◌, ◌-◌, length, Option, Some, None}
 use Rattle.sheet.specs.Text.{digit, value, is_number}
 use Rattle.sheet.specs.Inner.Digits.{digits_of}
 use Rattle.sheet_values.specs.declared.Number.{Number}
 
--- The digit that bytes start with, or 10.
-abbrev pub digit_at : List ℕ → ℕ
-digit_at [] = 10
-digit_at (b ∷ s) = cond (digit b) (b - 48) 10
+-- The digit that bytes start with.
+abbrev pub digit_at : List ℕ → Option ℕ
+digit_at [] = None
+digit_at (b ∷ s) = cond (digit b) (Some (b - 48)) None
 
--- The bytes s, at a place, start with digits that are a number.
-pub record NumberRead (s : List ℕ) (at : ℕ) (r : Number) : Type 0 where
-  pub good : r.good ≡ is_number (digits_of s)
-  pub value : r.good ≡ true → r.value ≡ value 0 (digits_of s)
-  pub end : r.good ≡ true → r.end ≡ at + length (digits_of s)
+-- The digits that bytes start with, at a place, are the number n.
+pub record NumberIs (s : List ℕ) (at : ℕ) (n : Number) : Type 0 where
+  pub is : is_number (digits_of s) ≡ true
+  pub value : n.value ≡ value 0 (digits_of s)
+  pub next : n.next ≡ at + length (digits_of s)
 
--- The digits from a place to another, whose value is v, are a number.
-pub record Checked (s : List ℕ) (at stop v : ℕ) (r : Number) : Type 0 where
-  pub none : stop ≡ at → r.good ≡ false
-  pub one : stop ≡ at + 1 → r.good ≡ true
-  pub more : at + 1 < stop → r.good ≡ not (eqb (get_or s at 0) 48)
-  pub value : r.good ≡ true → r.value ≡ v
-  pub end : r.good ≡ true → r.end ≡ stop
+-- The bytes s, at a place, start with digits that are a number, or do not.
+abbrev pub NumberRead : List ℕ → ℕ → Option Number → Type 0
+NumberRead s at None = is_number (digits_of s) ≡ false
+NumberRead s at (Some n) = NumberIs s at n

@@ -1,12 +1,9 @@
 -- The loop's invariant: the first q states are 0.
 use mathlib.Core.Path.{◌≡◌}
-use Prim.Native.Nat.{◌-◌, ◌≤◌}
+use Prim.Native.Nat.{◌-◌}
 use lib.ListN.{length}
 use Rattle.answer_schedule.specs.Inner.Bases.{FreshTo}
 use Rattle.answer_schedule.proofs.bases.clear_states.Given as goal
 
 abbrev pub invariant-loop-q : goal.invariant-loop-q
-invariant-loop-q l = (l.q ≤ 32) × (length l.work ≡ length l.initial.work) × FreshTo l.width l.work l.q
-
-abbrev pub decreases-loop-q : goal.decreases-loop-q
-decreases-loop-q l = 32 - l.q
+invariant-loop-q l = (length l.work ≡ length l.initial.work) × FreshTo l.width l.work (l.q - 1)

@@ -1,48 +1,18 @@
-use mathlib.Core.Path.{◌≡◌, refl, sym, ap, ap₂, ◌∙◌}
-use Prim.Native.Nat.{ℕ, ◌+◌, ◌-◌, ◌*◌, ◌<◌}
+use mathlib.Core.Path.{◌≡◌, refl, sym, ap, ap₂, ◌∙◌, subst}
+use Prim.Native.Nat.{ℕ, ◌+◌, ◌-◌}
 use native.Mathlib.Omega.{arith}
-use lib.ListN.{length-set}
-use Rattle.answer_blocks.specs.Inner.Layout.{block_size, answers_size}
-use Rattle.answer_blocks.proofs.Laws.Laws.{block-few}
+use lib.ListN.{length, set, length-set}
+use Rattle.definition_room.specs.Inner.Sums.{sum_to}
+use Rattle.definition_state.specs.Inner.Table.{count_at}
 use Rattle.answer_schedule.proofs.Laws.Counts.{count-few}
-use Rattle.answer_schedule.proofs.Laws.Bases.{sum_none, sum_next, bases_few, block_inside, based-none, based-next, no_schedule}
+use Rattle.answer_schedule.proofs.Laws.Bases.{sum_none, sum_next, bases_few, BasedTo, based-none, based-next, no_schedule}
 use Rattle.answer_schedule.proofs.bases.set_bases.Goals.{After-place_of}
 use Rattle.answer_schedule.proofs.bases.set_bases.Goals as goal
-
-pub overflow_sub-first : goal.overflow_sub-first
-overflow_sub-first c = omega (arith, c.answers_of.ensures, c.requires.2, c.clear_states.auto.work)
 
 pub loop-q-init : goal.loop-q-init
 loop-q-init c =
     let cleared = c.clear_states in
-    (omega arith, refl, sum_none _, based-none _ _ cleared.new.work cleared.ensures)
-
-pub place_of-requires : goal.place_of-requires
-place_of-requires c =
-    (omega arith, omega (arith, c.requires.0.within.few-queries), omega (arith, (block-few c.args.width).0))
-
--- Where the base stands: among the answers.
-inside : (c : After-place_of) → c.place_of.result < answers_size c.args.width
-inside c =
-    let q = c.loop-q.q in
-    omega (arith, c.place_of.ensures, block_inside c.args.width (q + 1 - 1) 3 (omega (arith, c.requires.0.within.few-queries)) (omega arith))
-
-pub overflow_add-work : goal.overflow_add-work
-overflow_add-work c =
-    omega (arith, inside c, c.requires.2, c.answers_of.ensures, c.clear_states.auto.work)
-
-pub offset_bounds-work-first : goal.offset_bounds-work-first
-offset_bounds-work-first c =
-    omega (arith, inside c, c.requires.2, c.answers_of.ensures, c.clear_states.auto.work)
-
-pub bounds-work-first : goal.bounds-work-first
-bounds-work-first c =
-    omega (arith, inside c, c.requires.2, c.loop-q.invariant.1, c.answers_of.ensures, c.clear_states.auto.work)
-
-pub count_stmts-base-requires : goal.count_stmts-base-requires
-count_stmts-base-requires c =
-    let pre = c.requires in
-    (pre.0, omega arith, omega arith)
+    (refl, sum_none _, based-none _ _ cleared.new.work cleared.ensures)
 
 pub overflow_add-base : goal.overflow_add-base
 overflow_add-base c =
@@ -53,33 +23,43 @@ overflow_add-base c =
     omega (
       arith,
       pre.0.within.few-queries,
-      loop.invariant.2,
-      bases_few t pre.0 q,
-      count-few t pre.0 (q + 1),
+      loop.invariant.1,
+      bases_few t pre.0 (q - 1),
+      count-few t pre.0 q,
       c.count_stmts-base.ensures,
     )
 
+-- The base of query q is written too.
+put : (c : After-place_of) → (let q = c.loop-q.q in
+    BasedTo c.args.tables.now c.args.width (set c.loop-q.work (length c.clear_states.new.work - c.answers_of.result + c.place_of.result) c.loop-q.base) (q - 1 + 1))
+put c =
+    let pre = c.requires in
+    let inv = c.loop-q.invariant in
+    based-next _ _ _ _ inv.2 (omega (arith, pre.2, inv.0, c.clear_states.auto.work)) (omega (arith, pre.0.within.few-queries)) _
+    (omega (arith, inv.0, c.answers_of.ensures, c.place_of.ensures)) _ inv.1
+
 pub loop-q-preserved : goal.loop-q-preserved
 loop-q-preserved c =
-    let pre = c.requires in
-    let long = c.clear_states.auto.work in
-    let ans = c.answers_of.ensures in
-    let loop = c.loop-q in
-    let inv = loop.invariant in
-    let v = c.args.width in
-    let e : loop.q + 1 - 1 ≡ loop.q = omega arith in (
-      omega arith,
-      length-set loop.work _ loop.base ∙ inv.1,
-      ap₂ ◌+◌ inv.2 c.count_stmts-base.ensures ∙ sym (sum_next _ loop.q),
-      based-next _ v _ _ inv.3 (omega (arith, pre.2, inv.1, long)) (omega (arith, pre.0.within.few-queries)) _
-          (omega (arith, inv.1, ans, c.place_of.ensures, ap (λ (n : ℕ). block_size v * n) e)) _ inv.2,
+    let inv = c.loop-q.invariant in
+    let q = c.loop-q.q in
+    let count = count_at c.args.tables.now in
+    let here : q - 1 + 1 ≡ q = omega arith in
+    let next : q - 1 + 1 ≡ q + 1 - 1 = omega arith in (
+      length-set c.loop-q.work _ c.loop-q.base ∙ inv.0,
+      ap₂ ◌+◌ inv.1 c.count_stmts-base.ensures
+          ∙ sym (ap (sum_to count) (sym next) ∙ sum_next count (q - 1) ∙ ap (λ (n : ℕ). sum_to count (q - 1) + count n) here),
+      subst (BasedTo c.args.tables.now c.args.width _) next (put (goal.at.loop-q-preserved c).After-place_of),
     )
-
-pub shape_of-work : goal.shape_of-work
-shape_of-work c = c.loop-q.invariant.1 ∙ c.clear_states.auto.work
 
 pub returns : goal.returns
 returns c =
     let pre = c.requires in
     let inv = c.loop-q.invariant in
-    no_schedule _ _ _ _ inv.3 (omega (arith, pre.2, inv.1, c.clear_states.auto.work)) pre.0 pre.1 (omega arith)
+    no_schedule _ _ _ _ inv.2 (omega (arith, pre.2, inv.0, c.clear_states.auto.work)) pre.0 pre.1 (omega arith)
+
+pub returns-2 : goal.returns-2
+returns-2 c =
+    let pre = c.requires in
+    let inv = c.loop-q.invariant in
+    let long = length-set c.loop-q.work (length c.clear_states.new.work - c.answers_of.result + c.place_of.result) c.loop-q.base in
+    no_schedule _ _ _ _ (put (goal.at.returns-2 c).After-place_of) (omega (arith, pre.2, inv.0, c.clear_states.auto.work, long)) pre.0 pre.1 (omega arith)

@@ -1,6 +1,6 @@
--- The loop's invariant: no query is analysed, the bases of the first q queries are written, and the next base is their sum.
+-- The loop's invariant: no query is analysed, the bases of the queries in front of q are written, and the next base is their sum.
 use mathlib.Core.Path.{◌≡◌}
-use Prim.Native.Nat.{◌-◌, ◌≤◌}
+use Prim.Native.Nat.{◌-◌}
 use lib.ListN.{length}
 use Rattle.definition_room.specs.Inner.Sums.{sum_to}
 use Rattle.definition_state.specs.Inner.Table.{count_at}
@@ -9,7 +9,4 @@ use Rattle.answer_schedule.proofs.bases.set_bases.Given as goal
 
 abbrev pub invariant-loop-q : goal.invariant-loop-q
 invariant-loop-q l =
-    (l.q ≤ l.queries) × (length l.work ≡ length l.initial.work) × (l.base ≡ sum_to (count_at l.tables) l.q) × BasedTo l.tables l.width l.work l.q
-
-abbrev pub decreases-loop-q : goal.decreases-loop-q
-decreases-loop-q l = l.queries - l.q
+    (length l.work ≡ length l.initial.work) × (l.base ≡ sum_to (count_at l.tables) (l.q - 1)) × BasedTo l.tables l.width l.work (l.q - 1)

@@ -3,9 +3,6 @@ use mathlib.Core.Path.{sym, ap}
 use Rattle.call.specs.Inner.Replies.{fault_reply}
 use Rattle.call.proofs.replies.of_fault.Goals as goal
 
-pub returns-in-Sound : goal.returns-in-Sound
-returns-in-Sound c = sym (ap fault_reply c.in-Sound.is)
-
 pub returns-in-Undefined : goal.returns-in-Undefined
 returns-in-Undefined c = sym (ap fault_reply c.in-Undefined.is)
 

@@ -4,4 +4,4 @@ use Rattle.definition_literal.proofs.Laws.Choices.{chosen}
 use Rattle.definition_literal.proofs.body.after_body.Goals as goal
 
 pub returns-then-is_sound : goal.returns-then-is_sound
-returns-then-is_sound c = c.fail.ensures ∙ chosen _ _ _ (sym c.is_sound.ensures ∙ c.if-is_sound.true)
+returns-then-is_sound c = c.with_fault.ensures ∙ chosen _ _ _ (sym c.is_sound.ensures ∙ c.if-is_sound.true)

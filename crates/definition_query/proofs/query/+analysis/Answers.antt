@@ -1,16 +1,16 @@
 -- The cycle of query analysis, member after member; the measures are in Invariants.antt.
-use Rattle.definition_query.proofs.query.+analysis.Goals.{analyze_query-After-process_comprs-t, analyze_query-After-first_at-row, analyze_query-Else-levels-eq0, analyze_query-After-enclose, process_comprs-After-after_compr-s, process_comprs-After-listed_at-w, process_comprs-After-row, process_every-After-record_one-s, process_every-After-row, process_expr-After-row_at-w, process_non_vars-After-pattern_of-items, process_non_vars-Joined-items-ne0, process_non_vars-Joined-other-ne0, process_non_vars-After-row_at-w, process_pairs-After-pair_of-pair, process_pairs-Joined-pair-ne0-2, process_pairs-Joined-pair-ne0, process_pairs-After-row_at-a, process_pairs-After-row_at-b, process_some_in-After-enclose}
+use Rattle.definition_query.proofs.query.+analysis.Goals.{analyze_query-After-process_comprs-t, analyze_query-After-first_at-row, analyze_query-Else-levels-eq0, analyze_query-After-enclose, process_comprs-After-after_compr-s, process_comprs-After-listed_at-w, process_comprs-After-row, process_every-After-record_one-s, process_every-After-row, process_expr-After-row_at-w, process_non_vars-After-pattern_of-items, process_non_vars-Joined-items-ne0, process_non_vars-Joined-other-ne0, process_non_vars-After-row_at-w, process_pairs-After-pair_of, process_pairs-Joined-pair_of, process_pairs-After-row_at-a, process_pairs-After-row_at-b, process_some_in-After-enclose}
 use mathlib.Core.Path.{sym, ◌∙◌, ◌≡◌, refl, ap, subst}
 use mathlib.Core.Bool.{true, false}
 use Prim.Native.Nat.{ℕ, ◌-◌, ◌+◌, ◌*◌, ◌≤◌}
 use native.Mathlib.Omega.{arith}
 use mathlib.Core.Logic.{inl, inr}
-use Rattle.definition_query.proofs.query.+analysis.Goals.{process_non_vars-then-other-ne0, process_non_vars-else-other-ne0, process_non_vars-then-items-ne0, process_non_vars-else-items-ne0, process_pairs-then-pair-ne0, process_pairs-else-pair-ne0, process_pairs-then-pair-ne0-2, process_pairs-else-pair-ne0-2}
+use Rattle.definition_query.proofs.query.+analysis.Goals.{process_non_vars-then-other-ne0, process_non_vars-else-other-ne0, process_non_vars-then-items-ne0, process_non_vars-else-items-ne0, process_pairs-in-Sides, process_pairs-in-Chains, process_pairs-in-Differ}
 use lib.ListN.{replicate, length, get_or}
 use borrow.Author.Rules.{rules}
 use Rattle.order_rows.proofs.Laws.Zeros.{zero-at}
 use Rattle.definition_comprs.specs.Inner.Lists.{both_at, listed_at}
-use Rattle.definition_cycle.specs.Inner.Asks.{Begun, other_at, pair_at, pairs_at}
+use Rattle.definition_cycle.specs.Inner.Asks.{Begun, other_at, pairs_at}
 use Rattle.definition_cycle.specs.Inner.Does.{DoesComprs, DoesOthers, DoesNonVars, DoesPairs}
 use Rattle.definition_cycle.proofs.Laws.ComprLists.{both_do, does_none as compr_lists_does_none, query_in, room_at as compr_lists_room_at, query-asks as compr_lists_query-asks, own_does, next-asks, turn_does, both_used}
 use Rattle.definition_cycle.proofs.Laws.OneQuery.{stmts_below, comprs-below, does_none as one_query_does_none, does_nothing, begun_of, Started, row-high, asks_stmts, Enclosed, asks-outputs, room-last, based-last, takes_last, does_query}
@@ -28,7 +28,7 @@ use Rattle.sheet.proofs.Laws.Sheet.{row-fields}
 use Rattle.sheet.specs.Kinds.{is_assign}
 use Rattle.scope_walk.proofs.Laws.Walking.{few_remain, row_low, first-low, second-low, Falls, low-name, pattern_calls}
 use Rattle.definition_cycle.proofs.Laws.ExprSteps.{arg_low, pairs_asks, assign_does, extras_listed, use_asks as expr_steps_use_asks, each_fits, use_does}
-use Rattle.definition_cycle.proofs.Laws.LiteralSteps.{literal_first_low, literal-vars, literal-some_in, literal-every, asks-expr, literal-expr}
+use Rattle.definition_cycle.proofs.Laws.LiteralSteps.{plain_form, literal_first_low, literal-vars, literal-some_in, literal-every, asks-expr, literal-expr}
 use Rattle.definition_cycle.proofs.Laws.ComprRows.{at_low}
 use Rattle.definition_cycle.proofs.Laws.NonVarSteps.{non_var_none, asks_use, asks-comprs, non_var_does}
 use Rattle.scope_walk.specs.Inner.Walking.{remains}
@@ -37,7 +37,8 @@ use Rattle.definition_cycle.proofs.Laws.Guards.{KeepsLengths, guarded_lists}
 use Rattle.definition_cycle.proofs.Laws.Patterns.{non_var_low}
 use Rattle.definition_cycle.proofs.Laws.PatternSteps.{non_vars_do_none, asks-other, asks-parts as pattern_steps_asks-parts, asks_rest as pattern_steps_asks_rest, non_vars_do}
 use Rattle.definition_steps.proofs.Laws.Pairs.{pairings-left, pairings_right}
-use Rattle.definition_cycle.proofs.Laws.PairRows.{Split, split, asks-pair, asks-parts as pair_rows_asks-parts, asks_rest as pair_rows_asks_rest, pairs_does}
+use Rattle.definition_cycle.proofs.Laws.PairRows.{Split, split, pairings_of, differs, asks_sides, asks_chains, asks_rest as pair_rows_asks_rest, pairs_does}
+use Rattle.definition_literal.specs.declared.pairs.Pair.{Pair}
 use Rattle.scope_state.proofs.Laws.Enclosing.{scopes_enclosed}
 use Rattle.scope_gather.specs.Inner.Statements.{NamedParts}
 use Rattle.definition_cycle.proofs.Laws.Moves.{Enclosing}
@@ -45,7 +46,7 @@ use Rattle.definition_cycle.proofs.Laws.SomeInSteps.{parts_low, asks-collection,
 use Rattle.scope_gather.proofs.Laws.Queries.{next_stmt}
 use Rattle.definition_cycle.proofs.Laws.StmtSteps.{stmts_end, with-low, mods-ready, asks-literal, least_fits, asks-next, stmts_turn}
 use lib.Dec.{eqb}
-use borrow.Author.Tests.{eqb-true}
+use borrow.Author.Tests.{eqb-true, eq-eqb}
 use Rattle.base.proofs.Laws.Truth.{and_left, and_right}
 use Rattle.definition_cycle.proofs.Laws.UseExprs.{use_ready, comprs-asks, use_room, does_listed, does_without}
 use Rattle.names_width.specs.Inner.Widths as Widths
@@ -604,11 +605,11 @@ process_literal-check_vars-requires m c =
     let pre = c.requires in
     (pre.accepted, literal_first_low a.tables.now a.st pre.accepted a.outer.now a.spans.now a.context a.p a.firsts.now a.work.now pre.asks, pre.firsts_room)
 
-pub process_literal-returns-then-st-eq-SOME_VARS : goal.process_literal-returns-then-st-eq-SOME_VARS
-process_literal-returns-then-st-eq-SOME_VARS m c =
+pub process_literal-returns-in-SomeVars : goal.process_literal-returns-in-SomeVars
+process_literal-returns-in-SomeVars m c =
     let a = c.args in
     let pre = c.requires in
-    literal-vars a.tables.now a.st pre.accepted a.outer.now a.spans.now a.context a.p a.firsts.now a.work.now pre.asks c.if-st-eq-SOME_VARS.true _ c.check_vars.ensures
+    literal-vars a.tables.now a.st pre.accepted a.outer.now a.spans.now a.context a.p a.firsts.now a.work.now pre.asks c.in-SomeVars.ensures _ c.check_vars.ensures
 
 pub process_literal-process_some_in-requires : goal.process_literal-process_some_in-requires
 process_literal-process_some_in-requires m c =
@@ -623,15 +624,15 @@ process_literal-process_some_in-requires m c =
           firsts_room = pre.firsts_room;
           asks = pre.asks;
         },
-        c.if-st-eq-SOME_IN.true,
+        c.in-SomeIn.ensures,
       ),
     )
 
-pub process_literal-returns-then-st-eq-SOME_IN : goal.process_literal-returns-then-st-eq-SOME_IN
-process_literal-returns-then-st-eq-SOME_IN m c =
+pub process_literal-returns-in-SomeIn : goal.process_literal-returns-in-SomeIn
+process_literal-returns-in-SomeIn m c =
     let a = c.args in
     let pre = c.requires in
-    literal-some_in a.tables.now a.st pre.accepted a.outer.now a.spans.now a.context a.p a.firsts.now a.work.now pre.asks _ _ _ c.if-st-eq-SOME_IN.true c.process_some_in.ensures
+    literal-some_in a.tables.now a.st pre.accepted a.outer.now a.spans.now a.context a.p a.firsts.now a.work.now pre.asks _ _ _ c.in-SomeIn.ensures c.process_some_in.ensures
 
 pub process_literal-process_every-requires : goal.process_literal-process_every-requires
 process_literal-process_every-requires m c =
@@ -646,35 +647,61 @@ process_literal-process_every-requires m c =
           firsts_room = pre.firsts_room;
           asks = pre.asks;
         },
-        c.if-st-eq-EVERY.true,
+        c.in-Every.ensures,
       ),
     )
 
-pub process_literal-returns-then-st-eq-EVERY : goal.process_literal-returns-then-st-eq-EVERY
-process_literal-returns-then-st-eq-EVERY m c =
+pub process_literal-returns-in-Every : goal.process_literal-returns-in-Every
+process_literal-returns-in-Every m c =
     let a = c.args in
     let pre = c.requires in
-    literal-every a.tables.now a.st pre.accepted a.outer.now a.spans.now a.context a.p a.firsts.now a.work.now pre.asks _ _ _ c.if-st-eq-EVERY.true c.process_every.ensures
+    literal-every a.tables.now a.st pre.accepted a.outer.now a.spans.now a.context a.p a.firsts.now a.work.now pre.asks _ _ _ c.in-Every.ensures c.process_every.ensures
 
 pub process_literal-process_expr-requires : goal.process_literal-process_expr-requires
 process_literal-process_expr-requires m c =
     let a = c.args in
-    let pre = c.requires in (
+    let pre = c.requires in
+    let three = c.in-Expr.ensures in (
       omega (arith, c.decreases),
       record {
         accepted = pre.accepted;
         outer-room = pre.outer-room;
         spans-room = pre.spans-room;
         firsts_room = pre.firsts_room;
-        asks = asks-expr a.tables.now a.st pre.accepted a.outer.now a.spans.now a.context a.p a.firsts.now a.work.now pre.asks c.if-st-eq-SOME_VARS.false c.if-st-eq-SOME_IN.false c.if-st-eq-EVERY.false;
+        asks = asks-expr a.tables.now a.st pre.accepted a.outer.now a.spans.now a.context a.p a.firsts.now a.work.now pre.asks (λ z. omega arith) (λ z. omega arith) (λ z. omega arith);
       },
     )
 
-pub process_literal-returns : goal.process_literal-returns
-process_literal-returns m c =
+pub process_literal-returns-in-Expr : goal.process_literal-returns-in-Expr
+process_literal-returns-in-Expr m c =
     let a = c.args in
     let pre = c.requires in
-    literal-expr a.tables.now a.st pre.accepted a.outer.now a.spans.now a.context a.p a.firsts.now a.work.now pre.asks c.if-st-eq-SOME_VARS.false c.if-st-eq-SOME_IN.false c.if-st-eq-EVERY.false _ refl _ _ _ c.process_expr.ensures
+    let three = c.in-Expr.ensures in
+    literal-expr a.tables.now a.st pre.accepted a.outer.now a.spans.now a.context a.p a.firsts.now a.work.now pre.asks (λ z. omega arith) (λ z. omega arith) (λ z. omega arith)
+    true (sym (eq-eqb a.st.form 3 three)) _ _ _ c.process_expr.ensures
+
+pub process_literal-process_expr-requires-in-NotExpr : goal.process_literal-process_expr-requires-in-NotExpr
+process_literal-process_expr-requires-in-NotExpr m c =
+    let a = c.args in
+    let pre = c.requires in
+    let other = plain_form a.st.form c.from.ensures c.in-NotExpr.is in (
+      omega (arith, c.decreases),
+      record {
+        accepted = pre.accepted;
+        outer-room = pre.outer-room;
+        spans-room = pre.spans-room;
+        firsts_room = pre.firsts_room;
+        asks = asks-expr a.tables.now a.st pre.accepted a.outer.now a.spans.now a.context a.p a.firsts.now a.work.now pre.asks other.0 other.1 other.2;
+      },
+    )
+
+pub process_literal-returns-in-NotExpr : goal.process_literal-returns-in-NotExpr
+process_literal-returns-in-NotExpr m c =
+    let a = c.args in
+    let pre = c.requires in
+    let other = plain_form a.st.form c.from.ensures c.in-NotExpr.is in
+    literal-expr a.tables.now a.st pre.accepted a.outer.now a.spans.now a.context a.p a.firsts.now a.work.now pre.asks other.0 other.1 other.2
+    false (sym other.3) _ _ _ c.process_expr-in-NotExpr.ensures
 
 -- ---- `process_non_var`.
 
@@ -937,178 +964,126 @@ process_pairs_left_is m c = c.row_at-a.ensures ∙ row-fields _ _
 process_pairs_right_is : (m : ℕ) (c : process_pairs-After-row_at-b m) → c.row_at-b.result ≡ row_at c.args.tables.now c.args.right
 process_pairs_right_is m c = c.row_at-b.ensures ∙ row-fields _ _
 
-pub process_pairs-pair_of-pair-requires : goal.process_pairs-pair_of-pair-requires
-process_pairs-pair_of-pair-requires m c =
+pub process_pairs-pair_of-requires : goal.process_pairs-pair_of-requires
+process_pairs-pair_of-requires m c =
     let pre = c.requires in (
       pre.accepted,
-      first-low _ pre.accepted _ c.if-left-eq0.false pre.left_in _ (process_pairs_left_is m (goal.at.process_pairs-pair_of-pair-requires m c).After-row_at-a),
+      first-low _ pre.accepted _ c.if-left-eq0.false pre.left_in _ (process_pairs_left_is m (goal.at.process_pairs-pair_of-requires m c).After-row_at-a),
       first-low _ pre.accepted _ c.if-right-eq0.false pre.right_in _ (process_pairs_right_is m c),
     )
 
--- What they come to.
-process_pairs_left_is-at-After-pair_of-pair : (m : ℕ) (c : process_pairs-After-pair_of-pair m) → c.row_at-a.result ≡ row_at c.args.tables.now c.args.left
-process_pairs_left_is-at-After-pair_of-pair m c = c.row_at-a.ensures ∙ row-fields _ _
-
-process_pairs_right_is-at-After-pair_of-pair : (m : ℕ) (c : process_pairs-After-pair_of-pair m) → c.row_at-b.result ≡ row_at c.args.tables.now c.args.right
-process_pairs_right_is-at-After-pair_of-pair m c = c.row_at-b.ensures ∙ row-fields _ _
-
-process_pairs_parts : (m : ℕ) (c : process_pairs-After-pair_of-pair m)
-    → Split c.args.tables.now c.args.left c.args.right c.row_at-a.result c.row_at-b.result c.pair_of-pair.result
-process_pairs_parts m c =
+-- What they come to, as the arms of the match have it.
+process_pairs_split : (m : ℕ) (c : process_pairs-After-pair_of m) (pair : Pair) → c.pair_of.result ≡ pair
+    → Split c.args.tables.now c.args.left c.args.right c.row_at-a.result c.row_at-b.result pair
+process_pairs_split m c pair is =
     let pre = c.requires in
-    split _ pre.accepted _ c.if-left-eq0.false pre.left_in _ c.if-right-eq0.false pre.right_in _ _ (process_pairs_left_is-at-After-pair_of-pair m c) (process_pairs_right_is-at-After-pair_of-pair m c) _
-    c.pair_of-pair.ensures
+    split _ pre.accepted _ c.if-left-eq0.false pre.left_in _ c.if-right-eq0.false pre.right_in _ _ (c.row_at-a.ensures ∙ row-fields _ _) (c.row_at-b.ensures ∙ row-fields _ _) _
+    (sym is ∙ c.pair_of.ensures)
 
 pub process_pairs-assign_pair-s-requires : goal.process_pairs-assign_pair-s-requires
 process_pairs-assign_pair-s-requires m c =
     let pre = c.requires in
-    let s = process_pairs_parts m (goal.at.process_pairs-assign_pair-s-requires m c).After-pair_of-pair in (
+    let parts = process_pairs_split m (goal.at.process_pairs-assign_pair-s-requires m c).After-pair_of _ c.in-Sides.is in (
       omega (arith, c.decreases),
       record {
         accepted = pre.accepted;
         inner_room = pre.inner_room;
         firsts_room = pre.firsts_room;
-        left_in = s.left-low;
-        right_in = s.right_low;
-        asks = asks-pair _ _ _ _ c.args.check _ _ _ _ pre.asks _ _ _ s _ c.differ-s.ensures;
+        left_in = parts.entered.left-low;
+        right_in = parts.entered.right_low;
+        asks = asks_sides _ _ _ _ c.args.check _ _ _ _ pre.asks _ _ _ _ parts;
       },
     )
-
--- The pair itself and the pairs of two arrays, each processed where there is one.
-process_pairs_one-done : (m : ℕ) (c : process_pairs-Joined-pair-ne0 m)
-    →
-    let pair = c.pair_of-pair.result in
-    let a = c.args in
-    KeepsLengths (DoesPairs a.tables.now a.inner.now (pair_at a.tables.now pair.left pair.right) a.check a.context)
-    c.differ-s.result a.firsts.now a.work.now c.if-pair-ne0.s c.if-pair-ne0.firsts c.if-pair-ne0.work
-process_pairs_one-done m c =
-    let right = c.pair_of-pair.result.right in
-    let a = c.args in
-    guarded_lists (λ l. DoesPairs a.tables.now a.inner.now (pair_at a.tables.now l right) a.check a.context)
-    (λ p fs w. pair-none a.tables.now a.inner.now 0 right a.check a.context p fs w refl) _ _ _ _ _ _ _
-    (λ w. w) (λ w. w) (elim c.if-pair-ne0.branch [
-      | process_pairs-then-pair-ne0 w ↦ inl (_, _, _, (w.assign_pair-s.ensures, w.assign_pair-s.auto.firsts, w.assign_pair-s.auto.work), w.firsts-is, w.work-is, w.s-is)
-      | process_pairs-else-pair-ne0 w ↦ inr (w.if-pair-ne0.false, w.firsts-is, w.work-is, w.s-is)
-    ])
 
 pub process_pairs-process_pairs-s-requires : goal.process_pairs-process_pairs-s-requires
 process_pairs-process_pairs-s-requires m c =
     let pre = c.requires in
-    let s = process_pairs_parts m (goal.at.process_pairs-process_pairs-s-requires m c).After-pair_of-pair in (
-      omega (arith, c.decreases, s.lefts_fall.0),
+    let parts = process_pairs_split m (goal.at.process_pairs-process_pairs-s-requires m c).After-pair_of _ c.in-Chains.is in (
+      omega (arith, c.decreases, parts.entered.1.0),
       record {
         accepted = pre.accepted;
         inner_room = pre.inner_room;
-        firsts_room = omega (arith, pre.firsts_room, (process_pairs_one-done m (goal.at.process_pairs-process_pairs-s-requires m c).Joined-pair-ne0).1);
-        left_in = s.lefts_fall.1;
-        right_in = s.rights_low;
-        asks = pair_rows_asks-parts _ _ _ _ c.args.check _ _ _ _ pre.asks _ _ _ s _ c.differ-s.ensures _ _ _ (process_pairs_one-done m (goal.at.process_pairs-process_pairs-s-requires m c).Joined-pair-ne0).0;
+        firsts_room = pre.firsts_room;
+        left_in = parts.entered.0.left-low;
+        right_in = parts.entered.0.right_low;
+        asks = asks_chains _ _ _ _ c.args.check _ _ _ _ pre.asks _ _ _ _ parts;
       },
     )
 
-process_pairs_below-done : (m : ℕ) (c : process_pairs-Joined-pair-ne0-2 m)
+-- What the match did.
+process_pairs_matched : (m : ℕ) (c : process_pairs-Joined-pair_of m)
     →
-    let pair = c.pair_of-pair.result in
     let a = c.args in
-    KeepsLengths (DoesPairs a.tables.now a.inner.now (pairs_at a.tables.now pair.lefts pair.rights) a.check a.context)
-    c.if-pair-ne0.s c.if-pair-ne0.firsts c.if-pair-ne0.work c.if-pair-ne0-2.s c.if-pair-ne0-2.firsts c.if-pair-ne0-2.work
-process_pairs_below-done m c =
-    let rights = c.pair_of-pair.result.rights in
+    let now = c.match-pair_of in
+    KeepsLengths (DoesPairs a.tables.now a.inner.now (pairings_of a.tables.now c.row_at-b.result c.pair_of.result) a.check a.context)
+    a.p a.firsts.now a.work.now now.s now.firsts now.work
+process_pairs_matched m c =
     let a = c.args in
-    guarded_lists (λ l. DoesPairs a.tables.now a.inner.now (pairs_at a.tables.now l rights) a.check a.context)
-    (λ p fs w. no_pairs _ _ a.check a.context p fs w _ (pairings-left _ c.requires.accepted 0 rights refl)) _ _ _ _ _ _ _
-    (λ w. w) (λ w. w) (elim c.if-pair-ne0-2.branch [
-      | process_pairs-then-pair-ne0-2 w ↦ inl (_, _, _, (w.process_pairs-s.ensures, w.process_pairs-s.auto.firsts, w.process_pairs-s.auto.work), w.firsts-is, w.work-is, w.s-is)
-      | process_pairs-else-pair-ne0-2 w ↦ inr (w.if-pair-ne0-2.false, w.firsts-is, w.work-is, w.s-is)
-    ])
+    elim c.match-pair_of.branch [
+      | process_pairs-in-Sides w ↦ rw (w.s-is, w.firsts-is, w.work-is, w.in-Sides.is) (w.assign_pair-s.ensures, w.assign_pair-s.auto.firsts, w.assign_pair-s.auto.work)
+      | process_pairs-in-Chains w ↦ rw (w.s-is, w.firsts-is, w.work-is, w.in-Chains.is) (w.process_pairs-s.ensures, w.process_pairs-s.auto.firsts, w.process_pairs-s.auto.work)
+      | process_pairs-in-Differ w ↦
+          rw (w.s-is, w.firsts-is, w.work-is, w.in-Differ.is) (differs a.tables.now a.inner.now a.check a.context c.row_at-b.result a.p a.firsts.now a.work.now _ w.differ-s.ensures, refl, refl)
+    ]
 
--- The lengths of the lists are those at the start.
-process_pairs_one-done-at-Joined-pair-ne0-2 : (m : ℕ) (c : process_pairs-Joined-pair-ne0-2 m)
-    →
-    let pair = c.pair_of-pair.result in
-    let a = c.args in
-    KeepsLengths (DoesPairs a.tables.now a.inner.now (pair_at a.tables.now pair.left pair.right) a.check a.context)
-    c.differ-s.result a.firsts.now a.work.now c.if-pair-ne0.s c.if-pair-ne0.firsts c.if-pair-ne0.work
-process_pairs_one-done-at-Joined-pair-ne0-2 m c =
-    let right = c.pair_of-pair.result.right in
-    let a = c.args in
-    guarded_lists (λ l. DoesPairs a.tables.now a.inner.now (pair_at a.tables.now l right) a.check a.context)
-    (λ p fs w. pair-none a.tables.now a.inner.now 0 right a.check a.context p fs w refl) _ _ _ _ _ _ _
-    (λ w. w) (λ w. w) (elim c.if-pair-ne0.branch [
-      | process_pairs-then-pair-ne0 w ↦ inl (_, _, _, (w.assign_pair-s.ensures, w.assign_pair-s.auto.firsts, w.assign_pair-s.auto.work), w.firsts-is, w.work-is, w.s-is)
-      | process_pairs-else-pair-ne0 w ↦ inr (w.if-pair-ne0.false, w.firsts-is, w.work-is, w.s-is)
-    ])
-
-process_pairs_kept : (m : ℕ) (c : process_pairs-Joined-pair-ne0-2 m)
-    → let a = c.args in
-    (length c.if-pair-ne0-2.firsts ≡ length a.firsts.now) × (length c.if-pair-ne0-2.work ≡ length a.work.now)
-process_pairs_kept m c =
-    let one = process_pairs_one-done-at-Joined-pair-ne0-2 m c in
-    let below = process_pairs_below-done m c in
-    (below.1 ∙ one.1, below.2 ∙ one.2)
+process_pairs_parts : (m : ℕ) (c : process_pairs-Joined-pair_of m)
+    → Split c.args.tables.now c.args.left c.args.right c.row_at-a.result c.row_at-b.result c.pair_of.result
+process_pairs_parts m c =
+    let pre = c.requires in
+    split _ pre.accepted _ c.if-left-eq0.false pre.left_in _ c.if-right-eq0.false pre.right_in _ _ (c.row_at-a.ensures ∙ row-fields _ _) (c.row_at-b.ensures ∙ row-fields _ _) _
+    c.pair_of.ensures
 
 -- The whole, with the rest of both chains.
-process_pairs_left_is-at-Joined-pair-ne0-2 : (m : ℕ) (c : process_pairs-Joined-pair-ne0-2 m) → c.row_at-a.result ≡ row_at c.args.tables.now c.args.left
-process_pairs_left_is-at-Joined-pair-ne0-2 m c = c.row_at-a.ensures ∙ row-fields _ _
-
-process_pairs_right_is-at-Joined-pair-ne0-2 : (m : ℕ) (c : process_pairs-Joined-pair-ne0-2 m) → c.row_at-b.result ≡ row_at c.args.tables.now c.args.right
-process_pairs_right_is-at-Joined-pair-ne0-2 m c = c.row_at-b.ensures ∙ row-fields _ _
-
-process_pairs_parts-at-Joined-pair-ne0-2 : (m : ℕ) (c : process_pairs-Joined-pair-ne0-2 m)
-    → Split c.args.tables.now c.args.left c.args.right c.row_at-a.result c.row_at-b.result c.pair_of-pair.result
-process_pairs_parts-at-Joined-pair-ne0-2 m c =
-    let pre = c.requires in
-    split _ pre.accepted _ c.if-left-eq0.false pre.left_in _ c.if-right-eq0.false pre.right_in _ _ (process_pairs_left_is-at-Joined-pair-ne0-2 m c) (process_pairs_right_is-at-Joined-pair-ne0-2 m c) _
-    c.pair_of-pair.ensures
-
-process_pairs_done : (m : ℕ) (c : process_pairs-Joined-pair-ne0-2 m) (s : Progress) (fs w : List ℕ)
+process_pairs_done : (m : ℕ) (c : process_pairs-Joined-pair_of m) (s : Progress) (fs w : List ℕ)
     →
     let a = c.args in
+    let now = c.match-pair_of in
     DoesPairs a.tables.now a.inner.now (pairs_at a.tables.now c.row_at-a.result.next c.row_at-b.result.next) a.check a.context
-    c.if-pair-ne0-2.s c.if-pair-ne0-2.firsts c.if-pair-ne0-2.work s fs w
+    now.s now.firsts now.work s fs w
     → DoesPairs a.tables.now a.inner.now (pairs_at a.tables.now a.left a.right) a.check a.context a.p a.firsts.now a.work.now s fs w
 process_pairs_done m c s fs w behind =
     let pre = c.requires in
-    pairs_does _ _ _ _ c.args.check _ _ _ _ pre.asks _ _ _ (process_pairs_parts-at-Joined-pair-ne0-2 m c) _ c.differ-s.ensures _ _ _ (process_pairs_one-done-at-Joined-pair-ne0-2 m c).0 _ _ _
-    (process_pairs_below-done m c).0 _ _ _ behind
+    pairs_does _ _ _ _ c.args.check _ _ _ _ pre.asks _ _ _ (process_pairs_parts m c) _ _ _ (process_pairs_matched m c).0 _ _ _ behind
 
 pub process_pairs-shape_of-firsts-then-a-eq0 : goal.process_pairs-shape_of-firsts-then-a-eq0
-process_pairs-shape_of-firsts-then-a-eq0 m c = (process_pairs_kept m (goal.at.process_pairs-shape_of-firsts-then-a-eq0 m c).Joined-pair-ne0-2).0
+process_pairs-shape_of-firsts-then-a-eq0 m c = (process_pairs_matched m (goal.at.process_pairs-shape_of-firsts-then-a-eq0 m c).Joined-pair_of).1
 
 pub process_pairs-shape_of-work-then-a-eq0 : goal.process_pairs-shape_of-work-then-a-eq0
-process_pairs-shape_of-work-then-a-eq0 m c = (process_pairs_kept m (goal.at.process_pairs-shape_of-work-then-a-eq0 m c).Joined-pair-ne0-2).1
+process_pairs-shape_of-work-then-a-eq0 m c = (process_pairs_matched m (goal.at.process_pairs-shape_of-work-then-a-eq0 m c).Joined-pair_of).2
 
 pub process_pairs-returns-then-a-eq0 : goal.process_pairs-returns-then-a-eq0
 process_pairs-returns-then-a-eq0 m c =
     let a = c.args in
-    process_pairs_done m (goal.at.process_pairs-returns-then-a-eq0 m c).Joined-pair-ne0-2 _ _ _ (no_pairs _ _ a.check a.context _ _ _ _ (pairings-left _ c.requires.accepted _ _ c.if-a-eq0.true))
+    process_pairs_done m (goal.at.process_pairs-returns-then-a-eq0 m c).Joined-pair_of _ _ _ (no_pairs _ _ a.check a.context _ _ _ _ (pairings-left _ c.requires.accepted _ _ c.if-a-eq0.true))
 
 pub process_pairs-process_pairs-requires : goal.process_pairs-process_pairs-requires
 process_pairs-process_pairs-requires m c =
     let pre = c.requires in
-    let s = process_pairs_parts m (goal.at.process_pairs-process_pairs-requires m c).After-pair_of-pair in (
-      omega (arith, c.decreases, s.next_falls.0),
+    let joined = (goal.at.process_pairs-process_pairs-requires m c).Joined-pair_of in
+    let parts = process_pairs_parts m joined in
+    let done = process_pairs_matched m joined in (
+      omega (arith, c.decreases, parts.next_falls.0),
       record {
         accepted = pre.accepted;
         inner_room = pre.inner_room;
-        firsts_room = omega (arith, pre.firsts_room, (process_pairs_kept m (goal.at.process_pairs-process_pairs-requires m c).Joined-pair-ne0-2).0);
-        left_in = s.next_falls.1;
-        right_in = s.next_low;
-        asks = pair_rows_asks_rest _ _ _ _ c.args.check _ _ _ _ pre.asks _ _ _ s _ c.differ-s.ensures _ _ _ (process_pairs_one-done m (goal.at.process_pairs-process_pairs-requires m c).Joined-pair-ne0).0 _ _ _ (process_pairs_below-done m (goal.at.process_pairs-process_pairs-requires m c).Joined-pair-ne0-2).0;
+        firsts_room = omega (arith, pre.firsts_room, done.1);
+        left_in = parts.next_falls.1;
+        right_in = parts.next_low;
+        asks = pair_rows_asks_rest _ _ _ _ c.args.check _ _ _ _ pre.asks _ _ _ parts _ _ _ done.0;
       },
     )
 
 pub process_pairs-shape_of-firsts : goal.process_pairs-shape_of-firsts
 process_pairs-shape_of-firsts m c =
-    c.process_pairs.auto.firsts ∙ (process_pairs_kept m (goal.at.process_pairs-shape_of-firsts m c).Joined-pair-ne0-2).0
+    c.process_pairs.auto.firsts ∙ (process_pairs_matched m (goal.at.process_pairs-shape_of-firsts m c).Joined-pair_of).1
 
 pub process_pairs-shape_of-work : goal.process_pairs-shape_of-work
 process_pairs-shape_of-work m c =
-    c.process_pairs.auto.work ∙ (process_pairs_kept m (goal.at.process_pairs-shape_of-work m c).Joined-pair-ne0-2).1
+    c.process_pairs.auto.work ∙ (process_pairs_matched m (goal.at.process_pairs-shape_of-work m c).Joined-pair_of).2
 
 pub process_pairs-returns : goal.process_pairs-returns
 process_pairs-returns m c =
-    process_pairs_done m (goal.at.process_pairs-returns m c).Joined-pair-ne0-2 _ _ _ c.process_pairs.ensures
+    process_pairs_done m (goal.at.process_pairs-returns m c).Joined-pair_of _ _ _ c.process_pairs.ensures
 
 -- ---- `process_some_in`.
 
@@ -1404,7 +1379,7 @@ pub use_expr-all_used-names-requires : goal.use_expr-all_used-names-requires
 use_expr-all_used-names-requires m c =
     let both = c.list_both-end in
     let pre = c.requires in
-    both_used _ c.args.rest _ _ _ _ both.ensures _ pre.0.accepted (omega (arith, both.auto.rows)) _
+    both_used _ c.args.rest _ _ _ _ both.ensures (omega (arith, both.auto.rows)) _ pre.0.accepted _
     (use_room _ _ _ _ c.args.rest _ _ _ _ pre.0.asks pre.1 _ _ _ c.use_vars-u.ensures
     (listed_at c.args.tables.now both.new.rows 0 (both.result - 0)) _ _ _ c.process_comprs-progress.ensures)
 
@@ -1416,4 +1391,4 @@ use_expr-shape_of-work m c = c.process_comprs-progress.auto.work ∙ c.use_vars-
 
 pub use_expr-returns : goal.use_expr-returns
 use_expr-returns m c =
-    does_listed _ _ _ _ c.args.rest _ _ _ _ _ _ _ c.use_vars-u.ensures _ _ c.list_both-end.ensures _ _ _ c.process_comprs-progress.ensures _ c.all_used-names.ensures
+    does_listed _ _ _ _ c.args.rest _ _ _ _ _ _ _ c.use_vars-u.ensures _ _ c.list_both-end.ensures (omega (arith, c.list_both-end.ensures.fits, c.list_both-end.auto.rows)) _ _ _ c.process_comprs-progress.ensures _ c.all_used-names.ensures

@@ -1,13 +1,9 @@
--- The loop's invariant: the names below x are defined.
+-- The loop's invariant: the names that it has passed are defined.
 use mathlib.Core.Path.{◌≡◌}
-use Prim.Native.Nat.{◌-◌}
-use lib.ListN.{length}
 use Rattle.definition_record.proofs.Laws.Each.{Defining}
 use Rattle.definition_record.proofs.each.define_each.Given as goal
 
 abbrev pub invariant-loop-x : goal.invariant-loop-x
 invariant-loop-x l =
-    (length l.definitions ≡ length l.initial.definitions) × Defining l.width l.statement l.names l.used l.without l.initial.definitions l.count l.definitions l.n l.x
-
-abbrev pub decreases-loop-x : goal.decreases-loop-x
-decreases-loop-x l = 512 - l.x
+    (l.x-iterator.set ≡ l.fn.names)
+    × Defining l.width l.statement l.fn.names l.used l.without l.initial.definitions l.count l.definitions l.n l.x-iterator.from

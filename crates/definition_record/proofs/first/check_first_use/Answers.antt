@@ -1,7 +1,7 @@
 -- Each way out is one of the laws.
 use mathlib.Core.Path.{sym, ◌∙◌}
 use Rattle.definition_record.proofs.Laws.FirstUse.{check_fault, check_none, check_after, check_before}
-use native.Mathlib.Omega.{arith}
+use borrow.Author.Rules.{rules}
 use Rattle.definition_record.proofs.first.check_first_use.Goals as goal
 
 pub returns-then-word-eq0 : goal.returns-then-word-eq0
@@ -10,12 +10,12 @@ returns-then-word-eq0 c =
 
 pub returns-then-place-w : goal.returns-then-place-w
 returns-then-place-w c =
-    check_before c.args.w _ _ (sym c.is_sound.ensures ∙ c.if-is_sound.true) c.requires.0 (omega (arith, c.struct_known-then-is_sound-2-1.given)) c.if-word-eq0.false c.if-place-w.true
+    check_before c.args.w _ _ (sym c.is_sound.ensures ∙ c.if-is_sound.true) c.requires.0 (search rules) c.if-word-eq0.false c.if-place-w.true
     _ c.fail.ensures
 
 pub returns-then-is_sound : goal.returns-then-is_sound
 returns-then-is_sound c =
-    check_after c.args.w _ _ (sym c.is_sound.ensures ∙ c.if-is_sound.true) c.requires.0 (omega (arith, c.struct_known-then-is_sound-2-1.given)) c.if-place-w.false
+    check_after c.args.w _ _ (sym c.is_sound.ensures ∙ c.if-is_sound.true) c.requires.0 (search rules) c.if-place-w.false
 
 pub returns : goal.returns
 returns c = check_fault _ _ _ (sym c.is_sound.ensures ∙ c.if-is_sound.false)

@@ -1,11 +1,8 @@
 -- The loop's invariant: no row in front of j is the statement's.
-use Prim.Native.Nat.{◌-◌, ◌≤◌}
+use Prim.Native.Nat.{◌≤◌}
 use Rattle.names_width.specs.Inner.Widths.{row_words}
 use Rattle.definition_record.specs.Inner.Least.{NoRow}
 use Rattle.definition_record.proofs.least.has_row.Given as goal
 
 abbrev pub invariant-loop-j : goal.invariant-loop-j
-invariant-loop-j l = (l.first ≤ l.j) × NoRow (row_words l.width) l.statement l.work l.first l.j
-
-abbrev pub decreases-loop-j : goal.decreases-loop-j
-decreases-loop-j l = l.count - l.j
+invariant-loop-j l = (l.fn.first ≤ l.j) × NoRow (row_words l.rows.width) l.statement l.rows.words.now l.fn.first l.j

@@ -18,4 +18,4 @@ returns-then-contains c =
 pub returns : goal.returns
 returns c =
     var-undefined _ _ _ _ _ _ _ c.requires.var _ c.is_special.ensures c.if-is_special.false _ c.owns.ensures c.if-owns.false _ c.contains.ensures
-    c.if-contains.false c.requires.some-row c.requires.row_in _ c.with_undefined.ensures
+    c.if-contains.false c.requires.row_in _ c.with_undefined.ensures

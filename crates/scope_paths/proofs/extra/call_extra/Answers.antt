@@ -1,23 +1,11 @@
 -- What the built-in takes is compared with the number of parameters.
-use native.Mathlib.Omega.{arith}
-use Rattle.scope_paths.proofs.Laws.Extra.{extra_found, extra_none}
+use Rattle.scope_paths.proofs.Laws.Extra.{extra_no_builtin, extra_counted}
 use Rattle.scope_paths.proofs.extra.call_extra.Goals as goal
 
-pub get_path_string-path-requires : goal.get_path_string-path-requires
-get_path_string-path-requires c = let pre = c.requires in (pre.0, pre.1)
-
-pub takes_from-takes-requires : goal.takes_from-takes-requires
-takes_from-takes-requires c = (c.requires.0, omega arith, omega arith)
-
-pub end_of-end-requires : goal.end_of-end-requires
-end_of-end-requires c = let pre = c.requires in (pre.0, pre.2)
-
-pub returns-then-takes-end : goal.returns-then-takes-end
-returns-then-takes-end c =
-    let a = c.args in
-    extra_found a.tables.now a.w _ c.get_path_string-path.ensures _ c.takes_from-takes.ensures _ c.end_of-end.ensures c.if-takes-end.true
+pub returns-in_err-arity : goal.returns-in_err-arity
+returns-in_err-arity c = rw c.from_residual-in_err-arity.ensures (extra_no_builtin c.args.tables.now c.args.w c.in_ok-path.path c.in_ok-path.ensures c.in_err-arity.ensures)
 
 pub returns : goal.returns
 returns c =
-    let a = c.args in
-    extra_none a.tables.now a.w _ c.get_path_string-path.ensures _ c.takes_from-takes.ensures _ c.end_of-end.ensures c.if-takes-end.false
+    rw c.then_some.ensures
+    (extra_counted c.args.tables.now c.args.w c.in_ok-path.path c.in_ok-path.ensures _ c.in_ok-arity.ensures c.end_of-end.result c.end_of-end.ensures)

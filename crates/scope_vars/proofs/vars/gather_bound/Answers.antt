@@ -37,7 +37,7 @@ returns-then-is_assign c =
     let a = c.args in
     bound_assign a.tables.now a.outer.now c.requires.accepted a.row c.if-row-eq0.false c.requires.row_in a.rest a.can_shadow
     c.row_at-w.result (c.row_at-w.ensures ∙ row-fields _ _) _ c.is_assign.ensures c.if-is_assign.true
-    _ _ _ _ _ _ c.gather_assigned_vars-s.ensures c.gather_assigned_vars.ensures
+    _ c.is_col_eq-shadows.ensures _ _ _ _ _ _ c.gather_assigned_vars-s.ensures c.gather_assigned_vars.ensures
 
 pub returns : goal.returns
 returns c =

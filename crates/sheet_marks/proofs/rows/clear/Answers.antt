@@ -1,21 +1,18 @@
--- Zeros as far as the loop came.
-use borrow.Author.Rules.{rules}
-use mathlib.Core.Path.{refl, ◌∙◌}
+-- The first words are zeros, and no row is named.
+use mathlib.Core.Path.{ap, ◌∙◌}
 use native.Mathlib.Omega.{arith}
-use lib.ListN.{length-set}
+use lib.ListN.{get_or, drop, get_or-append}
+use Rattle.std.proofs.lemmas.List.{length-take-le, length-append, get_or-replicate}
 use Rattle.sheet.specs.Naming.{namers}
-use Rattle.sheet_marks.proofs.Laws.Rows.{zeros-more}
 use Rattle.sheet_marks.proofs.rows.clear.Goals as goal
-
-pub loop-k-init : goal.loop-k-init
-loop-k-init c =
-    (search rules, refl, λ j h. absurd (omega arith))
-
-pub loop-k-preserved : goal.loop-k-preserved
-loop-k-preserved c =
-    let l = c.loop-k in (omega arith, length-set l.work l.k 0 ∙ l.invariant.1, zeros-more l.work l.k (omega arith) l.invariant.2)
 
 pub returns : goal.returns
 unfolding namers
 returns c =
-    let l = c.loop-k in record { room = omega arith; code = λ j h. l.invariant.2 j (omega arith) }
+    let w = c.args.work.now in
+    let long = length-take-le 673 w c.requires in
+    let zeros = c.fill.ensures.after (λ y e. e) in
+    record {
+      room = omega (arith, long, c.fill.ensures.len, length-append c.fill.new.self (drop 673 w), c.requires);
+      code = λ k h. get_or-append c.fill.new.self (drop 673 w) 0 k (omega (arith, long, c.fill.ensures.len)) ∙ ap (λ l. get_or l k 0) zeros ∙ get_or-replicate _ k 0 0 (omega (arith, long));
+    }

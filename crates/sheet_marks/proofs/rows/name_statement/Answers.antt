@@ -1,7 +1,8 @@
 -- Six fields, one after the other.
-use Rattle.sheet_marks.proofs.Laws.Rows.{fields-work}
+use Rattle.sheet_marks.specs.Inner.Marks.{row_work}
 use Rattle.sheet_marks.proofs.rows.name_statement.Goals as goal
 
 pub returns : goal.returns
+unfolding row_work
 returns c =
-    let a = c.args in fields-work a.counts a.x a.row c.of_form-fs.result _ _ _ _ _ _ _ c.of_form-fs.ensures c.name_from.ensures c.name_from-2.ensures c.name_from-3.ensures c.name_from-4.ensures c.name_from-5.ensures c.name_from-6.ensures
+    rw (c.name-6.ensures, c.name-5.ensures, c.name-4.ensures, c.name-3.ensures, c.name-2.ensures, c.name.ensures, c.of_form-fields.ensures _ c.from.ensures)

@@ -1,5 +1,5 @@
 use mathlib.Core.Path.{◌≡◌}
-use Prim.Native.Nat.{◌≤◌, ◌-◌}
+use Prim.Native.Nat.{◌+◌, ◌-◌, ◌≤◌}
 use lib.ListN.{length}
 use Rattle.sheet.specs.Naming.{by_statements}
 use Rattle.sheet_marks.specs.Inner.Marks.{Marks}
@@ -8,8 +8,4 @@ use Rattle.sheet_marks.proofs.rows.name_statements.Given as goal
 
 abbrev pub invariant-loop-row : goal.invariant-loop-row
 invariant-loop-row l =
-    (l.row ≤ l.counts.statements) × (length l.work ≡ length l.initial.work) × Marks (by_statements l.counts (in_tables l.tables) l.row) l.work
-
-abbrev pub decreases-loop-row : goal.decreases-loop-row
-decreases-loop-row l =
-    l.counts.statements - l.row
+    (1 ≤ l.row) × (l.row ≤ l.counts.statements + 1) × (length l.work ≡ length l.initial.work) × Marks (by_statements l.counts (in_tables l.tables) (l.row - 1)) l.work

@@ -1,0 +1,31 @@
+-- The words come back where they were lent.
+use mathlib.Core.Path.{◌≡◌, refl, ap, ap₂, ◌∙◌, subst}
+use mathlib.Core.Bool.{Bool, true, false}
+use mathlib.Core.List.{List, [], ◌∷◌}
+use Prim.Native.Nat.{ℕ, ◌+◌, ◌-◌}
+use native.Mathlib.Omega.{arith}
+use lib.ListN.{length}
+use mir.Val.{bool_byte}
+use borrow.Rule.Slice.PartMut.{put_mid}
+use Rattle.order.specs.Turns.{mark}
+use Rattle.answer_store.specs.Inner.Writes.{Written, words_from}
+use Rattle.answer_store.specs.Inner.Words.{head_words}
+use Rattle.answer_store.proofs.Laws.Writes.{written_slice}
+use Rattle.answer_store.proofs.query.QueryAnswer.store_head.Goals as goal
+
+flag_mark : (b : Bool) → bool_byte b ≡ mark b
+flag_mark true = refl
+flag_mark false = refl
+
+pub returns : goal.returns
+returns c =
+    let a = c.args in
+    let w = a.words.now in
+    let s = a.self.now in
+    let copied = c.copy_from_slice.new.self in
+    let four : 4 ≡ a.at + 4 - a.at = omega arith in
+    let head : copied ≡ head_words s.scope.now.uses (length s.order.now) a.base s.placed =
+    c.copy_from_slice.ensures.after
+    ∙ ap₂ (λ (m n : ℕ). m ∷ n ∷ length s.order.now ∷ a.base ∷ []) (c.from.ensures ∙ c.state.ensures) (c.from-2.ensures ∙ flag_mark s.scope.now.uses) in
+    subst (λ (k : ℕ). Written w (put_mid a.at k w copied) a.at 4 (words_from (head_words s.scope.now.uses (length s.order.now) a.base s.placed))) four
+    (subst (λ (l : List ℕ). Written w (put_mid a.at 4 w copied) a.at 4 (words_from l)) head (written_slice w a.at 4 copied c.requires (ap length head)))

@@ -1,7 +1,0 @@
--- The digits, then the byte.
-use native.Mathlib.Omega.{arith}
-use Rattle.answer_write.proofs.Laws.Writes.{puts_then}
-use Rattle.answer_write.proofs.put_value.Goals as goal
-
-pub returns : goal.returns
-returns c = puts_then _ _ _ _ _ _ _ _ (c.put_number-behind.ensures 4 (omega arith)) c.put.ensures

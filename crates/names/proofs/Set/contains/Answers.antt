@@ -1,0 +1,13 @@
+-- The word shifted down to the number's bit, `& 1`, is its last digit (`and_mask`): what `member` tests.
+use mathlib.Core.Path.{ap}
+use Prim.Native.Nat.{ℕ, ◌/◌, ◌%◌, ◌^◌}
+use lib.Dec.{eqb}
+use lib.Bits.{and_mask}
+use Rattle.base.specs.Sets.{word_of, member, bit}
+use Rattle.names.proofs.Set.contains.Goals as goal
+
+pub returns : goal.returns
+unfolding member bit
+returns g c =
+    let start = c.args in
+    rw c.word_at.ensures (ap (λ (digit : ℕ). eqb digit 1) (and_mask (word_of start.self.words start.number / 2 ^ (start.number % 64)) 1))
