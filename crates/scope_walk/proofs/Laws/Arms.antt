@@ -18,7 +18,7 @@ use Rattle.scope.proofs.Laws.Children.{of_children}
 use Rattle.scope_walk.specs.declared.Kids.{Kids}
 use Rattle.scope_walk.specs.Inner.Kids.{kids_by, kids_of}
 use Rattle.scope_walk.proofs.Laws.Numbers.{number_of, by_number, OneOf, same_of}
-use Rattle.scope_walk.proofs.Laws.Kids.{no_children}
+use Rattle.scope_walk.proofs.Laws.Kids.{children-at, kids_at, no_children}
 
 -- A Membership is no comprehension.
 pub membership_no_compr : (w : Row) → w.kind ≡ 22 → is_compr w ≡ false
@@ -67,6 +67,11 @@ module _ {S : Type 0} (Step : S → S → Type 0) (w : Row) where
     pub step : Step s r
     pub kids : k ≡ kids_of w
 
+module _ {S : Type 0} {Step : S → S → Type 0} {w : Row} {s r : S} {k : Kids} where
+  -- The arm of kind n: its children are those of the definitions, in their order.
+  pub arm : {v : S} (n : ℕ) → w.kind ≡ n → Step s v → r ≡ v → k ≡ kids_by (get_or children n []) w → KidsTurn Step w s r k
+  arm n e did is ks = record { step = subst (Step s) (sym is) did; kids = ks ∙ kids_at w n e }
+
 -- ---- a row's turn in full: each arm walks the children of its kind, one after the other
 
 module _ {S : Type 0} (W : ℕ → S → S → Type 0) where
@@ -100,6 +105,10 @@ module _ {S : Type 0} (Step : S → S → Type 0) (W : ℕ → S → S → Type 
     pub own : S
     pub step : Step s own
     pub parts : ChildrenWalked W (children_of w) w own r
+
+module _ {S : Type 0} {Step : S → S → Type 0} {W : ℕ → S → S → Type 0} {w : Row} {s r : S} where
+  pub full_arm : (n : ℕ) (v : S) → w.kind ≡ n → Step s v → ChildrenWalked W (get_or children n []) w v r → FullTurn Step W w s r
+  full_arm n v e did h = record { own = v; step = did; parts = subst (λ (ks : List Child). ChildrenWalked W ks w v r) (sym (children-at w n e)) h }
 
 -- ---- arms for some kinds, where a match has the row's kind by name
 

@@ -1,10 +1,14 @@
 -- The kinds by their numbers: what a table by numbers says of a row is what it says of the number of the row's kind.
 use mathlib.Core.Path.{◌≡◌, refl, sym, ap, ◌∙◌}
+use mathlib.Core.Bool.{false}
 use mathlib.Core.List.{List, [], ◌∷◌, map}
 use mathlib.Core.Logic.{◌⊎◌, inl, inr}
 use Prim.Native.Nat.{ℕ}
 use native.Mathlib.Omega.{arith}
+use lib.Dec.{eqb}
 use lib.ListN.{get_or}
+use borrow.Author.Tests.{eq-eqb}
+use Rattle.base.proofs.Laws.Truth.{not-both}
 use Rattle.sheet_fields.proofs.Laws.Tables.{left_over}
 use Rattle.sheet.specs.Inner.Kinds.{KindNumbered, NoArm}
 use Rattle.sheet.specs.declared.kinds.Kind.{Kind}
@@ -75,6 +79,15 @@ same_of f v k (a ∷ []) e is = let here : f a ≡ v = cc in ap f is ∙ here
 same_of f v k (a ∷ b ∷ ks) e (inl is) = let here : f a ≡ v = cc in ap f is ∙ here
 same_of f v k (a ∷ b ∷ ks) e (inr is) = let rest : map f (b ∷ ks) ≡ map (λ j. v) (b ∷ ks) = cc in same_of f v k (b ∷ ks) rest is
 
+-- None of the kinds is this one.
+abbrev pub Without : Kind → List Kind → Type 0
+Without a ks = map (λ j. eqb (number_of j) (number_of a)) ks ≡ map (λ j. false) ks
+
+-- So one of them is another, and its number is another (`other_number`).
+pub none_of : {k a : Kind} (ks : List Kind) → Without a ks → OneOf k ks → k ≡ a → ⊥
+none_of {k} {a} ks without is e =
+    not-both (eq-eqb (number_of k) (number_of a) (ap number_of e)) (same_of (λ j. eqb (number_of j) (number_of a)) false k ks without is)
+
 -- The kinds that `traverse` treats alike.
 abbrev pub constants : List Kind
 constants = kind.String ∷ kind.RawString ∷ kind.Number ∷ kind.Bool ∷ kind.Null ∷ []
@@ -94,3 +107,9 @@ operators = kind.BinExpr ∷ kind.BoolExpr ∷ kind.ArithExpr ∷ kind.AssignEq 
 -- Those of a pattern.
 abbrev pub patterns : List Kind
 patterns = kind.Array ∷ kind.Object ∷ []
+
+-- Those behind them, which are leaves.
+abbrev pub behind_patterns : List Kind
+behind_patterns =
+    kind.ArrayCompr ∷ kind.SetCompr ∷ kind.ObjectCompr ∷ kind.Call ∷ kind.UnaryExpr ∷ kind.RefDot ∷ kind.RefBrack ∷ kind.BinExpr
+    ∷ kind.BoolExpr ∷ kind.ArithExpr ∷ kind.AssignEq ∷ kind.AssignColEq ∷ kind.Membership ∷ kind.Unknown ∷ []

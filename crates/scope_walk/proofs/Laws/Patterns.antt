@@ -1,7 +1,7 @@
 -- The arms of a pattern walk's match on the kind: a leaf's step is done, or the parts of an Array or an Object are walked.
 use mathlib.Core.Path.{◌≡◌, refl, sym, ap, ◌∙◌, subst}
 use mathlib.Core.Bool.{Bool, true, false, ◌||◌, cond}
-use mathlib.Core.List.{List, [], ◌∷◌}
+use mathlib.Core.List.{List, [], ◌∷◌, map}
 use Prim.Native.Nat.{ℕ, zero, suc, ◌+◌, ◌≤◌}
 use native.Mathlib.Omega.{arith}
 use lib.Dec.{eqb}
@@ -16,6 +16,7 @@ use Rattle.sheet_fields.proofs.Laws.Tables.{left_over}
 use Rattle.scope.specs.Traverse.{Child, first_field, child_of}
 use Rattle.scope_walk.specs.Inner.Patterns.{pattern_children, pattern_children_of}
 use Rattle.scope_walk.proofs.Laws.Numbers.{number_of, by_number, other_number, OneOf, same_of, patterns}
+use Rattle.scope_walk.proofs.Laws.Arms.{no_such_kind}
 use Rattle.scope_walk.proofs.Laws.Walking.{no_var}
 
 -- ---- the children that a pattern walk enters: the items of an Array, the fields of an Object, and none of the other twenty
@@ -65,6 +66,10 @@ module _ {S : Type 0} {Step : S → S → Type 0} {Walk : ℕ → S → S → Ty
         go true p did = record { own = s; step = still p s; parts = rw p did }
         go false p did = record { own = r; step = did; parts = rw p (none r) }
 
+    -- The arm of kind n, which enters what the table says.
+    pub entering_arm : {v : S} (n : ℕ) → w.kind ≡ n → Entering Step Walk w (get_or pattern_children n []) s v → r ≡ v → PatternTurn Step Walk w s r
+    entering_arm n e did is = by-pattern (rw (e, is) did)
+
 -- ---- the arms
 
 abbrev pattern_by : Kind → List Child
@@ -78,6 +83,19 @@ leaf-by : (k : Kind) → (k ≡ kind.Array → ⊥) → (k ≡ kind.Object → �
 leaf-by kind.Array a o = absurd (a refl)
 leaf-by kind.Object a o = absurd (o refl)
 leaf-by _ a o = refl
+
+-- Leaves, and leaves none of which is a Var.
+abbrev pub AreLeaves : List Kind → Type 0
+AreLeaves ks = map pattern_by ks ≡ map (λ j. []) ks
+
+abbrev told_leaf : Kind → Bool × List Child
+told_leaf k = (eqb (number_of k) 6, pattern_by k)
+
+abbrev quiet_leaf : Bool × List Child
+quiet_leaf = (false, [])
+
+abbrev pub QuietLeaves : List Kind → Type 0
+QuietLeaves ks = map told_leaf ks ≡ map (λ j. quiet_leaf) ks
 
 pub other_than_var : {k : Kind} (w : Row) → KindNumbered w.kind k → (k ≡ kind.Var → ⊥) → is_var w ≡ false
 other_than_var w e v = ne_eqb w.kind 6 (other_number w.kind e v)
@@ -96,6 +114,11 @@ module _ {S : Type 0} {Step : S → S → Type 0} {Walk : ℕ → S → S → Ty
       pub leaf_turn : (k ≡ kind.Array → ⊥) → (k ≡ kind.Object → ⊥) → {v : S} → Step s v → r ≡ v → PatternTurn Step Walk w s r
       leaf_turn a o did is-r = enters k e [] (leaf-by k a o) did is-r
 
+    -- The arm of several leaves.
+    pub leaves_turn : (k : Kind) → KindNumbered w.kind k → (ks : List Kind) → AreLeaves ks → OneOf k ks
+        → {v : S} → Step s v → r ≡ v → PatternTurn Step Walk w s r
+    leaves_turn k e ks leaves is did is-r = enters k e [] (same_of pattern_by [] k ks leaves is) did is-r
+
   -- Where something is done at a Var alone.
   module _ (quiet : is_var w ≡ false → (s : S) → Step s s) {k : Kind} (e : KindNumbered w.kind k) where
     pub var_arm : k ≡ kind.Var → {v : S} → Step s v → r ≡ v → PatternTurn Step Walk w s r
@@ -106,6 +129,15 @@ module _ {S : Type 0} {Step : S → S → Type 0} {Walk : ℕ → S → S → Ty
 
     pub other_arm : (k ≡ kind.Var → ⊥) → (k ≡ kind.Array → ⊥) → (k ≡ kind.Object → ⊥) → r ≡ s → PatternTurn Step Walk w s r
     other_arm v a o is-r = leaf_turn (λ p. quiet (no_var w p)) e a o (quiet (other_than_var w e v) s) is-r
+
+  -- At several leaves, none of which is a Var.
+  pub leaves_arm : (is_var w ≡ false → (s : S) → Step s s) → (k : Kind) → KindNumbered w.kind k
+      → (ks : List Kind) → QuietLeaves ks → OneOf k ks → r ≡ s → PatternTurn Step Walk w s r
+  leaves_arm quiet k e ks leaves is is-r =
+      let told = same_of told_leaf quiet_leaf k ks leaves is in
+      let other : is_var w ≡ false =
+      by_number (λ n. eqb n 6) w.kind k e (no_such_kind w 6 (omega arith) (omega arith)) ∙ ap (λ (x : Bool × List Child). x.0) told in
+      enters (λ p. quiet (no_var w p)) k e [] (ap (λ (x : Bool × List Child). x.1) told) (quiet other s) is-r
 
 -- A step or a walk that also writes a list, whose length it keeps.
 abbrev pub Lengthwise : {S : Type 0} → (S → List ℕ → S → List ℕ → Type 0) → S × List ℕ → S × List ℕ → Type 0
