@@ -18,8 +18,27 @@ pub fn pattern_of(w: Row) -> usize
     ensures { result ≡ cond (is_pattern w) w.first 0 }
 {
     match Kind::from(w.kind) {
-        Kind::Array | Kind::Object => w.first as usize,
-        _ => 0,
+        Kind::String | Kind::RawString | Kind::Number | Kind::Bool | Kind::Null => 0,
+        Kind::Var => 0,
+        // items
+        Kind::Array => w.first as usize,
+        Kind::Set => 0,
+        // fields: keys and values in turn
+        Kind::Object => w.first as usize,
+        Kind::ArrayCompr
+        | Kind::SetCompr
+        | Kind::ObjectCompr
+        | Kind::Call
+        | Kind::UnaryExpr
+        | Kind::RefDot
+        | Kind::RefBrack
+        | Kind::BinExpr
+        | Kind::BoolExpr
+        | Kind::ArithExpr
+        | Kind::AssignEq
+        | Kind::AssignColEq
+        | Kind::Membership
+        | Kind::Unknown => 0,
     }
 }
 
@@ -48,10 +67,27 @@ pub fn assigned_vars(tables: &[u16], scope: Scope, row: usize, rest: bool, names
     let next = next_of(w, rest);
     let first = w.first as usize;
     let s = match Kind::from(w.kind) {
+        Kind::String | Kind::RawString | Kind::Number | Kind::Bool | Kind::Null => names,
         Kind::Var => assigned_var(scope, w, names),
-        // items; fields: keys and values in turn
-        Kind::Array | Kind::Object => assigned_vars(tables, scope, first, true, names),
-        _ => names,
+        // items
+        Kind::Array => assigned_vars(tables, scope, first, true, names),
+        Kind::Set => names,
+        // fields: keys and values in turn
+        Kind::Object => assigned_vars(tables, scope, first, true, names),
+        Kind::ArrayCompr
+        | Kind::SetCompr
+        | Kind::ObjectCompr
+        | Kind::Call
+        | Kind::UnaryExpr
+        | Kind::RefDot
+        | Kind::RefBrack
+        | Kind::BinExpr
+        | Kind::BoolExpr
+        | Kind::ArithExpr
+        | Kind::AssignEq
+        | Kind::AssignColEq
+        | Kind::Membership
+        | Kind::Unknown => names,
     };
     if next == 0 {
         return s;

@@ -87,9 +87,10 @@ pub fn define_index(
     let next = next_of(w, true);
     let first = w.first as usize;
     let n = match Kind::from(w.kind) {
+        Kind::String | Kind::RawString | Kind::Number | Kind::Bool | Kind::Null => count,
         Kind::Var => define_var(scope, statement, w, used, count, definitions, width),
-        // items; fields: keys and values in turn
-        Kind::Array | Kind::Object => define_index(
+        // items
+        Kind::Array => define_index(
             tables,
             scope,
             statement,
@@ -99,7 +100,32 @@ pub fn define_index(
             definitions,
             width,
         ),
-        _ => count,
+        Kind::Set => count,
+        // fields: keys and values in turn
+        Kind::Object => define_index(
+            tables,
+            scope,
+            statement,
+            first,
+            used,
+            count,
+            definitions,
+            width,
+        ),
+        Kind::ArrayCompr
+        | Kind::SetCompr
+        | Kind::ObjectCompr
+        | Kind::Call
+        | Kind::UnaryExpr
+        | Kind::RefDot
+        | Kind::RefBrack
+        | Kind::BinExpr
+        | Kind::BoolExpr
+        | Kind::ArithExpr
+        | Kind::AssignEq
+        | Kind::AssignColEq
+        | Kind::Membership
+        | Kind::Unknown => count,
     };
     if next == 0 {
         return n;

@@ -59,12 +59,27 @@ pub fn gather_assigned_vars(
     let next = next_of(w, rest);
     let first = w.first as usize;
     let s = match Kind::from(w.kind) {
+        Kind::String | Kind::RawString | Kind::Number | Kind::Bool | Kind::Null => scope,
         Kind::Var => assign_var(tables, outer, w, can_shadow, scope, spans),
-        // items; fields: keys and values in turn
-        Kind::Array | Kind::Object => {
-            gather_assigned_vars(tables, outer, first, true, can_shadow, scope, spans)
-        }
-        _ => scope,
+        // items
+        Kind::Array => gather_assigned_vars(tables, outer, first, true, can_shadow, scope, spans),
+        Kind::Set => scope,
+        // fields: keys and values in turn
+        Kind::Object => gather_assigned_vars(tables, outer, first, true, can_shadow, scope, spans),
+        Kind::ArrayCompr
+        | Kind::SetCompr
+        | Kind::ObjectCompr
+        | Kind::Call
+        | Kind::UnaryExpr
+        | Kind::RefDot
+        | Kind::RefBrack
+        | Kind::BinExpr
+        | Kind::BoolExpr
+        | Kind::ArithExpr
+        | Kind::AssignEq
+        | Kind::AssignColEq
+        | Kind::Membership
+        | Kind::Unknown => scope,
     };
     if next == 0 {
         return s;

@@ -1,6 +1,8 @@
 -- Each arm does what its kind asks, which goes on to later rows only: a row's turn (`assigned_turn`).
 use mathlib.Core.Path.{◌≡◌, refl, ◌∙◌}
 use mathlib.Core.Bool.{true}
+use mathlib.Core.List.{[], ◌∷◌}
+use mathlib.Core.Logic.{inl, inr}
 use Prim.Native.Nat.{ℕ, ◌≤◌, ◌<◌}
 use Rattle.names.specs.Inner.Names.{Names}
 use Rattle.sheet.specs.Inner.Sheet.{row_at}
@@ -8,11 +10,13 @@ use Rattle.sheet.proofs.Laws.Sheet.{row-fields}
 use Rattle.scope_walk.specs.Inner.Sheets.{Accepted, expr_count}
 use Rattle.scope_walk.specs.Inner.Walking.{remains}
 use Rattle.scope_walk.proofs.Laws.Walking.{low-name, first_call, next_call}
-use Rattle.scope_walk.proofs.Laws.Patterns.{var_arm, items_arm, other_arm}
+use Rattle.scope_walk.proofs.Laws.Numbers.{constants, behind_patterns}
+use Rattle.scope_walk.proofs.Laws.Patterns.{var_arm, items_arm, leaves_arm}
+use Rattle.sheet.specs.declared.kinds.Kind.TheVariants as kind
 use Rattle.definition_walk.proofs.Laws.Assigned.{leaf_still, assigned_none, AssignedTurn, assigned_turn}
 use Rattle.definition_walk.specs.Inner.Assigned.{AssignedWalk}
 use Rattle.definition_walk.proofs.assigned.+assigned_vars.Goals.{After-row_at-w, Joined-from}
-use Rattle.definition_walk.proofs.assigned.+assigned_vars.Goals.{in-Var, in-Array, in_default}
+use Rattle.definition_walk.proofs.assigned.+assigned_vars.Goals.{in-String, in-Var, in-Array, in-Set, in-Object, in-ArrayCompr}
 use Rattle.definition_walk.proofs.assigned.+assigned_vars.Goals as goal
 
 pub returns-then-row-eq0 : goal.returns-then-row-eq0
@@ -41,6 +45,9 @@ first-asks m c =
 pub assigned_vars-s-requires : goal.assigned_vars-s-requires
 assigned_vars-s-requires m c = first-asks m (goal.at.assigned_vars-s-requires m c).After-row_at-w
 
+pub assigned_vars-s-requires-in-Object : goal.assigned_vars-s-requires-in-Object
+assigned_vars-s-requires-in-Object m c = first-asks m (goal.at.assigned_vars-s-requires-in-Object m c).After-row_at-w
+
 -- The match: the leaf's own step, or the parts.
 turn : (m : ℕ) (c : Joined-from m)
     →
@@ -51,9 +58,12 @@ turn m c =
     let none = assigned_none g.tables.now g.scope c.requires.0 0 refl true in
     let still = leaf_still g.scope c.row_at-w.result in
     elim c.match-from.branch [
+      | in-String w ↦ leaves_arm none still _ c.from.ensures constants refl w.in-String.is w.s-is
       | in-Var w ↦ var_arm none still c.from.ensures w.in-Var.is w.assigned_var-s.ensures w.s-is
-      | in-Array w ↦ items_arm none still c.from.ensures w.in-Array.is w.assigned_vars-s.ensures w.s-is
-      | in_default w ↦ let n = w.in_default in other_arm none still c.from.ensures n.not-Var n.not-Array n.not-Object w.s-is
+      | in-Array w ↦ items_arm none still c.from.ensures (inl w.in-Array.is) w.assigned_vars-s.ensures w.s-is
+      | in-Set w ↦ leaves_arm none still _ c.from.ensures (kind.Set ∷ []) refl w.in-Set.is w.s-is
+      | in-Object w ↦ items_arm none still c.from.ensures (inr w.in-Object.is) w.assigned_vars-s-in-Object.ensures w.s-is
+      | in-ArrayCompr w ↦ leaves_arm none still _ c.from.ensures behind_patterns refl w.in-ArrayCompr.is w.s-is
     ]
 
 -- With the walk over the rest of the chain.

@@ -1,18 +1,23 @@
 -- Each arm does what its kind asks, which goes on to later rows only: a row's turn (`index-turn`).
 use mathlib.Core.Path.{◌≡◌, refl, sym, ◌∙◌}
-use mathlib.Core.List.{List}
+use mathlib.Core.List.{List, [], ◌∷◌}
+use mathlib.Core.Logic.{inl, inr}
 use mathlib.Core.Bool.{true, false, cond}
-use Prim.Native.Nat.{ℕ}
+use Prim.Native.Nat.{ℕ, ◌≤◌, ◌<◌}
 use lib.ListN.{length}
 use Rattle.sheet.specs.Inner.Sheet.{row_at}
 use Rattle.sheet.proofs.Laws.Sheet.{row-fields}
 use Rattle.sheet.specs.Kinds.{is_pattern, is_var}
 use Rattle.scope_walk.proofs.Laws.Walking.{low-name, first_call, next_call, no_var}
-use Rattle.scope_walk.proofs.Laws.Patterns.{Lengthwise, var_arm, items_arm, other_arm}
-use Rattle.definition_walk.specs.Inner.Index.{LeafDefined, IndexDefined}
+use Rattle.scope_walk.proofs.Laws.Numbers.{OneOf, patterns, constants, behind_patterns}
+use Rattle.scope_walk.proofs.Laws.Patterns.{Lengthwise, var_arm, items_arm, leaves_arm}
+use Rattle.sheet.specs.declared.kinds.Kind.TheVariants as kind
+use Rattle.scope_walk.specs.Inner.Sheets.{Accepted, expr_count}
+use Rattle.scope_walk.specs.Inner.Walking.{remains}
+use Rattle.definition_walk.specs.Inner.Index.{LeafDefined, IndexDefined, IndexFits}
 use Rattle.definition_walk.proofs.Laws.Index.{items_pattern, leaf_undefined, IndexTurn, index-none, leaf_fits, inner_fits, next_fits, index-turn}
-use Rattle.definition_walk.proofs.index.+define_index.Goals.{After-row_at-w, Joined-from}
-use Rattle.definition_walk.proofs.index.+define_index.Goals.{in-Var, in-Array, in_default}
+use Rattle.definition_walk.proofs.index.+define_index.Goals.{After-row_at-w, After-from, Joined-from}
+use Rattle.definition_walk.proofs.index.+define_index.Goals.{in-String, in-Var, in-Array, in-Set, in-Object, in-ArrayCompr}
 use Rattle.definition_walk.proofs.index.+define_index.Goals as goal
 
 pub returns-then-row-eq0 : goal.returns-then-row-eq0
@@ -32,13 +37,22 @@ define_var-n-requires m c =
     )
 
 -- The call on the first part of a pattern.
-pub define_index-n-requires : goal.define_index-n-requires
-define_index-n-requires m c =
+row_is-at-After-from : (m : ℕ) (c : After-from m)
+    → c.row_at-w.result ≡ row_at c.args.tables.now c.args.row
+row_is-at-After-from m c = c.row_at-w.ensures ∙ row-fields _ _
+
+first-asks : (m : ℕ) (c : After-from m)
+    → let a = c.args in
+    let w = c.row_at-w.result in
+    OneOf c.from.result patterns
+    → (remains a.tables.now w.first < m)
+    × (Accepted a.tables.now × (w.first ≤ expr_count a.tables.now) × IndexFits a.tables.now a.width a.scope w.first a.count (length a.definitions.now))
+first-asks m c items =
     let a = c.args in
     let pre = c.requires in
-    let r = row_is m (goal.at.define_index-n-requires m c).After-row_at-w in
+    let r = row_is-at-After-from m c in
     let w = c.row_at-w.result in
-    let p : is_pattern w ≡ true = items_pattern w c.from.ensures c.in-Array.is in
+    let p : is_pattern w ≡ true = items_pattern w c.from.ensures items in
     let is : w.first ≡ cond (is_pattern w) w.first 0 = sym (rw p) in
     let k = first_call _ pre.0 _ c.if-row-eq0.false pre.1 m c.decreases _ r in (
       k.0,
@@ -49,6 +63,12 @@ define_index-n-requires m c =
             _ _ _ (leaf_undefined a.width a.scope a.statement w a.used a.definitions.now a.count (no_var w p)) _ refl,
       ),
     )
+
+pub define_index-n-requires : goal.define_index-n-requires
+define_index-n-requires m c = first-asks m (goal.at.define_index-n-requires m c).After-from (inl c.in-Array.is)
+
+pub define_index-n-requires-in-Object : goal.define_index-n-requires-in-Object
+define_index-n-requires-in-Object m c = first-asks m (goal.at.define_index-n-requires-in-Object m c).After-from (inr c.in-Object.is)
 
 -- The match: the leaf's own step, or the parts.
 turn : (m : ℕ) (c : Joined-from m)
@@ -62,9 +82,13 @@ turn m c =
     let still : is_var c.row_at-w.result ≡ false → (a : ℕ × List ℕ) → Lengthwise (λ x ws y rs. LeafDefined g.width g.scope g.statement c.row_at-w.result g.used ws rs x y) a a =
     λ e a. (leaf_undefined _ _ _ c.row_at-w.result _ a.1 a.0 e, refl) in
     elim c.match-from.branch [
+      | in-String w ↦ leaves_arm none still _ c.from.ensures constants refl w.in-String.is (λ i. (w.n-is i, w.definitions-is i))
       | in-Var w ↦ var_arm none still c.from.ensures w.in-Var.is (w.define_var-n.ensures, w.define_var-n.auto.definitions) (λ i. (w.n-is i, w.definitions-is i))
-      | in-Array w ↦ items_arm none still c.from.ensures w.in-Array.is (w.define_index-n.ensures, w.define_index-n.auto.definitions) (λ i. (w.n-is i, w.definitions-is i))
-      | in_default w ↦ let n = w.in_default in other_arm none still c.from.ensures n.not-Var n.not-Array n.not-Object (λ i. (w.n-is i, w.definitions-is i))
+      | in-Array w ↦ items_arm none still c.from.ensures (inl w.in-Array.is) (w.define_index-n.ensures, w.define_index-n.auto.definitions) (λ i. (w.n-is i, w.definitions-is i))
+      | in-Set w ↦ leaves_arm none still _ c.from.ensures (kind.Set ∷ []) refl w.in-Set.is (λ i. (w.n-is i, w.definitions-is i))
+      | in-Object w ↦
+          items_arm none still c.from.ensures (inr w.in-Object.is) (w.define_index-n-in-Object.ensures, w.define_index-n-in-Object.auto.definitions) (λ i. (w.n-is i, w.definitions-is i))
+      | in-ArrayCompr w ↦ leaves_arm none still _ c.from.ensures behind_patterns refl w.in-ArrayCompr.is (λ i. (w.n-is i, w.definitions-is i))
     ]
 
 kept : (m : ℕ) (c : Joined-from m)

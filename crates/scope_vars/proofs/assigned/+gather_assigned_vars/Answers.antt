@@ -1,7 +1,8 @@
 -- Each arm does what its kind asks, which goes on to later rows only: a row's turn (`assign_walk_turn`).
 use mathlib.Core.Path.{◌≡◌, refl, sym, ◌∙◌, subst}
 use mathlib.Core.Bool.{true}
-use mathlib.Core.List.{List}
+use mathlib.Core.List.{List, [], ◌∷◌}
+use mathlib.Core.Logic.{inl, inr}
 use Prim.Native.Nat.{ℕ, ◌<◌}
 use native.Mathlib.Omega.{arith}
 use lib.ListN.{length}
@@ -11,11 +12,13 @@ use Rattle.scope_state.specs.declared.Scope.{Scope}
 use Rattle.scope_walk.specs.Inner.Asks.{AsksWalk}
 use Rattle.scope_walk.specs.Inner.Walking.{remains}
 use Rattle.scope_walk.proofs.Laws.Walking.{Falls, low-name, first_call, next_call}
-use Rattle.scope_walk.proofs.Laws.Patterns.{var_arm, items_arm, other_arm, Lengthwise}
+use Rattle.scope_walk.proofs.Laws.Numbers.{constants, behind_patterns}
+use Rattle.scope_walk.proofs.Laws.Patterns.{var_arm, items_arm, leaves_arm, Lengthwise}
+use Rattle.sheet.specs.declared.kinds.Kind.TheVariants as kind
 use Rattle.scope_vars.specs.Inner.Assigned.{AssignWalk}
 use Rattle.scope_vars.proofs.Laws.Assigned.{assign_walk_none, AssignTurn, assign_at_var, assign_still, assign_walk_turn, assign_turn_kept}
 use Rattle.scope_vars.proofs.assigned.+gather_assigned_vars.Goals.{After-row_at-w, Joined-from}
-use Rattle.scope_vars.proofs.assigned.+gather_assigned_vars.Goals.{in-Var, in-Array, in_default}
+use Rattle.scope_vars.proofs.assigned.+gather_assigned_vars.Goals.{in-String, in-Var, in-Array, in-Set, in-Object, in-ArrayCompr}
 use Rattle.scope_vars.proofs.assigned.+gather_assigned_vars.Goals as goal
 
 pub returns-then-row-eq0 : goal.returns-then-row-eq0
@@ -56,7 +59,11 @@ pub gather_assigned_vars-s-requires : goal.gather_assigned_vars-s-requires
 gather_assigned_vars-s-requires m c =
     asks m (goal.at.gather_assigned_vars-s-requires m c).After-row_at-w _ (first_falls m (goal.at.gather_assigned_vars-s-requires m c).After-row_at-w) _ refl
 
--- The match, an arm a kind.
+pub gather_assigned_vars-s-requires-in-Object : goal.gather_assigned_vars-s-requires-in-Object
+gather_assigned_vars-s-requires-in-Object m c =
+    asks m (goal.at.gather_assigned_vars-s-requires-in-Object m c).After-row_at-w _ (first_falls m (goal.at.gather_assigned_vars-s-requires-in-Object m c).After-row_at-w) _ refl
+
+-- The match: the leaf's own step, or the parts.
 turn : (m : ℕ) (c : Joined-from m)
     →
     let a = c.args in
@@ -67,10 +74,14 @@ turn m c =
     λ k. (assign_walk_none _ _ c.requires.accepted true g.can_shadow k.0 k.1, refl) in
     let still = assign_still g.tables.now g.outer.now c.row_at-w.result g.can_shadow in
     elim c.match-from.branch [
+      | in-String w ↦ leaves_arm none still _ c.from.ensures constants refl w.in-String.is (λ i. (w.s-is i, w.spans-is i))
       | in-Var w ↦
           var_arm none still c.from.ensures w.in-Var.is (assign_at_var _ _ _ _ w.in-Var.ensures _ _ _ _ w.assign_var-s.ensures, w.assign_var-s.auto.spans) (λ i. (w.s-is i, w.spans-is i))
-      | in-Array w ↦ items_arm none still c.from.ensures w.in-Array.is (w.gather_assigned_vars-s.ensures, w.gather_assigned_vars-s.auto.spans) (λ i. (w.s-is i, w.spans-is i))
-      | in_default w ↦ let n = w.in_default in other_arm none still c.from.ensures n.not-Var n.not-Array n.not-Object (λ i. (w.s-is i, w.spans-is i))
+      | in-Array w ↦ items_arm none still c.from.ensures (inl w.in-Array.is) (w.gather_assigned_vars-s.ensures, w.gather_assigned_vars-s.auto.spans) (λ i. (w.s-is i, w.spans-is i))
+      | in-Set w ↦ leaves_arm none still _ c.from.ensures (kind.Set ∷ []) refl w.in-Set.is (λ i. (w.s-is i, w.spans-is i))
+      | in-Object w ↦
+          items_arm none still c.from.ensures (inr w.in-Object.is) (w.gather_assigned_vars-s-in-Object.ensures, w.gather_assigned_vars-s-in-Object.auto.spans) (λ i. (w.s-is i, w.spans-is i))
+      | in-ArrayCompr w ↦ leaves_arm none still _ c.from.ensures behind_patterns refl w.in-ArrayCompr.is (λ i. (w.s-is i, w.spans-is i))
     ]
 
 kept : (m : ℕ) (c : Joined-from m)
