@@ -57,7 +57,11 @@ pub fn get_path_string(tables: &[u16], row: usize) -> Option<Path>
     }
     let w = row_at(tables, row);
     match Kind::from(w.kind) {
+        Kind::String | Kind::RawString | Kind::Number | Kind::Bool | Kind::Null => None,
         Kind::Var => Some(Path::One(w.name)),
+        Kind::Array | Kind::Set | Kind::Object => None,
+        Kind::ArrayCompr | Kind::SetCompr | Kind::ObjectCompr => None,
+        Kind::Call | Kind::UnaryExpr => None,
         // refr, and the field
         Kind::RefDot => {
             let path = get_path_string(tables, w.first as usize)?;
@@ -68,6 +72,9 @@ pub fn get_path_string(tables: &[u16], row: usize) -> Option<Path>
             let path = get_path_string(tables, w.first as usize)?;
             Some(index_step(tables, w.second as usize, path))
         }
-        _ => None,
+        Kind::BinExpr | Kind::BoolExpr | Kind::ArithExpr | Kind::AssignEq | Kind::AssignColEq =>
+            None,
+        Kind::Membership => None,
+        Kind::Unknown => None,
     }
 }

@@ -7,6 +7,9 @@ use Rattle.std.proofs.Common.{None, Some}
 use Prim.Native.Nat.{ℕ, ◌≤◌}
 use borrow.Author.Tests.{eq-eqb, ne_eqb}
 use Rattle.sheet.specs.declared.Row.{Row}
+use Rattle.sheet.specs.declared.kinds.Kind.{Kind}
+use Rattle.sheet.specs.declared.kinds.Kind.TheVariants as kind
+use Rattle.sheet.specs.Inner.Kinds.{KindNumbered}
 use Rattle.sheet.specs.Inner.Sheet.{row_at}
 use Rattle.sheet.specs.Kinds.{is_string}
 use Rattle.scope.specs.Trees.{row_of, tree_at}
@@ -15,6 +18,7 @@ use Rattle.scope_paths.specs.declared.paths.Path.{Path}
 use Rattle.scope_paths.specs.declared.paths.Path.TheVariants as path
 use Rattle.scope_walk.specs.Inner.Sheets.{sheet_at, Accepted, expr_count}
 use Rattle.scope_walk.proofs.Laws.Exprs.{none_is, tree_is, row_is}
+use Rattle.scope_walk.proofs.Laws.Numbers.{other_number, OneOf, Without, none_of}
 use Rattle.scope_paths.specs.Inner.Paths.{short_of, found_path, appended, IndexStep, path_at}
 
 short_append : (l : List ℕ) (x : ℕ) → appended (short_of l) x ≡ short_of (l ++ (x ∷ []))
@@ -53,6 +57,15 @@ module _ (t : List ℕ) (ok : Accepted t) (row : ℕ) where
     pub path_other : (w.kind ≡ 6 → ⊥) → (w.kind ≡ 15 → ⊥) → (w.kind ≡ 16 → ⊥) → None ≡ found_path (path_at t row)
     unfolding get_path_string
     path_other v d b = rw (tree_is t ok row there high, sym is, ne_eqb w.kind 6 v, ne_eqb w.kind 15 d, ne_eqb w.kind 16 b)
+
+    -- The arm of several such kinds.
+    pub path_others : (k : Kind) → KindNumbered w.kind k → (ks : List Kind) → Without kind.Var ks → Without kind.RefDot ks → Without kind.RefBrack ks
+        → OneOf k ks → None ≡ found_path (path_at t row)
+    path_others k e ks v d b one =
+        let no-var : k ≡ kind.Var → ⊥ = none_of ks v one in
+        let no-dot : k ≡ kind.RefDot → ⊥ = none_of ks d one in
+        let no-brack : k ≡ kind.RefBrack → ⊥ = none_of ks b one in
+        path_other (other_number w.kind e no-var) (other_number w.kind e no-dot) (other_number w.kind e no-brack)
 
     -- Where what has the field, or is with_index, has no path, and where it has one.
     pub dot_none : w.kind ≡ 15 → None ≡ found_path (path_at t w.first) → None ≡ found_path (path_at t row)

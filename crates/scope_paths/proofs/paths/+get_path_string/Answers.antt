@@ -1,13 +1,15 @@
 -- What has a field or is indexed is a later row, and a row adds to its path; any other kind but a Var has none.
-use mathlib.Core.Path.{◌≡◌, ◌∙◌}
+use mathlib.Core.Path.{◌≡◌, refl, ◌∙◌}
+use mathlib.Core.List.{[], ◌∷◌}
 use Prim.Native.Nat.{ℕ, ◌≤◌, ◌<◌}
+use Rattle.sheet.specs.declared.kinds.Kind.TheVariants as kind
 use Rattle.sheet.specs.Inner.Sheet.{row_at}
 use Rattle.sheet.proofs.Laws.Sheet.{row-fields}
 use Rattle.scope_walk.specs.Inner.Sheets.{Accepted, expr_count}
 use Rattle.scope_walk.specs.Inner.Walking.{remains}
-use Rattle.scope_walk.proofs.Laws.Numbers.{other_number}
+use Rattle.scope_walk.proofs.Laws.Numbers.{constants, collections, compr_kinds, operators}
 use Rattle.scope_walk.proofs.Laws.Walking.{first_call, second-low}
-use Rattle.scope_paths.proofs.Laws.Paths.{no_path, path_var, path_other, dot_none, path_dot, brack_none, path_brack}
+use Rattle.scope_paths.proofs.Laws.Paths.{no_path, path_var, path_others, dot_none, path_dot, brack_none, path_brack}
 use Rattle.scope_paths.proofs.paths.+get_path_string.Goals.{After-row_at-w}
 use Rattle.scope_paths.proofs.paths.+get_path_string.Goals as goal
 
@@ -59,8 +61,26 @@ pub returns-in_ok-path-in-RefBrack : goal.returns-in_ok-path-in-RefBrack
 returns-in_ok-path-in-RefBrack m c =
     path_brack _ c.requires.0 _ c.if-row-eq0.false c.requires.1 c.row_at-w.result (row_is m (goal.at.returns-in_ok-path-in-RefBrack m c).After-row_at-w) c.in-RefBrack.ensures _ _ c.in_ok-path-in-RefBrack.ensures c.index_step.ensures
 
-pub returns-in_default : goal.returns-in_default
-returns-in_default m c =
-    let n = c.in_default in
-    path_other _ c.requires.0 _ c.if-row-eq0.false c.requires.1 c.row_at-w.result (row_is m (goal.at.returns-in_default m c).After-row_at-w)
-    (other_number _ c.from.ensures n.not-Var) (other_number _ c.from.ensures n.not-RefDot) (other_number _ c.from.ensures n.not-RefBrack)
+pub returns-in-String : goal.returns-in-String
+returns-in-String m c =
+    path_others _ c.requires.0 _ c.if-row-eq0.false c.requires.1 c.row_at-w.result (row_is m (goal.at.returns-in-String m c).After-row_at-w) _ c.from.ensures constants refl refl refl c.in-String.is
+
+pub returns-in-Array : goal.returns-in-Array
+returns-in-Array m c =
+    path_others _ c.requires.0 _ c.if-row-eq0.false c.requires.1 c.row_at-w.result (row_is m (goal.at.returns-in-Array m c).After-row_at-w) _ c.from.ensures collections refl refl refl c.in-Array.is
+
+pub returns-in-ArrayCompr : goal.returns-in-ArrayCompr
+returns-in-ArrayCompr m c =
+    path_others _ c.requires.0 _ c.if-row-eq0.false c.requires.1 c.row_at-w.result (row_is m (goal.at.returns-in-ArrayCompr m c).After-row_at-w) _ c.from.ensures compr_kinds refl refl refl c.in-ArrayCompr.is
+
+pub returns-in-Call : goal.returns-in-Call
+returns-in-Call m c =
+    path_others _ c.requires.0 _ c.if-row-eq0.false c.requires.1 c.row_at-w.result (row_is m (goal.at.returns-in-Call m c).After-row_at-w) _ c.from.ensures (kind.Call ∷ kind.UnaryExpr ∷ []) refl refl refl c.in-Call.is
+
+pub returns-in-BinExpr : goal.returns-in-BinExpr
+returns-in-BinExpr m c =
+    path_others _ c.requires.0 _ c.if-row-eq0.false c.requires.1 c.row_at-w.result (row_is m (goal.at.returns-in-BinExpr m c).After-row_at-w) _ c.from.ensures operators refl refl refl c.in-BinExpr.is
+
+pub returns-in-Membership : goal.returns-in-Membership
+returns-in-Membership m c =
+    path_others _ c.requires.0 _ c.if-row-eq0.false c.requires.1 c.row_at-w.result (row_is m (goal.at.returns-in-Membership m c).After-row_at-w) _ c.from.ensures (kind.Membership ∷ []) refl refl refl c.in-Membership.is
