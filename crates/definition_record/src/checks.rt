@@ -71,10 +71,27 @@ pub fn check_assigned(
     let next = next_of(w, rest);
     let first = w.first as usize;
     let q = match Kind::from(w.kind) {
+        Kind::String | Kind::RawString | Kind::Number | Kind::Bool | Kind::Null => p,
         Kind::Var => check_local(w, p, firsts),
-        // items; fields: keys and values in turn
-        Kind::Array | Kind::Object => check_assigned(tables, first, true, p, firsts),
-        _ => p,
+        // items
+        Kind::Array => check_assigned(tables, first, true, p, firsts),
+        Kind::Set => p,
+        // fields: keys and values in turn
+        Kind::Object => check_assigned(tables, first, true, p, firsts),
+        Kind::ArrayCompr
+        | Kind::SetCompr
+        | Kind::ObjectCompr
+        | Kind::Call
+        | Kind::UnaryExpr
+        | Kind::RefDot
+        | Kind::RefBrack
+        | Kind::BinExpr
+        | Kind::BoolExpr
+        | Kind::ArithExpr
+        | Kind::AssignEq
+        | Kind::AssignColEq
+        | Kind::Membership
+        | Kind::Unknown => p,
     };
     if next == 0 {
         return q;

@@ -50,10 +50,27 @@ pub fn some_vars(tables: &[u16], scope: Scope, row: usize, names: Names) -> Name
     let next = next_of(w, true);
     let first = w.first as usize;
     let s = match Kind::from(w.kind) {
+        Kind::String | Kind::RawString | Kind::Number | Kind::Bool | Kind::Null => names,
         Kind::Var => some_var(tables, scope, w, names),
-        // items; fields: keys and values in turn
-        Kind::Array | Kind::Object => some_vars(tables, scope, first, names),
-        _ => names,
+        // items
+        Kind::Array => some_vars(tables, scope, first, names),
+        Kind::Set => names,
+        // fields: keys and values in turn
+        Kind::Object => some_vars(tables, scope, first, names),
+        Kind::ArrayCompr
+        | Kind::SetCompr
+        | Kind::ObjectCompr
+        | Kind::Call
+        | Kind::UnaryExpr
+        | Kind::RefDot
+        | Kind::RefBrack
+        | Kind::BinExpr
+        | Kind::BoolExpr
+        | Kind::ArithExpr
+        | Kind::AssignEq
+        | Kind::AssignColEq
+        | Kind::Membership
+        | Kind::Unknown => names,
     };
     if next == 0 {
         return s;
@@ -84,10 +101,27 @@ pub fn first_some(tables: &[u16], scope: Scope, row: usize, firsts: &mut [u64])
     let next = next_of(w, true);
     let first = w.first as usize;
     match Kind::from(w.kind) {
+        Kind::String | Kind::RawString | Kind::Number | Kind::Bool | Kind::Null => {}
         Kind::Var => enter_var(tables, scope, w, firsts),
-        // items; fields: keys and values in turn
-        Kind::Array | Kind::Object => first_some(tables, scope, first, firsts),
-        _ => {}
+        // items
+        Kind::Array => first_some(tables, scope, first, firsts),
+        Kind::Set => {}
+        // fields: keys and values in turn
+        Kind::Object => first_some(tables, scope, first, firsts),
+        Kind::ArrayCompr
+        | Kind::SetCompr
+        | Kind::ObjectCompr
+        | Kind::Call
+        | Kind::UnaryExpr
+        | Kind::RefDot
+        | Kind::RefBrack
+        | Kind::BinExpr
+        | Kind::BoolExpr
+        | Kind::ArithExpr
+        | Kind::AssignEq
+        | Kind::AssignColEq
+        | Kind::Membership
+        | Kind::Unknown => {}
     }
     if next == 0 {
         return;

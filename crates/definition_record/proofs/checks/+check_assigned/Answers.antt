@@ -1,20 +1,24 @@
 -- Each arm does what its kind asks, which goes on to later rows only: a row's turn (`checked_turn`).
 use mathlib.Core.Path.{◌≡◌, refl, ◌∙◌}
 use mathlib.Core.Bool.{true}
+use mathlib.Core.List.{[], ◌∷◌}
+use mathlib.Core.Logic.{inl, inr}
 use Prim.Native.Nat.{ℕ, ◌≤◌, ◌<◌}
 use lib.ListN.{length}
 use Rattle.base.specs.Limits as limits
+use Rattle.sheet.specs.declared.kinds.Kind.TheVariants as kind
 use Rattle.sheet.specs.Inner.Sheet.{row_at}
 use Rattle.sheet.proofs.Laws.Sheet.{row-fields}
 use Rattle.scope_walk.specs.Inner.Sheets.{Accepted, expr_count}
 use Rattle.scope_walk.specs.Inner.Walking.{remains}
+use Rattle.scope_walk.proofs.Laws.Numbers.{constants, behind_patterns}
 use Rattle.scope_walk.proofs.Laws.Walking.{row_low, low-name, first_call, next_call}
-use Rattle.scope_walk.proofs.Laws.Patterns.{var_arm, items_arm, other_arm}
+use Rattle.scope_walk.proofs.Laws.Patterns.{var_arm, items_arm, leaves_arm}
 use Rattle.definition_state.specs.declared.Progress.{Progress}
 use Rattle.definition_record.specs.Inner.Checks.{AssignedChecked}
 use Rattle.definition_record.proofs.Laws.Checks.{checked_still, checked_none, CheckedTurn, checked_turn}
 use Rattle.definition_record.proofs.checks.+check_assigned.Goals.{After-row_at-w, Joined-from}
-use Rattle.definition_record.proofs.checks.+check_assigned.Goals.{in-Var, in-Array, in_default}
+use Rattle.definition_record.proofs.checks.+check_assigned.Goals.{in-String, in-Var, in-Array, in-Set, in-Object, in-ArrayCompr}
 use Rattle.definition_record.proofs.checks.+check_assigned.Goals as goal
 
 pub returns-then-row-eq0 : goal.returns-then-row-eq0
@@ -49,6 +53,9 @@ first-asks m c =
 pub check_assigned-q-requires : goal.check_assigned-q-requires
 check_assigned-q-requires m c = first-asks m (goal.at.check_assigned-q-requires m c).After-row_at-w
 
+pub check_assigned-q-requires-in-Object : goal.check_assigned-q-requires-in-Object
+check_assigned-q-requires-in-Object m c = first-asks m (goal.at.check_assigned-q-requires-in-Object m c).After-row_at-w
+
 -- The match: the leaf's own step, or the parts.
 turn : (m : ℕ) (c : Joined-from m)
     →
@@ -59,9 +66,12 @@ turn m c =
     let none = checked_none g.tables.now g.firsts.now c.requires.0 0 refl true in
     let still = checked_still c.row_at-w.result g.firsts.now in
     elim c.match-from.branch [
+      | in-String a ↦ leaves_arm none still _ c.from.ensures constants refl a.in-String.is a.q-is
       | in-Var a ↦ var_arm none still c.from.ensures a.in-Var.is a.check_local-q.ensures a.q-is
-      | in-Array a ↦ items_arm none still c.from.ensures a.in-Array.is a.check_assigned-q.ensures a.q-is
-      | in_default a ↦ let n = a.in_default in other_arm none still c.from.ensures n.not-Var n.not-Array n.not-Object a.q-is
+      | in-Array a ↦ items_arm none still c.from.ensures (inl a.in-Array.is) a.check_assigned-q.ensures a.q-is
+      | in-Set a ↦ leaves_arm none still _ c.from.ensures (kind.Set ∷ []) refl a.in-Set.is a.q-is
+      | in-Object a ↦ items_arm none still c.from.ensures (inr a.in-Object.is) a.check_assigned-q-in-Object.ensures a.q-is
+      | in-ArrayCompr a ↦ leaves_arm none still _ c.from.ensures behind_patterns refl a.in-ArrayCompr.is a.q-is
     ]
 
 -- With the walk over the rest of the chain.

@@ -1,21 +1,24 @@
 -- Each arm does what its kind asks, which goes on to later rows only: a row's turn (`entered-turn`).
 use mathlib.Core.Path.{◌≡◌, refl, ◌∙◌}
 use mathlib.Core.Bool.{true}
-use mathlib.Core.List.{List}
+use mathlib.Core.List.{List, [], ◌∷◌}
+use mathlib.Core.Logic.{inl, inr}
 use Prim.Native.Nat.{ℕ, ◌≤◌, ◌<◌}
 use native.Mathlib.Omega.{arith}
 use lib.ListN.{length}
 use Rattle.base.specs.Limits as limits
+use Rattle.sheet.specs.declared.kinds.Kind.TheVariants as kind
 use Rattle.sheet.specs.Inner.Sheet.{row_at}
 use Rattle.sheet.proofs.Laws.Sheet.{row-fields}
 use Rattle.scope_walk.specs.Inner.Sheets.{Accepted, expr_count}
 use Rattle.scope_walk.specs.Inner.Walking.{remains}
+use Rattle.scope_walk.proofs.Laws.Numbers.{constants, behind_patterns}
 use Rattle.scope_walk.proofs.Laws.Walking.{Falls, row_low, low-name, first_call, next_call}
-use Rattle.scope_walk.proofs.Laws.Patterns.{var_arm, items_arm, other_arm}
+use Rattle.scope_walk.proofs.Laws.Patterns.{var_arm, items_arm, leaves_arm}
 use Rattle.definition_record.specs.Inner.SomeVars.{SomeEntered}
 use Rattle.definition_record.proofs.Laws.SomeVars.{enter_still, entered-none, EnteredTurn, entered-turn}
 use Rattle.definition_record.proofs.some.+first_some.Goals.{After-row_at-w, Joined-from}
-use Rattle.definition_record.proofs.some.+first_some.Goals.{in-Var, in-Array, in_default}
+use Rattle.definition_record.proofs.some.+first_some.Goals.{in-String, in-Var, in-Array, in-Set, in-Object, in-ArrayCompr}
 use Rattle.definition_record.proofs.some.+first_some.Goals as goal
 
 pub returns-then-row-eq0 : goal.returns-then-row-eq0
@@ -52,6 +55,9 @@ first_falls m c =
 pub first_some-requires : goal.first_some-requires
 first_some-requires m c = asks m (goal.at.first_some-requires m c).After-row_at-w _ (first_falls m (goal.at.first_some-requires m c).After-row_at-w) _ refl
 
+pub first_some-requires-in-Object : goal.first_some-requires-in-Object
+first_some-requires-in-Object m c = asks m (goal.at.first_some-requires-in-Object m c).After-row_at-w _ (first_falls m (goal.at.first_some-requires-in-Object m c).After-row_at-w) _ refl
+
 -- The match: the leaf's own step, or the parts.
 turn : (m : ℕ) (c : Joined-from m)
     →
@@ -62,9 +68,12 @@ turn m c =
     let none : (l : List ℕ) → SomeEntered g.tables.now g.scope 0 l l × (length l ≡ length l) = λ l. (entered-none _ _ c.requires.0 0 refl l, refl) in
     let still = enter_still g.tables.now g.scope c.row_at-w.result in
     elim c.match-from.branch [
+      | in-String a ↦ leaves_arm none still _ c.from.ensures constants refl a.in-String.is a.firsts-is
       | in-Var a ↦ var_arm none still c.from.ensures a.in-Var.is (a.enter_var.ensures, a.enter_var.auto.firsts) a.firsts-is
-      | in-Array a ↦ items_arm none still c.from.ensures a.in-Array.is (a.first_some.ensures, a.first_some.auto.firsts) a.firsts-is
-      | in_default a ↦ let n = a.in_default in other_arm none still c.from.ensures n.not-Var n.not-Array n.not-Object a.firsts-is
+      | in-Array a ↦ items_arm none still c.from.ensures (inl a.in-Array.is) (a.first_some.ensures, a.first_some.auto.firsts) a.firsts-is
+      | in-Set a ↦ leaves_arm none still _ c.from.ensures (kind.Set ∷ []) refl a.in-Set.is a.firsts-is
+      | in-Object a ↦ items_arm none still c.from.ensures (inr a.in-Object.is) (a.first_some-in-Object.ensures, a.first_some-in-Object.auto.firsts) a.firsts-is
+      | in-ArrayCompr a ↦ leaves_arm none still _ c.from.ensures behind_patterns refl a.in-ArrayCompr.is a.firsts-is
     ]
 
 kept : (m : ℕ) (c : Joined-from m)

@@ -1,18 +1,22 @@
 -- Each arm does what its kind asks, which goes on to later rows only: a row's turn (`some_turn`).
 use mathlib.Core.Path.{◌≡◌, refl, ◌∙◌}
 use mathlib.Core.Bool.{true}
+use mathlib.Core.List.{[], ◌∷◌}
+use mathlib.Core.Logic.{inl, inr}
 use Prim.Native.Nat.{ℕ, ◌≤◌, ◌<◌}
 use Rattle.names.specs.Inner.Names.{Names}
+use Rattle.sheet.specs.declared.kinds.Kind.TheVariants as kind
 use Rattle.sheet.specs.Inner.Sheet.{row_at}
 use Rattle.sheet.proofs.Laws.Sheet.{row-fields}
 use Rattle.scope_walk.specs.Inner.Sheets.{Accepted, expr_count}
 use Rattle.scope_walk.specs.Inner.Walking.{remains}
+use Rattle.scope_walk.proofs.Laws.Numbers.{constants, behind_patterns}
 use Rattle.scope_walk.proofs.Laws.Walking.{row_low, low-name, first_call, next_call}
-use Rattle.scope_walk.proofs.Laws.Patterns.{var_arm, items_arm, other_arm}
+use Rattle.scope_walk.proofs.Laws.Patterns.{var_arm, items_arm, leaves_arm}
 use Rattle.definition_record.specs.Inner.SomeVars.{SomeVars}
 use Rattle.definition_record.proofs.Laws.SomeVars.{some_still, some-none, SomeTurn, some_turn}
 use Rattle.definition_record.proofs.some.+some_vars.Goals.{After-row_at-w, Joined-from}
-use Rattle.definition_record.proofs.some.+some_vars.Goals.{in-Var, in-Array, in_default}
+use Rattle.definition_record.proofs.some.+some_vars.Goals.{in-String, in-Var, in-Array, in-Set, in-Object, in-ArrayCompr}
 use Rattle.definition_record.proofs.some.+some_vars.Goals as goal
 
 pub returns-then-row-eq0 : goal.returns-then-row-eq0
@@ -46,6 +50,9 @@ first-asks m c =
 pub some_vars-s-requires : goal.some_vars-s-requires
 some_vars-s-requires m c = first-asks m (goal.at.some_vars-s-requires m c).After-row_at-w
 
+pub some_vars-s-requires-in-Object : goal.some_vars-s-requires-in-Object
+some_vars-s-requires-in-Object m c = first-asks m (goal.at.some_vars-s-requires-in-Object m c).After-row_at-w
+
 -- The match: the leaf's own step, or the parts.
 turn : (m : ℕ) (c : Joined-from m)
     →
@@ -56,9 +63,12 @@ turn m c =
     let none = some-none g.tables.now g.scope c.requires.0 0 refl in
     let still = some_still g.tables.now g.scope c.row_at-w.result in
     elim c.match-from.branch [
+      | in-String a ↦ leaves_arm none still _ c.from.ensures constants refl a.in-String.is a.s-is
       | in-Var a ↦ var_arm none still c.from.ensures a.in-Var.is a.some_var-s.ensures a.s-is
-      | in-Array a ↦ items_arm none still c.from.ensures a.in-Array.is a.some_vars-s.ensures a.s-is
-      | in_default a ↦ let n = a.in_default in other_arm none still c.from.ensures n.not-Var n.not-Array n.not-Object a.s-is
+      | in-Array a ↦ items_arm none still c.from.ensures (inl a.in-Array.is) a.some_vars-s.ensures a.s-is
+      | in-Set a ↦ leaves_arm none still _ c.from.ensures (kind.Set ∷ []) refl a.in-Set.is a.s-is
+      | in-Object a ↦ items_arm none still c.from.ensures (inr a.in-Object.is) a.some_vars-s-in-Object.ensures a.s-is
+      | in-ArrayCompr a ↦ leaves_arm none still _ c.from.ensures behind_patterns refl a.in-ArrayCompr.is a.s-is
     ]
 
 -- With the walk over the rest of the chain.
