@@ -30,14 +30,32 @@ pub fn non_var(tables: &[u16], p: Progress, row: usize, w: Row) -> usize
     ensures { NonVar tables.now p.scope row w result }
 {
     match Kind::from(w.kind) {
+        Kind::String | Kind::RawString | Kind::Number | Kind::Bool | Kind::Null => row,
         Kind::Var => {
             if is_name(tables, p, w) {
                 return 0;
             }
             row
         }
-        Kind::Array | Kind::Object => 0,
-        _ => row,
+        // items
+        Kind::Array => 0,
+        Kind::Set => row,
+        // fields: keys and values in turn
+        Kind::Object => 0,
+        Kind::ArrayCompr
+        | Kind::SetCompr
+        | Kind::ObjectCompr
+        | Kind::Call
+        | Kind::UnaryExpr
+        | Kind::RefDot
+        | Kind::RefBrack
+        | Kind::BinExpr
+        | Kind::BoolExpr
+        | Kind::ArithExpr
+        | Kind::AssignEq
+        | Kind::AssignColEq
+        | Kind::Membership
+        | Kind::Unknown => row,
     }
 }
 

@@ -16,7 +16,8 @@ use Rattle.sheet.specs.declared.kinds.Kind.{Kind}
 use Rattle.sheet.specs.declared.kinds.Kind.TheVariants as kind
 use Rattle.sheet.specs.Inner.Kinds.{KindNumbered}
 use Rattle.scope_walk.proofs.Laws.Arms.{no_such_kinds}
-use Rattle.scope_walk.proofs.Laws.Numbers.{number_of, by_number}
+use Rattle.scope_walk.proofs.Laws.Numbers.{number_of, by_number, OneOf, Without, none_of}
+use Rattle.scope_walk.proofs.Laws.Patterns.{other_than_var}
 use Rattle.definition_literal.specs.Inner.SomeIn.{IsName, NonVar}
 
 module _ (t : List ℕ) (k : Scope) where
@@ -59,3 +60,13 @@ other_than_pattern {k} w e a o =
     go kind.Array a o = absurd (a refl)
     go kind.Object a o = absurd (o refl)
     go _ a o = refl
+
+module _ (t : List ℕ) (k : Scope) (w : Row) (row : ℕ) where
+  -- One of several kinds, of which none is made of parts and none is a variable.
+  pub is-part : (j : Kind) → KindNumbered w.kind j → (ks : List Kind) → Without kind.Array ks → Without kind.Object ks → Without kind.Var ks
+      → OneOf j ks → NonVar t k row w row
+  is-part j e ks a o v one =
+      let no-array : j ≡ kind.Array → ⊥ = none_of ks a one in
+      let no-object : j ≡ kind.Object → ⊥ = none_of ks o one in
+      let no-var : j ≡ kind.Var → ⊥ = none_of ks v one in
+      is-other t k w row (other_than_pattern w e no-array no-object) (other_than_var w e no-var)
