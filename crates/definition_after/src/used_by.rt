@@ -115,10 +115,29 @@ fn leaves_used(
     let first = w.first as usize;
     let width = p.width;
     let s = match Kind::from(w.kind) {
+        Kind::String | Kind::RawString | Kind::Number | Kind::Bool | Kind::Null => {
+            other_used(tables, p.scope, row, mods, work, names, width)
+        }
         Kind::Var => var_used(tables, p, row, w, mods, work, names),
-        // items; fields: keys and values in turn
-        Kind::Array | Kind::Object => leaves_used(tables, p, first, mods, work, names),
-        _ => other_used(tables, p.scope, row, mods, work, names, width),
+        // items
+        Kind::Array => leaves_used(tables, p, first, mods, work, names),
+        Kind::Set => other_used(tables, p.scope, row, mods, work, names, width),
+        // fields: keys and values in turn
+        Kind::Object => leaves_used(tables, p, first, mods, work, names),
+        Kind::ArrayCompr
+        | Kind::SetCompr
+        | Kind::ObjectCompr
+        | Kind::Call
+        | Kind::UnaryExpr
+        | Kind::RefDot
+        | Kind::RefBrack
+        | Kind::BinExpr
+        | Kind::BoolExpr
+        | Kind::ArithExpr
+        | Kind::AssignEq
+        | Kind::AssignColEq
+        | Kind::Membership
+        | Kind::Unknown => other_used(tables, p.scope, row, mods, work, names, width),
     };
     if w.next == 0 {
         return s;
