@@ -19,7 +19,7 @@ use Rattle.answer_text.proofs.Laws.Ranges.{texts-same}
 use Rattle.answer_write.specs.declared.Text.{Text}
 use Rattle.answer_write.specs.Inner.Texts.{Extends}
 use Rattle.answer_write.proofs.Laws.Texts.{extends_as}
-use Rattle.answer_text.specs.Inner.Sections.{PutsAnswer}
+use Rattle.answer_text.specs.Inner.Sections.{PutsSection, PutsAnswer}
 use Rattle.answer_text.specs.Inner.Texts.{query_text, places_text, sets_text}
 use Rattle.answer_text.proofs.Laws.Agrees.{query-stored, places-stored, sets-stored}
 
@@ -34,10 +34,11 @@ module _ (rows : ℕ → Option QuerySchedule → List (List ℕ)) (f : ℕ → 
       ∙ ap (λ (l : List ℕ). bytes heading ++ (newline ∷ (l ++ (newline ∷ []))))
       (sym (concat_map-nested row_line _ (range 1 (suc n)) ∙ ap (texts _ 1) (sym (add-one n)) ∙ texts-same _ f 1 (n + 1) (λ q l u. same q l (omega arith))))
 
-module _ (v : Width) (w : List ℕ) (n : ℕ) (few : n ≤ limits.most_queries) where
-  abbrev heading : String → List ℕ
-  heading line = bytes line ++ (newline ∷ [])
+-- A heading, as a line.
+abbrev pub heading : String → List ℕ
+heading line = bytes line ++ (newline ∷ [])
 
+module _ (v : Width) (w : List ℕ) (n : ℕ) (few : n ≤ limits.most_queries) where
   -- The text of the three sections, read off the words.
   abbrev words_text : List ℕ
   words_text =
@@ -46,7 +47,7 @@ module _ (v : Width) (w : List ℕ) (n : ℕ) (few : n ≤ limits.most_queries) 
 
   module _ (schedules : List QuerySchedule) (stored : Stored v w schedules) where
     -- What the words give of the queries is a section of the schedules that they store.
-    stored_section : (rows : ℕ → Option QuerySchedule → List (List ℕ)) (f : ℕ → List ℕ) (line : String)
+    pub stored_section : (rows : ℕ → Option QuerySchedule → List (List ℕ)) (f : ℕ → List ℕ) (line : String)
         → ((q : ℕ) (o : Option QuerySchedule) → StoredAt v w q o → concat_map row_line (rows q o) ≡ f q)
         → section_of (heading line) f n ≡ section line (all_rows rows n schedules)
     stored_section rows f line same = section-same rows f line n schedules (λ q l u. same q (schedule_of schedules q) (stored q l (omega arith)))
@@ -58,7 +59,25 @@ module _ (v : Width) (w : List ℕ) (n : ℕ) (few : n ≤ limits.most_queries) 
         (ap₂ (λ (k l : List ℕ). k ++ l) (stored_section place_rows (places_text v w) "query place index reached" (places-stored v w))
         (stored_section set_rows (sets_text v w) "query set name line col" (sets-stored v w)))
 
-  -- It is the answer, whatever schedules the words store.
+  -- A text that has it at its end has the section, whatever schedules the words store.
+  pub put_section : (rows : ℕ → Option QuerySchedule → List (List ℕ)) (f : ℕ → List ℕ) (line : String)
+      → ((q : ℕ) (o : Option QuerySchedule) → StoredAt v w q o → concat_map row_line (rows q o) ≡ f q)
+      → (t u : Text) → Extends t (section_of (heading line) f n) u → PutsSection rows line v w n t u
+  put_section rows f line same t u a schedules stored = (extends_as t _ _ u (stored_section schedules stored rows f line same) a).puts
+
+  pub put_queries : (t u : Text) → Extends t (section_of (heading "query placed input") (query_text v w) n) u
+      → PutsSection query_rows "query placed input" v w n t u
+  put_queries = put_section query_rows (query_text v w) "query placed input" (query-stored v w)
+
+  pub put_places : (t u : Text) → Extends t (section_of (heading "query place index reached") (places_text v w) n) u
+      → PutsSection place_rows "query place index reached" v w n t u
+  put_places = put_section place_rows (places_text v w) "query place index reached" (places-stored v w)
+
+  pub put_sets : (t u : Text) → Extends t (section_of (heading "query set name line col") (sets_text v w) n) u
+      → PutsSection set_rows "query set name line col" v w n t u
+  put_sets = put_section set_rows (sets_text v w) "query set name line col" (sets-stored v w)
+
+  -- The three are the answer, whatever schedules the words store.
   pub put_all : (t u : Text) → Extends t words_text u → PutsAnswer v w n t u
   put_all t u a = record {
     same = a.same;
