@@ -1,51 +1,67 @@
 // The block of a query: its first four words, its sets, and where its locals stand.
 
 ghost use Rattle.std.specs.Prelude.{◌≡◌, ◌+◌, ◌≤◌, length};
+ghost use Rattle.base.specs.Limits as limits;
 ghost use Rattle.answer_blocks.specs.Inner.Asks.{AsksBlock};
 ghost use Rattle.answer_blocks.specs.Inner.States.{state_word};
 ghost use Rattle.order.specs.Turns.{mark};
 ghost use Rattle.answer_store.specs.Inner.Writes.{Written, words_from};
 ghost use Rattle.answer_store.specs.Inner.Words.{head_words, BlockWritten};
 
-use crate::query::QueryAnswer;
 use answer_blocks::place_of;
 use answer_blocks::put::{put_set, put_spans};
 use answer_blocks::state::{QuerySet, State};
 use names_width::Width;
+use scope_state::Scope;
 
-impl QueryAnswer<'_> {
-    fn state(&self) -> State
-        ensures { state_word result ≡ 1 + mark self.now.placed }
-    {
-        if self.placed {
-            State::Placed
-        } else {
-            State::Unplaced
-        }
+fn state(placed: bool) -> State
+    ensures { state_word result ≡ 1 + mark placed }
+{
+    if placed {
+        State::Placed
+    } else {
+        State::Unplaced
     }
+}
 
-    // The first four words, in the order of the block.
-    fn store_head(&self, words: &mut [u64], at: usize, base: usize)
-        requires { at + 4 ≤ length words.old }
-        ensures { Written words.old words.new at 4 (words_from (head_words self.now.scope.now.uses (length self.now.order.now) base self.now.placed)) }
-    {
-        let head = [
-            u64::from(self.state()),
-            u64::from(self.scope.uses),
-            self.order.len() as u64,
-            base as u64,
-        ];
-        words[at..at + head.len()].copy_from_slice(&head);
-    }
+// The first four words, in the order of the block.
+fn store_head(
+    answers: &mut [u64],
+    block: usize,
+    uses: bool,
+    count: usize,
+    base: usize,
+    placed: bool,
+)
+    requires { block + 4 ≤ length answers.old }
+    ensures { Written answers.old answers.new block 4 (words_from (head_words uses count base placed)) }
+{
+    let head = [
+        u64::from(state(placed)),
+        u64::from(uses),
+        count as u64,
+        base as u64,
+    ];
+    answers[block..block + head.len()].copy_from_slice(&head);
+}
 
-    pub fn store_block(&self, width: Width, words: &mut [u64], q: usize, base: usize)
-        requires { AsksBlock width words.old q }
-        ensures { BlockWritten width words.old q self.now.scope.now self.now.spans.now (length self.now.order.now) base self.now.placed words.new }
-    {
-        self.store_head(words, place_of(width, q, 0), base);
-        put_set(width, words, q, QuerySet::Locals, self.scope.locals);
-        put_set(width, words, q, QuerySet::Unscoped, self.scope.unscoped);
-        put_set(width, words, q, QuerySet::Inputs, self.scope.inputs);
-        put_spans(width, words, q, self.spans);
-    }
+pub fn store_block(
+    answers: &mut [u64],
+    q: usize,
+    scope: &Scope,
+    spans: &[u32],
+    count: usize,
+    base: usize,
+    placed: bool,
+    width: Width,
+)
+    requires { AsksBlock width answers.old q × (limits.per_name ≤ length spans.now) }
+    ensures { BlockWritten width answers.old q scope.now spans.now count base placed answers.new }
+{
+    let block = place_of(width, q, 0);
+    store_head(answers, block, scope.uses, count, base, placed);
+    put_set(width, answers, q, QuerySet::Locals, scope.locals);
+    put_set(width, answers, q, QuerySet::Unscoped, scope.unscoped);
+    put_set(width, answers, q, QuerySet::Inputs, scope.inputs);
+    put_spans(width, answers, q, spans);
 }

@@ -2,6 +2,6 @@
 
 #![tactic(auto)]
 
-mod block;
-mod places;
+pub mod block;
+pub mod places;
 pub mod query;

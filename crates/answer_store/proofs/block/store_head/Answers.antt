@@ -11,7 +11,7 @@ use Rattle.order.specs.Turns.{mark}
 use Rattle.answer_store.specs.Inner.Writes.{Written, words_from}
 use Rattle.answer_store.specs.Inner.Words.{head_words}
 use Rattle.answer_store.proofs.Laws.Writes.{written_slice}
-use Rattle.answer_store.proofs.query.QueryAnswer.store_head.Goals as goal
+use Rattle.answer_store.proofs.block.store_head.Goals as goal
 
 flag_mark : (b : Bool) → bool_byte b ≡ mark b
 flag_mark true = refl
@@ -20,12 +20,11 @@ flag_mark false = refl
 pub returns : goal.returns
 returns c =
     let a = c.args in
-    let w = a.words.now in
-    let s = a.self.now in
+    let w = a.answers.now in
     let copied = c.copy_from_slice.new.self in
-    let four : 4 ≡ a.at + 4 - a.at = omega arith in
-    let head : copied ≡ head_words s.scope.now.uses (length s.order.now) a.base s.placed =
+    let four : 4 ≡ a.block + 4 - a.block = omega arith in
+    let head : copied ≡ head_words a.uses a.count a.base a.placed =
     c.copy_from_slice.ensures.after
-    ∙ ap₂ (λ (m n : ℕ). m ∷ n ∷ length s.order.now ∷ a.base ∷ []) (c.from.ensures ∙ c.state.ensures) (c.from-2.ensures ∙ flag_mark s.scope.now.uses) in
-    subst (λ (k : ℕ). Written w (put_mid a.at k w copied) a.at 4 (words_from (head_words s.scope.now.uses (length s.order.now) a.base s.placed))) four
-    (subst (λ (l : List ℕ). Written w (put_mid a.at 4 w copied) a.at 4 (words_from l)) head (written_slice w a.at 4 copied c.requires (ap length head)))
+    ∙ ap₂ (λ (m n : ℕ). m ∷ n ∷ a.count ∷ a.base ∷ []) (c.from.ensures ∙ c.state.ensures) (c.from-2.ensures ∙ flag_mark a.uses) in
+    subst (λ (k : ℕ). Written w (put_mid a.block k w copied) a.block 4 (words_from (head_words a.uses a.count a.base a.placed))) four
+    (subst (λ (l : List ℕ). Written w (put_mid a.block 4 w copied) a.block 4 (words_from l)) head (written_slice w a.block 4 copied c.requires (ap length head)))
