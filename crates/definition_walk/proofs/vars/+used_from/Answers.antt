@@ -69,7 +69,7 @@ turn m c =
       | in-UnaryExpr x ↦ plain_arm still wrappers x.in-UnaryExpr.is refl (λ i. (x.own-is i, x.firsts-is i)) (cc)
       | in-RefBrack x ↦
           acting_arm still (kind.RefBrack ∷ []) x.in-RefBrack.is refl (found_at-bracket t k e n w u ws x.in-RefBrack.ensures _ x.use_index-own.ensures) (λ i. (x.own-is i, x.firsts-is i)) (cc)
-      | in-BinExpr x ↦ plain_arm still operators x.in-BinExpr.is refl (λ i. (x.own-is i, x.firsts-is i)) (cc)
+      | in-BinExpr x ↦ plain_arm still operators x.in-BinExpr.is refl (λ i. (x.own-is i, x.firsts-is i)) (grind arith)
       | in-Membership x ↦ plain_arm still (kind.Membership ∷ []) x.in-Membership.is refl (λ i. (x.own-is i, x.firsts-is i)) (cc)
       | in-Unknown x ↦ plain_arm still (kind.Unknown ∷ []) x.in-Unknown.is refl (λ i. (x.own-is i, x.firsts-is i)) (cc)
     ]

@@ -58,7 +58,7 @@ turn m c =
       | in-Var w ↦
           acting_arm still (kind.Var ∷ []) w.in-Var.is refl (input_at-var _ _ _ _ _ _ w.in-Var.ensures _ _ w.input_var-s.ensures) (λ i. (w.inputs-is i, w.s-is i)) (cc)
       | in-Array w ↦ plain_arm still collections w.in-Array.is refl (λ i. (w.inputs-is i, w.s-is i)) (cc)
-      | in-ArrayCompr w ↦ plain_arm still compr_kinds w.in-ArrayCompr.is refl (λ i. (w.inputs-is i, w.s-is i)) (cc)
+      | in-ArrayCompr w ↦ plain_arm still compr_kinds w.in-ArrayCompr.is refl (λ i. (w.inputs-is i, w.s-is i)) (grind arith)
       | in-Call w ↦ plain_arm still (kind.Call ∷ []) w.in-Call.is refl (λ i. (w.inputs-is i, w.s-is i)) (cc)
       | in-UnaryExpr w ↦ plain_arm still wrappers w.in-UnaryExpr.is refl (λ i. (w.inputs-is i, w.s-is i)) (cc)
       | in-RefBrack w ↦ plain_arm still (kind.RefBrack ∷ []) w.in-RefBrack.is refl (λ i. (w.inputs-is i, w.s-is i)) (cc)

@@ -71,7 +71,7 @@ turn m c =
       | in-UnaryExpr x ↦ plain_arm still wrappers x.in-UnaryExpr.is refl (λ i. (x.s-is i, x.unscoped-is i, x.inputs-is i, x.spans-is i)) (cc)
       | in-RefBrack x ↦
           acting_arm still (kind.RefBrack ∷ []) x.in-RefBrack.is refl (loop_at_brack t o l w s x.in-RefBrack.ensures (_, _, _, _) x.bind_index-s.ensures x.bind_index-s.auto.spans) (λ i. (x.s-is i, x.unscoped-is i, x.inputs-is i, x.spans-is i)) (cc)
-      | in-BinExpr x ↦ plain_arm still operators x.in-BinExpr.is refl (λ i. (x.s-is i, x.unscoped-is i, x.inputs-is i, x.spans-is i)) (cc)
+      | in-BinExpr x ↦ plain_arm still operators x.in-BinExpr.is refl (λ i. (x.s-is i, x.unscoped-is i, x.inputs-is i, x.spans-is i)) (grind arith)
       | in-Membership x ↦ plain_arm still (kind.Membership ∷ []) x.in-Membership.is refl (λ i. (x.s-is i, x.unscoped-is i, x.inputs-is i, x.spans-is i)) (cc)
       | in-Unknown x ↦ plain_arm still (kind.Unknown ∷ []) x.in-Unknown.is refl (λ i. (x.s-is i, x.unscoped-is i, x.inputs-is i, x.spans-is i)) (cc)
     ]
