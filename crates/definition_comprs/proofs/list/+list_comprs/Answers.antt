@@ -66,7 +66,7 @@ turn m c =
       | in-Call x ↦ plain_arm still (kind.Call ∷ []) x.in-Call.is refl (λ i. (x.n-is i, x.rows-is i)) (x.k-is ∙ x.one-k-in-Call.ensures)
       | in-UnaryExpr x ↦ plain_arm still wrappers x.in-UnaryExpr.is refl (λ i. (x.n-is i, x.rows-is i)) (x.k-is ∙ x.one-k-in-UnaryExpr.ensures)
       | in-RefBrack x ↦ plain_arm still (kind.RefBrack ∷ []) x.in-RefBrack.is refl (λ i. (x.n-is i, x.rows-is i)) (x.k-is ∙ x.two-k.ensures)
-      | in-BinExpr x ↦ plain_arm still operators x.in-BinExpr.is refl (λ i. (x.n-is i, x.rows-is i)) (x.k-is ∙ x.two-k-in-BinExpr.ensures)
+      | in-BinExpr x ↦ plain_arm still operators x.in-BinExpr.is refl (λ i. (x.n-is i, x.rows-is i)) (grind arith)
       | in-Membership x ↦ plain_arm still (kind.Membership ∷ []) x.in-Membership.is refl (λ i. (x.n-is i, x.rows-is i)) (x.k-is ∙ x.three-k.ensures)
       | in-Unknown x ↦ plain_arm still (kind.Unknown ∷ []) x.in-Unknown.is refl (λ i. (x.n-is i, x.rows-is i)) (x.k-is ∙ x.none-k-in-Unknown.ensures)
     ]
