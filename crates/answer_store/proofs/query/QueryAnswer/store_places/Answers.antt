@@ -1,5 +1,4 @@
 -- The whole order is stored, and each of its statements has its mark.
-use mathlib.Core.Path.{refl}
 use native.Mathlib.Omega.{arith}
 use Rattle.answer_store.proofs.query.QueryAnswer.store_places.Goals as goal
 
