@@ -12,10 +12,10 @@ ghost use Rattle.order_resolve.specs.Inner.Pass.{Passes, Tries};
 use names::{Names, add, has};
 use order_rows::{Links, Rows};
 
-// What a pass comes to: no definition waits any more; or one waits, and there is a name more than before, or there is none.
+// What a pass comes to: no definition waits any more, and whether there is a name more than before; or one waits, and there is one more, or none.
 #[derive(Clone, Copy, PartialEq, Eq, Debug)]
 pub enum Passed {
-    Resolved,
+    Resolved { grew: bool },
     Grew,
     Stuck,
 }
@@ -43,7 +43,7 @@ pub fn pass(rows: Rows<'_>, links: &Links, statement: usize, seen: &mut Names) -
         }
     }
     if !waiting {
-        Passed::Resolved
+        Passed::Resolved { grew }
     } else if grew {
         Passed::Grew
     } else {
@@ -62,7 +62,7 @@ pub fn try_statement(rows: Rows<'_>, links: &Links, statement: usize, known: &mu
     let mut seen = *known;
     loop {
         match pass(rows, links, statement, &mut seen) {
-            Passed::Resolved => {
+            Passed::Resolved { .. } => {
                 *known = seen;
                 return true;
             }

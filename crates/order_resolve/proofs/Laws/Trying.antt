@@ -25,7 +25,7 @@ use Rattle.order_resolve.proofs.Laws.Fewer.{fewer}
 
 -- ---- what a pass comes to says of it
 
-resolved-parts : (waiting grew : Bool) → pass_of waiting grew ≡ Resolved → waiting ≡ false
+resolved-parts : (waiting grew : Bool) {more : Bool} → pass_of waiting grew ≡ Resolved more → waiting ≡ false
 resolved-parts false grew e = refl
 resolved-parts true true e = cc
 resolved-parts true false e = cc
@@ -79,7 +79,7 @@ module _ (w : ℕ) (ws : List ℕ) (s : ℕ) (known : List ℕ) where
         fewer seen more limits.per_name size (rw found (gather_keeps (whole w ws s) (member seen)))
         (not-true _ (grew-parts _ _ (sym passes.came-to ∙ e)))
 
-    pub trying_resolved : p ≡ Resolved → Tries w ws s known true more
+    pub trying_resolved : {grew : Bool} → p ≡ Resolved grew → Tries w ws s known true more
     trying_resolved e =
         let settled = resolved-parts _ _ (sym passes.came-to ∙ e) in
         let K = member known in

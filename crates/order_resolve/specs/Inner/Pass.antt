@@ -28,7 +28,7 @@ grows start seen = not (all (member start) (members seen))
 
 -- What a pass comes to, by whether a definition waits and whether there is a name more than before.
 abbrev pub pass_of : Bool → Bool → Passed
-pass_of waiting grew = cond waiting (cond grew Grew Stuck) Resolved
+pass_of waiting grew = cond waiting (cond grew Grew Stuck) (Resolved grew)
 
 -- What `pass` answers for the definitions of statement s, and the set that it leaves.
 pub record Passes (w : ℕ) (ws : List ℕ) (s : ℕ) (start seen : List ℕ) (p : Passed) : Type 0 where
