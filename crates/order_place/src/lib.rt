@@ -2,7 +2,7 @@
 
 #![tactic(auto)]
 
-ghost use Rattle.std.specs.Prelude.{◌≡◌, ◌<◌};
+ghost use Rattle.std.specs.Prelude.{◌≡◌, ◌<◌, []};
 ghost use Rattle.base.specs.Limits as limits;
 ghost use Rattle.base.specs.Lists.{range};
 ghost use Rattle.names.specs.Inner.Sets.{Empty};
@@ -18,8 +18,8 @@ use base::STATEMENTS;
 pub use indexed::Indexed;
 use names::{Names, Statements};
 
-// What is placed so far. It is large: it is lent to each step, and never copied.
-#[derive(Drop)]
+// What is placed so far. It is large: each step is lent it.
+#[derive(Clone, Copy)]
 pub struct State {
     // The statements placed.
     pub placed: Statements,
@@ -34,7 +34,7 @@ pub struct State {
 
 impl State {
     // Nothing is placed.
-    fn start() -> Self
+    pub fn start() -> Self
         ensures { (result.count ≡ 0) × Empty result.placed.words × Empty result.idle.words × Empty result.known.words }
     {
         State {
@@ -112,11 +112,11 @@ impl State {
     }
 }
 
-// The turn rule, from nothing placed: the opening turn of the empty name, then rounds until one places nothing or all are placed.
-pub fn place_all(list: &Indexed<'_>) -> State
-    ensures { let defs = definitions_of list.now.rows in After defs list.now.n (placed_order defs list.now.n limits.per_name) result }
+// The turn rule, in a state where nothing is placed: the opening turn of the empty name, then rounds until one places nothing or all are placed.
+pub fn place_in(list: &Indexed<'_>, state: &mut State)
+    requires starts { After (definitions_of list.now.rows) list.now.n [] state.old }
+    ensures { let defs = definitions_of list.now.rows in After defs list.now.n (placed_order defs list.now.n limits.per_name) state.new }
 {
-    let mut state = State::start();
     state.take_turn(list, 0);
     while state.count < list.n {
         let before = state.count;
@@ -125,5 +125,13 @@ pub fn place_all(list: &Indexed<'_>) -> State
             break;
         }
     }
+}
+
+// The turn rule in a state of its own.
+pub fn place_all(list: &Indexed<'_>) -> State
+    ensures { let defs = definitions_of list.now.rows in After defs list.now.n (placed_order defs list.now.n limits.per_name) result }
+{
+    let mut state = State::start();
+    place_in(list, &mut state);
     state
 }

@@ -2,9 +2,9 @@
 
 #![tactic(auto)]
 
-ghost use Rattle.std.specs.Prelude.{◌≡◌, true, ℕ, ◌<◌, length};
+ghost use Rattle.std.specs.Prelude.{◌≡◌, true, [], ℕ, ◌<◌, length, get_or};
 ghost use Rattle.base.specs.Limits as limit;
-ghost use Rattle.base.specs.Sets.{member};
+ghost use Rattle.base.specs.Lists.{elem};
 ghost use Rattle.order.specs.Inner.Orders.{placed_order};
 ghost use Rattle.names_width.specs.Widths.{limits};
 ghost use Rattle.order.specs.Call.{schedule_number};
@@ -16,13 +16,14 @@ ghost use Rattle.order_schedule.specs.Inner.Call.{Arranged, Scheduled, MarkedBy}
 use base::{DEFINITIONS, STATEMENTS};
 use names::{CAPACITY, Statements};
 use order::{Refused, ScheduleOutcome};
-use order_place::{Indexed, State, place_all};
+use order_place::{Indexed, State, place_in};
 use order_rows::{Links, Rows, link, mask};
 
 // Indexes the rows of a list in bounds, and places what can be placed.
-fn place_rows(rows: Rows<'_>, n: usize) -> State
-    requires { AcceptedList (limits rows.width) rows.words.now n n n }
-    ensures { After (definitions_of rows.entry) n (placed_order (definitions_of rows.entry) n limit.per_name) result }
+fn place_rows(rows: Rows<'_>, n: usize, state: &mut State)
+    requires accepted_list { AcceptedList (limits rows.width) rows.words.now n n n }
+    requires starts { After (definitions_of rows) n [] state.old }
+    ensures { After (definitions_of rows.entry) n (placed_order (definitions_of rows.entry) n limit.per_name) state.new }
 {
     let mut links = Links {
         first: [0; STATEMENTS],
@@ -31,23 +32,24 @@ fn place_rows(rows: Rows<'_>, n: usize) -> State
     link(rows, &mut links);
     let mut masks = [Statements::empty(); CAPACITY];
     let defined = mask(rows, &mut masks);
-    place_all(&Indexed {
+    let list = Indexed {
         rows,
         n,
         links: &links,
         masks: &masks,
         defined,
-    })
+    };
+    place_in(&list, state);
 }
 
-// A mark for each statement of a set, and zeros.
-fn mark(placed: Statements, reached: &mut [u16])
-    requires { (i : ℕ) → member placed.words i ≡ true → i < length reached.old }
-    ensures { MarkedBy placed.words reached.old reached.new }
+// A mark for each statement of an order, in zeros.
+fn mark(placed: &[u16], reached: &mut [u16])
+    requires low { (i : ℕ) → elem i placed.now ≡ true → i < length reached.old }
+    requires zeros { (i : ℕ) → get_or reached.old i 0 ≡ 0 }
+    ensures { MarkedBy placed.now reached.old reached.new }
 {
-    reached.fill(0);
-    for i in placed.members() {
-        reached[i] = 1;
+    for at in 0..placed.len() {
+        reached[placed[at] as usize] = 1;
     }
 }
 
@@ -56,9 +58,11 @@ pub fn arrange_rows(rows: Rows<'_>, n: usize, order: &mut [u16], reached: &mut [
     requires accepted_list { AcceptedList (limits rows.width) rows.words.now n (length order.old) (length reached.old) }
     ensures { Arranged (limits rows.entry.width) rows.entry.words.now n (length order.old) (length reached.old) result order.new reached.new }
 {
-    let state = place_rows(rows, n);
-    mark(state.placed, reached);
-    order.fill(0);
+    let mut state = State::start();
+    place_rows(rows, n, &mut state);
+    reached.fill(0);
+    mark(&state.order[..state.count], reached);
+    order[n..].fill(0);
     if state.count == n {
         order[..n].copy_from_slice(&state.order[..n]);
         return true;

@@ -15,17 +15,20 @@ use Rattle.order_place.specs.declared.State.{State}
 
 -- Nothing is placed yet.
 pub begins : (defs : List Definition) (n : ℕ) (s : State) → s.count ≡ 0 → length s.order ≡ limits.most_statements → Empty s.placed.words → Empty s.idle.words
-    → (length s.known.words ≡ 8) × Empty s.known.words → HoldsPlaced defs n s
+    → (length s.known.words ≡ 8) × Empty s.known.words → After defs n [] s
 begins defs n s none long placed idle known =
     let o : order_of s ≡ [] = rw none in
     record {
-      long = long;
-      filled = omega arith;
-      adds_up = rw o (nil_adds_up n);
-      taken = λ i. rw o (placed.has i);
-      rests = λ i m. absurd (not-both m (placed.has i));
-      idles = λ i m. absurd (not-both m (idle.has i));
-      knows = record { long = known.0; has = λ x. rw o (known.1.has x) };
+      holds = record {
+        long = long;
+        filled = omega arith;
+        adds_up = rw o (nil_adds_up n);
+        taken = λ i. rw o (placed.has i);
+        rests = λ i m. absurd (not-both m (placed.has i));
+        idles = λ i m. absurd (not-both m (idle.has i));
+        knows = record { long = known.0; has = λ x. rw o (known.1.has x) };
+      };
+      now_is = o;
     }
 
 -- The state counts the statements of its order.

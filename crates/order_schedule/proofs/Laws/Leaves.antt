@@ -6,6 +6,8 @@ use Prim.Native.Nat.{ℕ, ◌+◌, ◌-◌, ◌≤◌, ◌<◌}
 use native.Mathlib.Omega.{arith}
 use lib.ListN.{length, get_or, take, drop, replicate, length-drop, length-replicate, get_or-replicate, take-append-drop, length-map}
 use lib.Seq.{ext_get_or, get_or-take, get_or-drop, length-take-le}
+use borrow.Rule.Slice.PartMut.{put_mid, same_len_mid}
+use Rattle.std.proofs.lemmas.Slice.{between_to_end, between-put_mid}
 use borrow.Author.Tests.{eq-eqb, ne_eqb}
 use Rattle.base.specs.Limits as limits
 use Rattle.base.specs.Limits.{Limits}
@@ -18,14 +20,12 @@ use Rattle.order.proofs.Laws.Walked.{walked-below}
 use Rattle.order.proofs.Laws.OrderWalks.{placed-walked}
 use Rattle.order.proofs.Laws.Labels.{placed_by_order, order_by_order, reached_by_order}
 use Rattle.order.specs.Call.{definitions, accepts}
-use Rattle.order_rows.proofs.Laws.Zeros.{zero-at}
-use Rattle.order_place.specs.Inner.State.{After}
+use Rattle.order_place.specs.Inner.State.{order_of, After}
 use Rattle.order_place.proofs.Laws.StateLaws.{after-length}
 use Rattle.order_place.specs.declared.State.{State}
 use Rattle.order_schedule.specs.Inner.Call.{Arranged, Scheduled, MarkedBy}
 use Rattle.std.specs.Prelude.{Ok, Err}
 use mathlib.Core.Logic.{⊎_elim}
-use Rattle.base.specs.Sets.{member}
 use Rattle.base.proofs.Laws.Truth.{bool_cases}
 use Rattle.order.specs.declared.Refused.TheVariants.{BadList}
 
@@ -39,10 +39,15 @@ zeros-drop l n z =
 zeros-after : (l : List ℕ) (n : ℕ) → ((i : ℕ) → n ≤ i → get_or l i 0 ≡ 0) → l ≡ take n l ++ replicate (length l - n) 0
 zeros-after l n z = sym (take-append-drop n l) ∙ ap (λ (t : List ℕ). take n l ++ t) (zeros-drop l n z)
 
-pub drop-zeros : (l : List ℕ) (room n : ℕ) → l ≡ replicate room 0 → drop n l ≡ replicate (room - n) 0
-drop-zeros l room n e =
-    zeros-drop l n (λ i h. ap (λ (x : List ℕ). get_or x i 0) e ∙ zero-at room i)
-    ∙ ap (λ (k : ℕ). replicate (k - n) 0) (ap length e ∙ length-replicate {A = ℕ} room 0)
+-- What is behind n, once it is filled with zeros.
+pub drop-filled : (l z : List ℕ) (n : ℕ) → n ≤ length l → z ≡ replicate (length (take (length l - n) (drop n l))) 0
+    → drop n (put_mid n (length l - n) l z) ≡ replicate (length l - n) 0
+drop-filled l z n h e =
+    let k = length l - n in
+    let whole : length (take k (drop n l)) ≡ k = length-take-le k (drop n l) (omega (arith, length-drop n l)) in
+    let long : length z ≡ k = ap length e ∙ length-replicate {A = ℕ} _ 0 ∙ whole in
+    sym (between_to_end (put_mid n k l z) n (length l) (omega (arith, same_len_mid n k l z (long ∙ sym whole))))
+    ∙ between-put_mid n k l z (length l) h long ∙ e ∙ ap (λ (j : ℕ). replicate j 0) whole
 
 pub get_d_map_range : (f : ℕ → ℕ) (n i : ℕ) → i < n → get_or (map f (range 0 n)) i 0 ≡ f i
 unfolding range
@@ -54,25 +59,23 @@ get_d_map_range f n i h = let e : 0 + i ≡ i = omega arith in counted-at f (n -
 module _ (lim : Limits) (ws : List ℕ) (n room marks : ℕ) {s : State}
     (after : After (definitions lim.row ws) n (placed_order (definitions lim.row ws) n limits.per_name) s) where
   -- They are below n.
-  pub placed-low : (i : ℕ) → member s.placed.words i ≡ true → i < n
-  placed-low i m =
-      walked-below (placed-walked (definitions lim.row ws) n limits.per_name) i
-      (ap (elem i) (sym after.now_is) ∙ sym (after.holds.taken i) ∙ m)
+  pub placed-low : (i : ℕ) → elem i (order_of s) ≡ true → i < n
+  placed-low i m = walked-below (placed-walked (definitions lim.row ws) n limits.per_name) i (ap (elem i) (sym after.now_is) ∙ m)
 
-  module _ {m before : List ℕ} (marked : MarkedBy s.placed.words before m) (long : length before ≡ marks) (few : n ≤ marks) where
+  module _ {m before : List ℕ} (marked : MarkedBy (order_of s) before m) (long : length before ≡ marks) (few : n ≤ marks) where
     all-marks : m ≡ map (λ i. mark (reached (definitions lim.row ws) n limits.per_name i)) (range 0 n) ++ replicate (marks - n) 0
     all-marks =
         let defs = definitions lim.row ws in
         let lm : length m ≡ marks = marked.long ∙ long in
         let at : (i : ℕ) → i < n → get_or (take n m) i 0 ≡ get_or (map (λ j. mark (reached defs n limits.per_name j)) (range 0 n)) i 0 =
-        λ i b. get_or-take n m i 0 b ∙ marked.marks i ∙ ap mark (after.holds.taken i) ∙ ap (λ (l : List ℕ). mark (elem i l)) after.now_is
+        λ i b. get_or-take n m i 0 b ∙ marked.marks i ∙ ap (λ (l : List ℕ). mark (elem i l)) after.now_is
         ∙ ap mark (sym (reached_by_order defs n limits.per_name i)) ∙ sym (get_d_map_range (λ j. mark (reached defs n limits.per_name j)) n i b) in
         let front : take n m ≡ map (λ j. mark (reached defs n limits.per_name j)) (range 0 n) =
         ext_get_or 0 _ _ (length-take-le n m (omega (arith, lm)) ∙ sym (length-map (range 0 n) _ ∙ length-range n))
         (λ i l. at i (omega (arith, length-take-le n m (omega (arith, lm))))) in
         let none : (i : ℕ) → n ≤ i → get_or m i 0 ≡ 0 =
-        λ i h. marked.marks i ∙ ap mark (⊎_elim (λ (p : member s.placed.words i ≡ true). absurd (omega (arith, placed-low i p)))
-        (λ (p : member s.placed.words i ≡ false). p) (bool_cases (member s.placed.words i))) in
+        λ i h. marked.marks i ∙ ap mark (⊎_elim (λ (p : elem i (order_of s) ≡ true). absurd (omega (arith, placed-low i p)))
+        (λ (p : elem i (order_of s) ≡ false). p) (bool_cases (elem i (order_of s)))) in
         zeros-after m n none ∙ ap₂ (λ (x : List ℕ) (k : ℕ). x ++ replicate (k - n) 0) front lm
 
     pub all_placed : s.count ≡ n → Arranged lim ws n room marks true (take n s.order ++ replicate (room - n) 0) m

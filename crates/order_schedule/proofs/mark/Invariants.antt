@@ -1,7 +1,7 @@
--- The loop's invariant: the members passed are marked, and the rest is zero (`Marking`).
-use mathlib.Core.Path.{◌≡◌}
-use Rattle.order_schedule.proofs.Laws.Marks.{Marking}
+-- The loop's invariant: the statements passed are marked, and the rest is zero.
+use lib.ListN.{take}
+use Rattle.order_schedule.specs.Inner.Call.{MarkedBy}
 use Rattle.order_schedule.proofs.mark.Given as goal
 
-abbrev pub invariant-loop-i : goal.invariant-loop-i
-invariant-loop-i l = (l.i-iterator.set ≡ l.fn.placed) × Marking l.fn.placed.words l.fn.reached l.reached l.i-iterator.from
+abbrev pub invariant-loop-at : goal.invariant-loop-at
+invariant-loop-at l = MarkedBy (take l.at l.placed) l.fn.reached l.reached

@@ -2,15 +2,14 @@
 use Rattle.std.specs.Prelude.{◌≡◌, Bool, List, ◌++◌, map, ℕ, ◌-◌, length, get_or, replicate}
 use Rattle.base.specs.Limits as limits
 use Rattle.base.specs.Limits.{Limits}
-use Rattle.base.specs.Lists.{range}
-use Rattle.base.specs.Sets.{member}
+use Rattle.base.specs.Lists.{elem, range}
 use Rattle.order.specs.Turns.{placed, order, reached, mark}
 use Rattle.order.specs.Call.{ScheduleOutcome, definitions, schedule_outcome, order_buffer, reached_buffer}
 
--- A buffer as long as before, with a mark for each member of a set, and zeros.
+-- A buffer as long as before, with a mark for each statement of an order, and zeros.
 pub record MarkedBy (placed before after : List ℕ) : Type 0 where
   pub long : length after ≡ length before
-  pub marks : (i : ℕ) → get_or after i 0 ≡ mark (member placed i)
+  pub marks : (i : ℕ) → get_or after i 0 ≡ mark (elem i placed)
 
 -- Rows `ws` of definitions, n statements, and buffers of lengths `room` and `marks`; names below 512.
 module _ (lim : Limits) (ws : List ℕ) (n room marks : ℕ) where

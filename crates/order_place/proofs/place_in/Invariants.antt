@@ -3,7 +3,7 @@ use Prim.Native.Nat.{◌-◌}
 use Rattle.order.specs.Inner.Orders.{placed_order}
 use Rattle.order_rows.specs.Inner.Rows.{definitions_of}
 use Rattle.order_place.proofs.Laws.Placing.{Placing}
-use Rattle.order_place.proofs.place_all.Given as goal
+use Rattle.order_place.proofs.place_in.Given as goal
 
 abbrev pub invariant-loop-state : goal.invariant-loop-state
 invariant-loop-state l = let defs = definitions_of l.list.rows in Placing defs l.list.n (placed_order defs l.list.n 512) l.state
